@@ -34,7 +34,7 @@ static void *counted_realloc(void *old, size_t size) {
 
 enum { SLOTS = 512, SAMPLES = 200, FLUSHED = 500, BURST = 64 };
 
-static const struct serf_agent_settings settings = {SLOTS, SLOTS, 512, 1024, 1024, 8, 1024, false};
+static const struct serf_agent_settings settings = {SLOTS, SLOTS, 512, 1024, 1024, 8, 1024, false, false};
 static uint8_t packets[SLOTS][64];
 static size_t lens[SLOTS];
 
@@ -228,8 +228,39 @@ static void bench_file(const char *folder) {
     unlink(path);
 }
 
+/* The text that an agent which keeps its events leaves: an event of each time, with texts of 512 bytes together. */
+static size_t kept_text(char *text) {
+    size_t len = 0;
+    for (int time = 1; time <= SLOTS; time++) {
+        len += (size_t)sprintf(text + len, "event-clock: 0%d\n#event %d 6465706c6f79 ", time, time);
+        for (int i = 0; i < 506; i++) {
+            len += (size_t)sprintf(text + len, "%02x", (time + i) & 255);
+        }
+        text[len++] = '\n';
+    }
+    return len;
+}
+
+/* An opening on such a text: the least of many. */
+static void bench_opening(void) {
+    static char text[SLOTS * 1200];
+    struct serf_agent_settings keeping = settings;
+    size_t len = kept_text(text);
+    double spent = 1e18;
+    keeping.keep_events = true;
+    for (int i = 0; i < 20; i++) {
+        struct serf_agent one = {0};
+        double began = now();
+        must(serf_agent_open(&one, (const uint8_t *)"e", 1, &keeping, (const uint8_t *)text, len) == SERF_AGENT_OK, "open");
+        spent = least(spent, now() - began);
+        serf_agent_close(&one);
+    }
+    printf("handle: open a file of %d kept events of 512 bytes: %.0f ns\n", SLOTS, spent);
+}
+
 int main(int count, char **words) {
     bench_calls();
+    bench_opening();
     for (int i = 1; i < count; i++) {
         bench_flush(words[i]);
         bench_file(words[i]);

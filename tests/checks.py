@@ -28,7 +28,7 @@ ROWS = os.path.join(TOP, "tests", "rows")
 # The kinds of random schedules.
 KINDS = (
     *("mixed", "tiny", "merges", "restarts", "devices", "injections"),
-    *("queries", "limits", "exhaustion", "per-time", "compactions", "gossip", "spellings", "rounds"),
+    *("queries", "limits", "exhaustion", "per-time", "compactions", "gossip", "spellings", "kept", "rounds"),
 )
 
 # How many bytes a schedule, a packet or a line of a stream may have.

@@ -29,6 +29,7 @@ static const struct serf_agent_settings settings = {
     .responders = 1024,
     .per_time = 1024,
     .ignore_old = false,
+    .keep_events = false,
 };
 
 static void stop_at(const struct node *node, const char *call, const char *why) {

@@ -9,6 +9,8 @@ enum { WORDS = 4096, ROOM = 1 << 20 };
 static struct serf_agent agent;
 static struct serf_agent_settings settings;
 static struct bytes name, text;
+/* whether the next agent that is made keeps its events */
+static bool keeps;
 static char *words[WORDS];
 static size_t count;
 
@@ -86,7 +88,8 @@ static void open_on(struct bytes more, const char *answer) {
 
 /* Makes an agent. To the library a limit of 0 says that Serf's own is meant, so no agent has it. */
 static void make(void) {
-    bool limits = count == 11;
+    bool limits = count == 11, keep_events = keeps || strchr(words[6], '+') != NULL;
+    keeps = false;
     if (limits && (number_of(8) == 0 || number_of(9) == 0)) {
         puts("unsupported");
         return;
@@ -102,6 +105,7 @@ static void make(void) {
         .responders = number_of(5),
         .per_time = number_of(7),
         .ignore_old = words[6][0] == 'i',
+        .keep_events = keep_events,
     };
     open_on(bytes_of(words[count - 1]), "opened");
 }
@@ -182,6 +186,9 @@ static void reply(const char *call) {
     size_t closed = 0;
     if (strcmp(call, "open") == 0) {
         make();
+    } else if (strcmp(call, "keeps") == 0) {
+        keeps = true;
+        puts("keeps");
     } else if (!agent.open || call[0] == 'b') {
         puts("unsupported");
     } else if (strcmp(call, "restart") == 0) {

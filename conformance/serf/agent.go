@@ -184,6 +184,9 @@ var pipeCalls = map[string]func(a *PipeAgent, words []string) string{
 }
 
 func (a *PipeAgent) open(words []string) string {
+	if strings.HasSuffix(words[5], "+events") { // Serf keeps no events over a restart
+		return "unsupported"
+	}
 	config := DefaultConfig()
 	config.Init()
 	config.NodeName = string(unhexed(words[0]))

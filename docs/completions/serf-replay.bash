@@ -18,13 +18,13 @@ _serf_replay() {
         'conform --agent') : ;;
         'conform --rules') words='serf own' ;;
         'conform --random') : ;;
-        'conform --kind') words='mixed tiny merges restarts devices injections queries limits exhaustion per-time compactions gossip spellings rounds all' ;;
+        'conform --kind') words='mixed tiny merges restarts devices injections queries limits exhaustion per-time compactions gossip spellings kept rounds all' ;;
         'conform --agents') : ;;
         'conform --actions') : ;;
         'conform --go-on') : ;;
         'conform --save') files=yes ;;
         'conform --report') files=yes ;;
-        'random --kind') words='mixed tiny merges restarts devices injections queries limits exhaustion per-time compactions gossip spellings rounds' ;;
+        'random --kind') words='mixed tiny merges restarts devices injections queries limits exhaustion per-time compactions gossip spellings kept rounds' ;;
         'random --agents') : ;;
         'random --actions') : ;;
         'random --fanout') : ;;

@@ -1,15 +1,19 @@
 """By hand, since it needs Go, Serf and memberlist's sources: kills, losses and cuts in a cluster of stock agents and of ours.
 
     tests/by_hand/agent_cluster.py [--minutes M] [--kills N] [--events N] [--stock N] [--ours N] [--lose SHARE] [--repeat SHARE]
-                                   [--calm] [--seed S] [--library FOLDER] [--agent PROGRAM] [--judge PROGRAM] [--keep]
+                                   [--calm] [--keep-events] [--retry-join] [--rest SECONDS] [--seed S] [--library FOLDER]
+                                   [--agent PROGRAM] [--judge PROGRAM] [--keep]
 
 Events are fired at random nodes in bursts, and a random node is killed by SIGKILL and started again on its snapshot, by which
 alone it rejoins. Ours lose packets and repeat them, and are cut off from a random half of all nodes again and again (by the
-transport of agent/internal/gossip/faults.go); --calm leaves that out. It ends at the first of so many minutes, kills or events.
-Then all comes to rest, and `serf-replay judge` reads the log of all handlers of ours, with their snapshots.
+transport of agent/internal/gossip/faults.go); --calm leaves that out. Who starts again while it is cut off from all that it
+knows tries no more, and may stay alone; with --retry-join ours go on trying. It ends at the first of so many minutes, kills or events.
+Then all comes to rest, for --rest seconds once all see one another (5, and 120 with --keep-events: what a node lacks comes with
+the states, which agents exchange each 30 seconds). Then `serf-replay judge` reads the log of all handlers of ours, with their snapshots.
 
 It fails where a handler of ours ran an event twice, or where the judge says otherwise. How often stock's handlers did is told
-beside it, how many events each kind never ran, and of ours why, by their records.
+beside it, how many of the events that an agent took each kind never ran, and of ours why, by their records. With --keep-events the files of ours keep their
+events. There is no record then, and why an event never ran is told by the files as the kills left them.
 """
 
 import argparse
@@ -25,6 +29,9 @@ import time
 sys.path.insert(0, os.path.dirname(os.path.abspath(__file__)))
 sys.dont_write_bytecode = True
 import agent_cluster_kit as kit
+
+sys.path.insert(0, os.path.join(kit.TOP, "conformance", "python"))
+from serf_agent import kept
 from agent_cluster_kit import Agent, until
 
 HANDLER = os.path.join(kit.TOP, "examples", "serf_log_handler.sh")
@@ -40,6 +47,9 @@ def arguments():
     parser.add_argument("--lose", type=float, default=0.1)
     parser.add_argument("--repeat", type=float, default=0.1)
     parser.add_argument("--calm", action="store_true")
+    parser.add_argument("--keep-events", action="store_true")
+    parser.add_argument("--retry-join", action="store_true")
+    parser.add_argument("--rest", type=float)
     parser.add_argument("--seed", type=int, default=1)
     parser.add_argument("--library")
     parser.add_argument("--agent")
@@ -56,10 +66,14 @@ def cluster(folder, program, asked):
         agent.is_ours, agent.events = is_ours, os.path.join(folder, f"{agent.name}.events")
         agent.words = ["-snapshot", agent.snapshot, "-event-handler", f"user=SERF_LOG={agent.events} sh {HANDLER}"]
         if is_ours:
-            agent.words += ["-record", agent.record]
+            agent.words += ["-keep-events"] if asked.keep_events else ["-record", agent.record]
+            agent.left = []
             agent.faults = os.path.join(folder, f"{agent.name}.faults")
             agent.env = {**os.environ, "KITCHENRUE_FAULTS": agent.faults}
         agents.append(agent)
+    for agent in agents:
+        if agent.is_ours and asked.retry_join:
+            agent.words += ["-retry-interval", "1s", *(word for other in agents if other is not agent for word in ("-retry-join", other.addr))]
     return agents
 
 
@@ -87,7 +101,8 @@ class Torment:
 
     def __init__(self, agents, asked):
         self.agents, self.asked, self.draw = agents, asked, random.Random(asked.seed)
-        self.fired, self.cuts, self.kills = 0, 0, collections.Counter()
+        # the texts of the events that an agent took, and how many were fired
+        self.taken, self.fired, self.cuts, self.kills = [], 0, 0, collections.Counter()
         self.next_kill = time.monotonic() + 2
         self.next_cut, self.mended_at = time.monotonic() + 5, None
 
@@ -95,7 +110,8 @@ class Torment:
         up = [agent for agent in self.agents if agent.process.poll() is None]
         for _ in range(self.draw.randint(1, 3)):
             self.fired += 1
-            self.draw.choice(up).serf("event", "-coalesce=false", "deploy", f"v{self.fired}")
+            if self.draw.choice(up).serf("event", "-coalesce=false", "deploy", f"v{self.fired}")[0] == 0:
+                self.taken.append(f"v{self.fired}")
 
     def cut(self):
         """Cuts and mends, each in its time."""
@@ -111,6 +127,8 @@ class Torment:
         if time.monotonic() > self.next_kill:
             victim = self.draw.choice(self.agents)
             victim.end()
+            if victim.is_ours:
+                victim.left.append(text_of(victim.snapshot))
             self.kills["ours" if victim.is_ours else "stock"] += 1
             time.sleep(self.draw.uniform(0.1, 1.5))
             victim.start()
@@ -143,6 +161,25 @@ def judged(agents, folder, judge):
     return done.returncode, done.stdout
 
 
+def text_of(path):
+    """The bytes of a file; none where it isn't there."""
+    try:
+        with open(path, "rb") as file:
+            return file.read()
+    except OSError:
+        return b""
+
+
+def why_by_files(agent, payloads):
+    """Why a node of ours whose file keeps events never ran these events, by its file as its kills left it."""
+    noted = {payload for text in agent.left for _, _, payload in kept.events_in(text)}
+    causes = collections.Counter()
+    for payload in payloads:
+        is_noted = payload.encode() in noted
+        causes["killed between its line and its handler" if is_noted else "it has no line of its own: it never came, or was too old"] += 1
+    return causes
+
+
 def why(agent, payloads):
     """Why a node of ours never ran these events, by its record."""
     text = ""
@@ -163,7 +200,7 @@ def why(agent, payloads):
     return causes
 
 
-def told(agents, torment):
+def told(agents, torment, keeps_events):
     """Tells what each kind did: how many repeats each has."""
     repeats, causes = collections.Counter(), collections.Counter()
     for kind in ("stock", "ours"):
@@ -171,12 +208,13 @@ def told(agents, torment):
         once = 0
         for agent in of_kind:
             counts = collections.Counter(ran(agent))
-            once += len(counts)
+            had = {line.split()[-1] for line in counts}
+            once += len(had.intersection(torment.taken))
             repeats[kind] += sum(count - 1 for count in counts.values())
             if agent.is_ours:
-                had = {line.split()[-1] for line in counts}
-                causes += why(agent, [f"v{number}" for number in range(1, torment.fired + 1) if f"v{number}" not in had])
-        pairs = torment.fired * len(of_kind)
+                cause = why_by_files if keeps_events else why
+                causes += cause(agent, [text for text in torment.taken if text not in had])
+        pairs = len(torment.taken) * len(of_kind)
         print(f"{kind}: {torment.kills[kind]} kills, {once} of {pairs} pairs of an event and a node ran, {repeats[kind]} repeats, {pairs - once} never ran")
     for cause, count in causes.most_common():
         print(f"ours, never ran: {count}: {cause}")
@@ -199,12 +237,12 @@ def main():
         torment.run()
         names = {agent.name for agent in agents}
         whole = until(lambda: all(agent.status(name) == "alive" for agent in agents for name in names), 90)
-        time.sleep(5)
+        time.sleep(asked.rest or (120 if asked.keep_events else 5))
     finally:
         for agent in agents:
             agent.end()
-    print(f"{torment.fired} events, {torment.cuts} cuts, all nodes {'see' if whole else 'do not see'} one another at the end")
-    repeats = told(agents, torment)
+    print(f"{torment.fired} events, {len(torment.taken)} of them taken, {torment.cuts} cuts, all nodes {'see' if whole else 'do not see'} one another at the end")
+    repeats = told(agents, torment, asked.keep_events)
     status, text = judged(agents, folder, asked.judge)
     print(text, end="")
     if asked.keep:

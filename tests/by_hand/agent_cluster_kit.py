@@ -115,9 +115,9 @@ def until(holds, wait=15):
     return bool(holds())
 
 
-def needed():
+def needed(commands=("go", "serf")):
     """What isn't there of what these tests need, or None."""
-    missing = [name for name in ("go", "serf") if shutil.which(name) is None]
+    missing = [name for name in commands if shutil.which(name) is None]
     if not os.path.isdir(os.path.join(GOCODE, "src", "github.com", "hashicorp", "memberlist")):
         missing.append("memberlist's sources")
     return ", ".join(missing) or None

@@ -108,7 +108,8 @@ def bad_input(count, places):
         )[0]
         == 0
     )
-    for name, what in (("bad_input", "bad input"), ("limits", "the limits of packets"), ("burst", "bursts")):
+    hosts = (("bad_input", "bad input"), ("limits", "the limits of packets"), ("burst", "bursts"), ("keep", "events that are kept"))
+    for name, what in hosts:
         source = os.path.join(SOURCES, f"{name}.c")
         plain = compile_c(count, places, name, source)
         if plain:
@@ -190,7 +191,7 @@ def in_python(count, places):
     stores.try_store(count, "Python", places, [sys.executable, os.path.join(SOURCES, "store_driver.py")])
     more["env"]["PYTHONPATH"] = os.path.join(BINDINGS, "python")
     example(count, "Python", places, [sys.executable, "-m", "serf_agent"], **more)
-    for name in ("bad_input", "members", "misuse"):
+    for name in ("bad_input", "members", "misuse", "keep"):
         counted(
             count,
             f"{name} in Python",

@@ -11,6 +11,10 @@ rest or zeros in its place; a folder has its entries up to its last sync, and an
 - Level b, an agent over it: each text that a cut leaves is opened again and offered every packet again. Nothing is
   handed out twice, and what is fired then is later than all that was handed out.
 - Level c, the order: where an event or a query is handed out, or a packet handed over, its line is on the disk.
+- Level d, an agent that keeps its events (`keep_events`): levels b and c hold of it too, each event and each query has its own line
+  on the disk when it is handed out, and the next life misses none of those that it is offered again. What was in flight is
+  counted apart: its line was whole, and it wasn't handed out yet. The same texts are opened without the setting too, where
+  nothing comes twice either, and more is missed. What a join that ignores old events refused stays refused.
 
 Disks that are full and syncs that fail are played at calls that the seed draws. Then faults are planted into copies of
 the stores, each a sync that is missing or late; each has to be found.
@@ -35,6 +39,7 @@ sys.path.insert(0, os.path.join(checks.TOP, "tests", "library", "power_cuts"))
 import faults
 import file_store
 import hosts
+import kept
 import lives
 import scripts
 import simulated
@@ -50,7 +55,7 @@ FAILING = 3
 OPENED = 40
 
 # How many cuts have to be looked at in each store and level.
-LEAST = {"a": 150, "b": 150, "c": 100}
+LEAST = {"a": 150, "b": 150, "c": 100, "d": 150}
 
 
 class Count(checks.Checks):
@@ -59,6 +64,8 @@ class Count(checks.Checks):
     def __init__(self):
         super().__init__()
         self.cuts, self.opened = {}, {}
+        # of each store, what lives that keep their events missed, and what others missed on the same texts
+        self.missed, self.missed_without = {}, {}
 
     def seen(self, store, level, name, seen):
         """What was looked at in a run: it has no fault."""
@@ -163,6 +170,47 @@ class Trial:
         self.count.check(f"{self.store.name}: a failed sync of a burst is a fault once", ran.faults() == 1, ran.answers())
         self.of_life("bursts with a failed sync", ran, drawn)
 
+    def of_keeping(self):
+        """Level d: lives that keep their events, from each beginning, some with failing calls, one that compacts behind each call, one
+        with joins that ignore old events, and one in bursts."""
+        missed, without = kept.Missed(), kept.Missed()
+        self.count.missed[self.store.name], self.count.missed_without[self.store.name] = missed, without
+        for name, run, drawn in self.keeping_lives():
+            whole, order, left = lives.of_agent(run, drawn, keeps_events=True)
+            left = lives.some_of(left, drawn, self.store.most_opened)
+            opened, own, others = lives.open_again_kept(whole, self.store, left, run, self.room)
+            self.count.opened[self.store.name] += 2 * opened
+            missed.add(own)
+            without.add(others)
+            self.count.seen(self.store.name, "d", f"{name}, kept", whole)
+            self.count.seen(self.store.name, "d", f"{name}, kept, in order", order)
+        self.count.check(f"{self.store.name}: something was in flight", missed.in_flight > 0, missed.said())
+        self.count.check(f"{self.store.name}: more is missed without the setting", without.others > 0, without.said())
+
+    def keeping_lives(self):
+        """Lives that keep their events: the name, the run and the random choices of each."""
+        for beginning in scripts.BEGINNINGS:
+            drawn = self.drawn("keeping", beginning)
+            lines = lives.agent_lines(scripts.of_an_agent(drawn), "O")
+            run = self.run(lines, beginning)
+            self.count.check(f"{self.store.name}: a life that keeps events, {beginning}", run.faults() == 0, run.answered)
+            yield f"a life from {beginning}", run, drawn
+        for words in self.failing(run, drawn):
+            yield f"a life with {words}", self.run(lines, beginning, failing=words), drawn
+        drawn = self.drawn("keeping and joining")
+        lines = lives.agent_lines(scripts.joining(drawn), "O")
+        run = self.run(lines, "a file")
+        self.count.check(f"{self.store.name}: joins set a least time", max(run.least_after()) > 0, run.answered)
+        yield "joins", run, drawn
+        for words in self.failing(run, drawn):
+            yield f"joins with {words}", self.run(lines, "a file", failing=words), drawn
+        drawn = self.drawn("keeping and compacting")
+        lines = lives.agent_lines(scripts.compacting(drawn), "O")
+        yield "a compaction behind each call", self.run(lines, "a file"), drawn
+        if self.store.has_bursts:
+            drawn = self.drawn("keeping and bursting")
+            yield "bursts", self.run(lives.agent_lines(scripts.bursting(drawn), "O"), "a file"), drawn
+
     def found(self, fault):
         """How much is wrong in each level where this fault is on: in a store's lines, and in an agent's life."""
         began = "a file that was never synced" if fault == "opened_text" else "no file"
@@ -188,6 +236,7 @@ class Trial:
     def all(self):
         self.of_store()
         self.of_agent()
+        self.of_keeping()
         for level, least in LEAST.items():
             looked = self.count.cuts[self.store.name, level]
             self.count.check(
@@ -223,12 +272,15 @@ def spent():
 
 
 def table(count):
-    print("cuts            a       b       c   texts opened again")
+    print("cuts            a       b       c       d   texts opened again")
     for name in hosts.STORES:
         looked = [count.cuts.get((name, level), 0) for level in LEAST]
         if any(looked):
             print(f"{name:<10}" + "".join(f"{it:>8,}" for it in looked) + f"{count.opened[name]:>8,}")
     print(f"{sum(count.cuts.values()):,} cuts")
+    for name, missed in count.missed.items():
+        print(f"{name}, with keep_events, {missed.said()}")
+        print(f"{name}, on the same texts without it, {count.missed_without[name].said()}")
 
 
 def main():

@@ -54,7 +54,7 @@ sys.exit(ran.wait())
 def seeds(cases):
     """Random schedules: an agent that agrees, one that doesn't, one that ends, and words that are refused."""
     good = [sys.executable, PYTHON_AGENT]
-    for kind in ("mixed", "merges", "restarts", "queries", "devices", "gossip"):
+    for kind in ("mixed", "merges", "restarts", "queries", "devices", "gossip", "kept"):
         said = ["2 seeds and ", " calls agree"]
         cases.run(f"seeds, {kind}", good, "--random", 0, said, ["1-2", "--kind", kind, "--actions", "80"])
     cases.run("one seed", good, "--random", 0, ["1 seeds and "], ["7", "--agents", "2", "--actions", "20"])

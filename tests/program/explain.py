@@ -19,6 +19,9 @@ ACTIONS = "150"
 STREAM = ["explain", "--stream"]
 AGENTS = b"agent 61 4 4 512 2 keep 2\nagent 62 4 4 512 2 keep 2\n"
 
+# Agents that keep their events over a restart.
+KEEPING = b"agent 61 4 4 512 8 keep+events\nagent 62 4 4 512 8 ignore+events\n"
+
 # An agent whose queries have at most 120 bytes, and its responses at most 64.
 LIMITED = b"agent 61 4 4 512 2 keep 2 120 64\n"
 
@@ -86,6 +89,7 @@ class Story:
     def __init__(self, schedule, text):
         self.actions, agents = actions_of(schedule)
         self.names = [bytes_of(words[1]) for words in agents]
+        self.keeps = [any(word.endswith(b"+events") for word in words) for words in agents]
         self.turns = turns_of(text)
         self.sent = decoded([line[2] for lines, _ in self.turns.values() for line in lines if line[0] == b"sent"])
 
@@ -99,6 +103,19 @@ class Story:
         says = quoted(self.names[int(agent)]) + b" was handed " + event_words(*event) + rb" at action "
         at = reason.removeprefix(says)
         return at != reason and at.isdigit() and int(at) <= number and (agent, *event) in self.handed(int(at))
+
+    def is_tailed(self, number, agent, reason, event):
+        """Whether a reason says that a text had an event's line, of an agent that keeps its events: a tail before this
+        action has the line, and no action before it handed this agent the event."""
+        time, name, payload = event
+        line = b"#event %s %s %s" % (time, name.hex().encode(), payload.hex().encode())
+        tails = [bytes_of(words[2]) for words in self.actions[: number - 1] if words[:2] == [b"restart", agent]]
+        return (
+            reason == quoted(self.names[int(agent)]) + b" was opened on a text with the line of " + event_words(*event)
+            and self.keeps[int(agent)]
+            and any(line in tail.split(b"\n")[:-1] for tail in tails)
+            and not any((agent, *event) in self.handed(action) for action in range(1, number))
+        )
 
     def merge_fault(self, number):
         """What is wrong with the reasons of a merge, or None: each event that it carried has a line and a verdict."""
@@ -126,7 +143,8 @@ class Story:
             return numbers[2] - numbers[1] > time == numbers[0]
         if verdict.startswith(b"too many of its time: "):
             return numbers[1] == time
-        return verdict.startswith(b"seen: ") and self.is_seen(number, agent, verdict.removeprefix(b"seen: "), event)
+        reason = verdict.removeprefix(b"seen: ")
+        return reason != verdict and any(holds(number, agent, reason, event) for holds in (self.is_seen, self.is_tailed))
 
 
 def taken_apart(count, name, schedule):
@@ -162,6 +180,11 @@ def what_is_said(count, name, story):
                 f"{name}: action {number} was seen", story.is_seen(number - 1, words[1], reasons[0], event), reasons
             )
             seen += 1
+        if words[0] == b"deliver" and answer == [b"ignored", b"Seen"] and b" was opened on a text with the line of event " in reasons[0]:
+            event = event_in(story.sent[int(words[2])])
+            count.check(
+                f"{name}: action {number} was kept", story.is_tailed(number, words[1], reasons[0], event), reasons
+            )
         if words[0] == b"merge" and answer == [b"merged"]:
             fault = story.merge_fault(number)
             count.check(f"{name}: action {number} merges", fault is None, fault)
@@ -336,6 +359,34 @@ def said_rows(count):
         count.check(name, got == [wanted], got)
 
 
+def kept(count):
+    """What is said of an agent that keeps its events: of what stood in a tail, of a join's line that failed, and of its file."""
+    tail = b"event-clock: 02\n#event 2 6465706c6f79 7632\nquery-clock: 01\n#query 1 7\n".hex().encode()
+    fires = b"fire 0 6465706c6f79 7631 0\nfire 0 6465706c6f79 7632 0\n"
+    schedule = KEEPING + fires + b"deliver 1 0 0\nrestart 1 %s\ndeliver 1 1 0\ndeliver 1 0 0\nstate 0\nmerge 1 3 sync\n" % tail
+    schedule += b"break 1 append 1\nmerge 1 3 join\nrestart 1 -\ncompact 1\nquery 0 0 7 61 - 1000 0\ndeliver 1 4 0\n"
+    turns = turns_of(ran(["explain"], schedule)[1])
+    handed = b'"b" was handed event 1 "deploy" "v1" at action 3'
+    opened = b'"b" was opened on a text with the line of event 2 "deploy" "v2"'
+    failed = b'the disk of "b" failed at %s, as action %d had planned of number %d from then on; it is stopped until it is opened again'
+    for number, *wanted in (
+        (4, b"its snapshot keeps clock 0, and its buffers go on, events held: 2, event clock 3, query clock 2: it takes events from 1 and queries from 1 on"),
+        (5, opened),
+        (6, handed),
+        (8, b'slot 1 brings event 1 "deploy" "v1": seen: ' + handed, b'slot 2 brings event 2 "deploy" "v2": seen: ' + opened),
+        (10, b"nothing of the state was heard of: at the line of the least time 3 " + failed % (b"an append", 9, 1)),
+        (12, b"its snapshot has the last line of each kind, the least times, and the lines of what its buffers hold"),
+        (14, b'query 1 with ID 7: "b" was opened on a text with its line'),
+    ):
+        got = turns[number][1] if turns else None
+        count.check(f"kept events: action {number}", got == wanted, got)
+    # a join whose own line is durable, and whose event's line isn't
+    state = ran(["replay"], KEEPING + fires + b"state 0\n")[1].split()[-1].replace(b"4576656e744c54696d6503", b"4576656e744c54696d6501")
+    got = reasons_of(KEEPING + b"inject %s\nbreak 1 flush 2\nmerge 1 0 join\n" % state, 3)
+    wanted = b'slot 1 brings event 1 "deploy" "v1": new, but ' + failed % (b"a flush", 2, 2)
+    count.check("kept events: a line behind the join's", got == [wanted], got)
+
+
 def refusals(count):
     for schedule in (AGENTS + b"deliver 0\n", b"fire\n", AGENTS + b"agent 61 4 4 512 2 keep\n"):
         wanted = ran(["replay"], schedule)
@@ -434,4 +485,4 @@ def long_runs(count):
 
 
 if __name__ == "__main__":
-    sys.exit(checks.over_program(examples, random_schedules, incident, partition, ranges, any_bytes, said_rows, refusals, streams, while_it_runs, to_full_device, long_runs))
+    sys.exit(checks.over_program(examples, random_schedules, incident, partition, ranges, any_bytes, said_rows, kept, refusals, streams, while_it_runs, to_full_device, long_runs))

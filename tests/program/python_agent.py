@@ -7,6 +7,9 @@ the same schedules, and what they show of them is printed: the names of those th
 shown. For a sample of the switches `conform --random 1-200 --shrink` makes the calls fewer, and their median is
 printed.
 
+Of random schedules only those of the kind `kept` have agents that keep their events. So the rows of such agents (`keeps_` in
+tests/rows), and dialogues of the pipe in tests/program/python_agent/rows, have to show each switch of this setting.
+
     tests/program/python_agent.py [--seeds FIRST-LAST] [SCHEDULE..]
 
 --seeds says which random schedules of each kind there are (1-4 where left out). With files it tries just these, and no
@@ -26,6 +29,8 @@ import checks
 import piped_agents
 
 sys.path.insert(0, os.path.dirname(piped_agents.PYTHON_AGENT))
+sys.path.insert(0, os.path.join(checks.TOP, "tests", "program", "python_agent"))
+import kept_rows
 from serf_agent import switches
 from serf_agent.pipe import Pipe
 
@@ -128,7 +133,8 @@ def is_shown(name, given):
 
 def unshown(given):
     """What is wrong with the switches that these schedules show, or None."""
-    names = [name for name in switches.SWITCHES if name not in switches.ONLY_BY_LOOK]
+    elsewhere = (*switches.ONLY_BY_LOOK, *switches.ONLY_BY_KEEPING)
+    names = [name for name in switches.SWITCHES if name not in elsewhere]
     quiet = [name for name in names if not is_shown(name, given)]
     count = len(names) - len(quiet)
     print(f"{count} of {len(names)} switches are shown; not {', '.join(quiet) or 'one is missing'}")
@@ -146,12 +152,32 @@ def calls_left(name):
 
 def unshrunk():
     """What is wrong with the schedules that are left of a sample of the switches, or None."""
-    sample = list(switches.SWITCHES)[::SAMPLE]
+    sample = [name for name in switches.SWITCHES if name not in switches.ONLY_BY_KEEPING][::SAMPLE]
     calls = [calls_left(name) for name in sample]
     calls = [count for count in calls if count is not None]
     median = statistics.median(calls) if calls else 0
     print(f"of {len(sample)} switches {len(calls)} are shrunk, to {median} calls in the median")
     return None if calls and median <= CALLS else f"{calls} calls are left"
+
+
+def rows_that_show(name):
+    """The worked rows of agents that keep their events which show that a body is wrong."""
+    switches.chosen.clear()
+    switches.choose(name)
+    rows = [row for row in kept_rows.names() if kept_rows.fault_of(row)]
+    switches.chosen.clear()
+    return rows
+
+
+def kept(count):
+    """The worked rows of agents that keep their events, and the switches that they show."""
+    for name in kept_rows.names():
+        fault = kept_rows.fault_of(name)
+        count.check(name, not fault, fault)
+    shown = [name for name in switches.ONLY_BY_KEEPING if rows_that_show(name)]
+    for name in switches.ONLY_BY_KEEPING:
+        count.check(f"{name} is shown", name in shown)
+    print(f"{len(shown)} of {len(switches.ONLY_BY_KEEPING)} switches of an agent that keeps its events are shown")
 
 
 def schedules(asked):
@@ -181,6 +207,7 @@ def main():
             total += compared
         print(f"{total} calls compared")
         if not asked.files:
+            kept(count)
             for name, fault in (("the switches", unshown(given)), ("fewer calls", unshrunk())):
                 count.check(name, not fault, fault)
 

@@ -3,7 +3,8 @@
 Of each seed the program writes the same bytes twice, which are those of this version (DIGESTS). `replay` takes them and
 answers each action, and there are as many actions as were asked for. The largest schedule ends below 16 MiB, and takes
 few processor seconds. Bad words of a command line are refused. With `--rules serf` no turn of a trace rests on a rule
-of this project's own, and the median of the actions that are left is printed.
+of this project's own, no agent keeps its events, and the median of the actions that are left is printed. The tails of
+`kept` have lines of each form that an agent which keeps its events writes, of events that were sent and of others.
 
     tests/program/random_schedules.py [--digests]
 
@@ -43,11 +44,15 @@ DIGESTS = {
     "compactions": "7151e245edda409b",
     "gossip": "b63c231dee895263",
     "spellings": "870176363a7adcd5",
+    "kept": "e790d3de84b50c85",
     "rounds": "d33b2d3f13cf14a5",
 }
 
 # Of each kind the seeds whose schedules keep to Serf's rules here.
 COMMON_SEEDS = range(1, 21)
+
+# The seeds whose tails are looked at.
+KEPT_SEEDS = range(1, 41)
 
 # The answers that rest on a rule of this project's own (docs/DECISIONS.md), and a restart with a tail.
 OWN_ANSWER = re.compile(
@@ -56,6 +61,17 @@ OWN_ANSWER = re.compile(
     re.M,
 )
 TAIL = re.compile(rb"^restart \d+ [^-\n]", re.M)
+KEEPS = re.compile(rb"^agent .*\+events", re.M)
+
+# What a line of a tail is, where agents keep their events.
+KEPT_LINES = {
+    "event": re.compile(rb"#event [1-9]\d* (?:[0-9a-f]{2})* (?:[0-9a-f]{2})*\n"),
+    "query": re.compile(rb"#query [1-9]\d* \d+\n"),
+    "least time": re.compile(rb"#least (?:event|query)-clock: \d+\n"),
+    "clock line with a zero": re.compile(rb"(?:event|query)-clock: 0[1-9]\d*\n"),
+    "clock line without a zero": re.compile(rb"(?:event|query)-clock: [1-9]\d*\n"),
+    "torn line": re.compile(rb"[^\n]+"),
+}
 
 # A round's length, in nanoseconds.
 ROUND = 200_000_000
@@ -129,7 +145,7 @@ def wrong_common(seed, kind, made):
     replayed = ran(["replay"], made.stdout)
     if replayed.returncode or replayed.stderr:
         return f"replay: status {replayed.returncode}: {replayed.stderr}"
-    own = OWN_ANSWER.search(replayed.stdout) or TAIL.search(made.stdout)
+    own = OWN_ANSWER.search(replayed.stdout) or TAIL.search(made.stdout) or KEEPS.search(made.stdout)
     return f"an own rule: {own[0]}" if own else None
 
 
@@ -203,6 +219,31 @@ def rounds_spread(count):
     count.check("the same words give it again", ran(said.stdout.split(b" version")[0].decode().split(" ")[1:]).stdout == said.stdout)
 
 
+def kept_lines(count):
+    """Of `kept`: agents of each MODE with small buffers, and tails of each form; events in them that were sent, and others."""
+    modes, forms, events = Counter(), Counter(), Counter()
+    for seed in KEPT_SEEDS:
+        made = schedule_of(seed, "kept").stdout
+        lines = [line.split(b" ") for line in made.splitlines()]
+        modes.update(words[6].decode() for words in lines if words[0] == b"agent")
+        slots = [int(word) for words in lines if words[0] == b"agent" for word in words[2:4]]
+        count.check(f"kept {seed}: buffers of 1 to 8", 1 <= min(slots) and max(slots) <= 8, slots)
+        sent = set(re.findall(rb"^\d+ event \d+ (\d+ \S+ \S+) [01]$", ran(["replay"], made).stdout, re.M))
+        tails = [words[2] for words in lines if words[0] == b"restart"]
+        forms["none"] += tails.count(b"-")
+        for tail in tails:
+            for line in bytes.fromhex(tail.strip(b"-").decode()).splitlines(keepends=True):
+                form = next((form for form, is_it in KEPT_LINES.items() if is_it.fullmatch(line)), "other")
+                forms[form] += 1
+                if form == "event":
+                    words = [word or b"-" for word in line[:-1].split(b" ")[1:]]
+                    events[b" ".join(words) in sent] += 1
+    print(f"kept: {dict(modes)}, tails {dict(forms)}, events handed out or not {dict(events)}")
+    count.check("kept: each MODE", sorted(modes) == ["ignore", "ignore+events", "keep", "keep+events"], modes)
+    count.check("kept: each form", all(forms[form] >= 5 for form in ("none", "other", *KEPT_LINES)), forms)
+    count.check("kept: events of both kinds", events[True] >= 10 and events[False] >= 10, events)
+
+
 def refused(count):
     for words, status in REFUSED:
         got = ran(words)
@@ -210,4 +251,4 @@ def refused(count):
 
 
 if __name__ == "__main__":
-    sys.exit(checks.over_program(first_seeds, largest_schedules, common_schedules, rounds_spread, refused))
+    sys.exit(checks.over_program(first_seeds, largest_schedules, common_schedules, rounds_spread, kept_lines, refused))

@@ -53,15 +53,16 @@ def number(below, least=0):
     return Kind(read, "NUMBERS")
 
 
-def one_of(*words):
-    return Kind(lambda word: word if word in words else None, "CHOICES")
+def one_of(*words, shapes="CHOICES"):
+    return Kind(lambda word: word if word in words else None, shapes)
 
 
 DATA = Kind(lambda word: word.lower() if word == "-" or re.fullmatch("([0-9a-fA-F]{2})+", word) else None, "BYTES")
 
 
 COUNT = number(1 << 64)
-AGENT = [DATA, COUNT, COUNT, COUNT, COUNT, one_of("ignore", "keep")]
+MODE = one_of("ignore", "keep", "ignore+events", "keep+events", shapes="MODES")
+AGENT = [DATA, COUNT, COUNT, COUNT, COUNT, MODE]
 
 # What the words behind each command are, without those that may be left out.
 LINES = {
@@ -146,7 +147,13 @@ NUMBERS = (
 BYTES = ("-", "--", "{}-", "6", "{}6", "6g", "6A", "0x{}", "\t{}", "{}\r", "61" * 128, "61" * 129, "62", "\u00a0", "{}\u00e9")
 CHOICES = ("{}x", "0{}", "00", "01", "2", "-", "keep", "Keep", "join", "SYNC", "replace", "replace-old", "{}\t", "#{}")
 
-SHAPES = {"NUMBERS": NUMBERS, "BYTES": BYTES, "CHOICES": CHOICES}
+MODES = (
+    *CHOICES,
+    *("ignore", "{}+events", "{}+", "{}+event", "{}events", "{}-events", "{}+Events", "{}+events+events", "{} +events", "{}+ events"),
+    *("+events", "events", "Keep+events", "keep+ignore", "events+{}"),
+)
+
+SHAPES = {"NUMBERS": NUMBERS, "BYTES": BYTES, "CHOICES": CHOICES, "MODES": MODES}
 
 # What a command may be turned into.
 COMMANDS = ("{}x", "{}\t", "\t{}", "{}{}", "x", "0", "#{}", "agent", "fire")

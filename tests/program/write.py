@@ -9,7 +9,7 @@ import checks
 
 AGENTS = b"agent a\nagent b\n"
 NAME = b"here stands the agent's name, which no agent above has"
-SETTING = b"here may stand events=N, queries=N, limit=N, querylimit=N, responselimit=N, responders=N, pertime=N, keep or ignore"
+SETTING = b"here may stand events=N, queries=N, limit=N, querylimit=N, responselimit=N, responders=N, pertime=N, keep, ignore or keep-events"
 BOUNDS = b"a name has 1 to 128 bytes, each limit is at most 9216, and the other numbers of an agent are 1 to 65536"
 COMMAND = (
     b"here may stand agent, fire, deliver, state, merge, query, respond, restart, break, inject, close, save, compact, "
@@ -51,6 +51,11 @@ FAULTS = [
     (b"agent a responselimit=9217 keep\n", 1, 2, BOUNDS),
     (b"agent a keep querylimit\n", 1, 4, SETTING),
     (b"agent a responselimit=x\n", 1, 3, SETTING),
+    (b"agent a keep+events\n", 1, 3, SETTING),
+    (b"agent a Keep-events\n", 1, 3, SETTING),
+    (b"agent a keep-event\n", 1, 3, SETTING),
+    (b"agent a ignore-events\n", 1, 3, SETTING),
+    (b"agent a keep-events keep-events=1\n", 1, 4, SETTING),
     (b'agent ""\n', 1, 2, BOUNDS),
     (AGENTS + b"state a\nagent c\n", 4, 1, FIRST),
     (b"agents a\n", 1, 1, COMMAND),
@@ -110,6 +115,8 @@ TEXTS = [
     (b"agent a # its name\r\n", DEFAULTS),
     (b"agent a events=1 queries=2 limit=3 responders=4 pertime=5 ignore\n", b"agent 61 1 2 3 4 ignore 5\n"),
     (b"agent a querylimit=0 ignore responselimit=9216\n", b"agent 61 512 512 512 1024 ignore 1024 0 9216\n"),
+    (b"agent a keep-events\n", b"agent 61 512 512 512 1024 keep+events 1024\n"),
+    (b"agent a keep-events ignore keep-events pertime=2\n", b"agent 61 512 512 512 1024 ignore+events 2\n"),
     (b"agent a querylimit=2000\n", b"agent 61 512 512 512 1024 keep 1024 2000 1024\n"),
     (b"agent a responselimit=7 pertime=3\n", b"agent 61 512 512 512 1024 keep 3 1024 7\n"),
     (b"agent a querylimit=1024 responselimit=1024\n", DEFAULTS),

@@ -36,6 +36,8 @@ type App struct {
 	file   *snapshot.File
 	// ends has why the agent has to end: nil where it was asked to.
 	ends chan error
+	// isReplaying: the joins of the start take the events from before, too.
+	isReplaying bool
 }
 
 // Start starts an agent. It joins nobody yet.
@@ -132,7 +134,7 @@ func (a *App) Close() error {
 // fails is an error.
 func (a *App) JoinAtStart(ctx context.Context) error {
 	if len(a.config.StartJoin) > 0 {
-		count, err := a.node.Join(a.config.StartJoin, a.config.Replay)
+		count, err := a.node.Join(a.config.StartJoin, a.isReplaying)
 		if err != nil {
 			return fmt.Errorf("-join: %w", err)
 		}
@@ -147,7 +149,7 @@ func (a *App) JoinAtStart(ctx context.Context) error {
 
 func (a *App) retryJoin(ctx context.Context) {
 	for tried := 1; ; tried++ {
-		count, err := a.node.Join(a.config.RetryJoin, a.config.Replay)
+		count, err := a.node.Join(a.config.RetryJoin, a.isReplaying)
 		if err == nil {
 			a.log.Printf("[INFO] agent: Join completed. Synced with %d initial agents", count)
 			return

@@ -385,7 +385,7 @@ func TestLimitsOfTheProvedAgent(t *testing.T) {
 	conf := config.Default()
 	conf.UserEventSizeLimit, conf.QuerySizeLimit, conf.QueryResponseSizeLimit = 700, 2000, 3000
 	found := (&App{config: conf}).settings()
-	if found.EventLimit != 700 || found.QueryLimit != 2000 || found.ResponseLimit != 3000 {
+	if found.EventLimit != 700 || found.QueryLimit != 2000 || found.ResponseLimit != 3000 || found.KeepEvents {
 		t.Errorf("%+v", found)
 	}
 	conf = config.Default()

@@ -14,7 +14,7 @@ import (
 // settings are those of the proved agent.
 func (a *App) settings() serfagent.Settings {
 	settings := serfagent.DefaultSettings()
-	settings.IgnoreOld, settings.EventLimit = true, uint64(a.config.UserEventSizeLimit)
+	settings.IgnoreOld, settings.KeepEvents, settings.EventLimit = true, a.config.KeepEvents, uint64(a.config.UserEventSizeLimit)
 	settings.QueryLimit, settings.ResponseLimit = uint64(a.config.QuerySizeLimit), uint64(a.config.QueryResponseSizeLimit)
 	return settings
 }
@@ -72,7 +72,25 @@ func (a *App) openSnapshot() (*serfagent.Agent, []snapshot.Address, error) {
 		return nil, nil, err
 	}
 	a.file = file
+	a.isReplaying = a.config.Replay || a.goesOn(previous)
 	return proved, previous, nil
+}
+
+// goesOn says whether the agent keeps its events and has a life before, whose file says which events are old: it took some, or
+// joined others. Then what came to the others meanwhile is wanted, and a join of the start that ignored it would lose it.
+func (a *App) goesOn(previous []snapshot.Address) bool {
+	if !a.config.KeepEvents {
+		return false
+	}
+	if a.file.KnowsEvents() {
+		return true
+	}
+	for _, one := range previous {
+		if one.Name != a.config.NodeName {
+			return true
+		}
+	}
+	return false
 }
 
 func (a *App) removeFolder() {

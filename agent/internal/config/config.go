@@ -45,6 +45,8 @@ type Config struct {
 	Rejoin bool
 	// Snapshot is the file of clocks and members.
 	Snapshot string
+	// KeepEvents keeps events and queries in the snapshot too, so that a restart goes on with them.
+	KeepEvents bool
 	// Record is the file of what comes and goes, and RecordSize how many bytes it may have before it turns over.
 	Record     string
 	RecordSize int
@@ -116,7 +118,7 @@ func (c *Config) validate() error {
 	if len(c.NodeName) > MaxName {
 		return fmt.Errorf("-node: a name has at most %d bytes, and this one has %d", MaxName, len(c.NodeName))
 	}
-	checks := []func() error{c.validateAddresses, c.validateKey, c.validateTags, c.validateNumbers}
+	checks := []func() error{c.validateAddresses, c.validateKey, c.validateTags, c.validateNumbers, c.validateFiles}
 	for _, check := range checks {
 		if err := check(); err != nil {
 			return err
@@ -219,8 +221,19 @@ func (c *Config) validateNumbers() error {
 	if c.RecordSize < MinRecord {
 		return fmt.Errorf("-record-size: %d is below %d", c.RecordSize, MinRecord)
 	}
+	return nil
+}
+
+// validateFiles says which files are needed, and which don't go together.
+func (c *Config) validateFiles() error {
 	if c.Rejoin && c.Snapshot == "" {
 		return fmt.Errorf("-rejoin: it needs -snapshot")
+	}
+	if c.KeepEvents && c.Snapshot == "" {
+		return fmt.Errorf("-keep-events: it needs -snapshot")
+	}
+	if c.KeepEvents && c.Record != "" {
+		return fmt.Errorf("-keep-events and -record: a record doesn't say what a restart goes on with, so one of them has to go")
 	}
 	return nil
 }

@@ -22,7 +22,7 @@ func write(t *testing.T, path, text string) string {
 
 func TestFlags(t *testing.T) {
 	words := strings.Fields("-node a -bind 127.0.0.1:1 -join x -join y -rejoin -snapshot s -tag k=v=w -role web -retry-max 3 " +
-		"-retry-interval 5s -log-level debug -profile wan -event-handler user:deploy=run -disable-compression -replay")
+		"-retry-interval 5s -log-level debug -profile wan -event-handler user:deploy=run -disable-compression -replay -keep-events")
 	found, err := Parse(words, io.Discard)
 	if err != nil {
 		t.Fatal(err)
@@ -31,7 +31,7 @@ func TestFlags(t *testing.T) {
 	want.NodeName, want.Bind, want.StartJoin, want.Rejoin, want.Snapshot = "a", "127.0.0.1:1", []string{"x", "y"}, true, "s"
 	want.Tags, want.RetryMax, want.RetryInterval = map[string]string{"k": "v=w", "role": "web"}, 3, 5*time.Second
 	want.LogLevel, want.Profile, want.EventHandlers = "DEBUG", "wan", []string{"user:deploy=run"}
-	want.Compression, want.Replay = false, true
+	want.Compression, want.Replay, want.KeepEvents = false, true, true
 	if !reflect.DeepEqual(found, want) {
 		t.Errorf("%+v\n%+v", found, want)
 	}
@@ -40,7 +40,7 @@ func TestFlags(t *testing.T) {
 func TestFilesComeBeforeFlags(t *testing.T) {
 	folder := t.TempDir()
 	one := write(t, filepath.Join(folder, "one"), `{"node_name": "one", "start_join": ["x"], "tags": {"a": "1"}, "rejoin_after_leave": true,
-		"snapshot_path": "s", "retry_max_attempts": 7, "reconnect_timeout": "1h", "leave_on_terminate": true}`)
+		"snapshot_path": "s", "retry_max_attempts": 7, "reconnect_timeout": "1h", "leave_on_terminate": true, "keep_events": true}`)
 	write(t, filepath.Join(folder, "b.json"), `{"node_name": "b", "start_join": ["z"], "tags": null}`)
 	write(t, filepath.Join(folder, "a.json"), `{"node_name": "a", "start_join": ["y"], "rpc_auth": "token", "enable_compression": false}`)
 	write(t, filepath.Join(folder, "c.text"), `{`)
@@ -54,7 +54,7 @@ func TestFilesComeBeforeFlags(t *testing.T) {
 	if !reflect.DeepEqual(found.Tags, map[string]string{"a": "1", "b": "2"}) || found.RetryMax != 7 || found.ReconnectTimeout != time.Hour {
 		t.Errorf("%+v", found)
 	}
-	if !found.LeaveOnTerminate || found.Compression || !found.Rejoin {
+	if !found.LeaveOnTerminate || found.Compression || !found.Rejoin || !found.KeepEvents {
 		t.Errorf("%+v", found)
 	}
 }
@@ -84,6 +84,9 @@ func TestRefusals(t *testing.T) {
 		{"-encrypt QUJD", "3"},
 		{"-encrypt cg8StVXbQJ0gPvMd9o7yrg== -keyring-file /dev/null", "leave -encrypt out"},
 		{"-rejoin", "needs -snapshot"},
+		{"-keep-events", "-keep-events: it needs -snapshot"},
+		{"-keep-events -snapshot s -record r", "-keep-events and -record: "},
+		{"-keep-events=maybe -snapshot s", "neither true nor false"},
 		{"-record-size 4095", "-record-size: 4095 is below 4096"},
 		{"-record-size much", "no number"},
 		{"-retry-max x", "no number"},

@@ -109,6 +109,7 @@ var settings = []setting{
 	{"replay", "replay_on_join", "take the events from before a join, too", true, truth(func(c *Config) *bool { return &c.Replay })},
 	{"rejoin", "rejoin_after_leave", "join again by the snapshot after a leave", true, truth(func(c *Config) *bool { return &c.Rejoin })},
 	{"snapshot", "snapshot_path", "file that keeps clocks and members", false, text(func(c *Config) *string { return &c.Snapshot })},
+	{"keep-events", "keep_events", "keep events in that file too: a restart goes on with them", true, truth(func(c *Config) *bool { return &c.KeepEvents })},
 	{"record", "record", "file of what comes and goes, as calls and replies", false, text(func(c *Config) *string { return &c.Record })},
 	{"record-size", "record_size", "bytes of that file before it turns over, 67108864", false, number(func(c *Config) *int { return &c.RecordSize })},
 	{"event-handler", "event_handlers", "SCRIPT, or FILTERS=SCRIPT (repeatable)", false, list(func(c *Config) *[]string { return &c.EventHandlers })},

@@ -31,9 +31,20 @@ type Address struct{ Name, Addr string }
 type File struct {
 	path string
 	file *os.File
-	// clocks is how many bytes the library's own lines need at most, in a file without others.
-	clocks int64
+	// own is how many bytes the library's own lines had when it replaced the file last, or those of its clocks before that.
+	own int64
+	// knowsEvents: the text that was opened says of events which are old.
+	knowsEvents bool
 }
+
+// clockLines is how many bytes the lines of the clocks have at most.
+const clockLines = 3 * 35
+
+// Lines that say of events which are old: that of their clock, and that of a join which ignored what was old.
+const (
+	clockWord = "event-clock: "
+	leastWord = "#least event-clock: "
+)
 
 // Open takes a file that the library has opened and locked, and gives the members that its text leaves alive. Where the last
 // life was in the middle of a compaction, it brings the members of that one back. A leave forgets all, unless isRejoining.
@@ -46,7 +57,7 @@ func Open(path string, isRejoining bool) (*File, []Address, error) {
 	if err != nil {
 		return nil, nil, err
 	}
-	f := &File{path: real, clocks: 3 * 34}
+	f := &File{path: real, own: clockLines, knowsEvents: knowsEvents(string(text))}
 	if err := f.reopen(); err != nil {
 		return nil, nil, err
 	}
@@ -89,6 +100,20 @@ func alive(text string, isRejoining bool) []Address {
 	}
 	return found
 }
+
+// knowsEvents says whether a text says of events which are old.
+func knowsEvents(text string) bool {
+	for _, line := range strings.Split(text, "\n") {
+		if strings.HasPrefix(line, clockWord) || strings.HasPrefix(line, leastWord) {
+			return true
+		}
+	}
+	return false
+}
+
+// KnowsEvents says whether the text that was opened says of events which are old: a life before took some, or joined and ignored
+// what was old.
+func (f *File) KnowsEvents() bool { return f.knowsEvents }
 
 func cut(line, prefix string) (string, bool) {
 	if !strings.HasPrefix(line, prefix) {
@@ -159,13 +184,14 @@ func (f *File) Append(lines ...string) error {
 	return f.write(text)
 }
 
-// ShouldCompact says whether the file has more bytes than the limit, and at least half of them would go.
+// ShouldCompact says whether the file has more bytes than the limit, and at least half of them would go, as far as is known: what
+// the library keeps of events is counted as it was at the last replacement.
 func (f *File) ShouldCompact(lines []string) bool {
 	about, err := f.file.Stat()
 	if err != nil || about.Size() <= Limit {
 		return false
 	}
-	left := f.clocks
+	left := f.own
 	for _, line := range lines {
 		left += int64(len(line))
 	}
@@ -184,6 +210,9 @@ func (f *File) Compact(lines []string, library func() error) error {
 	}
 	if err := f.reopen(); err != nil {
 		return err
+	}
+	if about, err := f.file.Stat(); err == nil {
+		f.own = about.Size()
 	}
 	return f.restore(text)
 }

@@ -86,6 +86,41 @@ func TestCompaction(t *testing.T) {
 	}
 }
 
+// What the library keeps of events is counted as it was at the last replacement, so a file isn't replaced again for nothing.
+func TestCompactionOfAFileThatKeepsEvents(t *testing.T) {
+	path := filepath.Join(t.TempDir(), "file")
+	kept := "event-clock: 03\n" + strings.Repeat("#event 3 61 62\n", Limit/15)
+	write(t, path, kept+kept)
+	f, _, err := Open(path, false)
+	if err != nil {
+		t.Fatal(err)
+	}
+	defer f.Close()
+	lines := []string{"alive: a 1:1\n"}
+	if !f.KnowsEvents() || !f.ShouldCompact(lines) {
+		t.Error("nothing is known of what a compaction leaves")
+	}
+	library := func() error {
+		write(t, path+".new", kept)
+		return os.Rename(path+".new", path)
+	}
+	if err := f.Compact(lines, library); err != nil {
+		t.Fatal(err)
+	}
+	size, left := len(kept)+len(lines[0]), len(kept)+len(lines[0])
+	for ; size < 2*left; size += len(lines[0]) {
+		if f.ShouldCompact(lines) {
+			t.Fatalf("%d bytes, and %d of them stay", size, left)
+		}
+		if err := f.Append(lines...); err != nil {
+			t.Fatal(err)
+		}
+	}
+	if !f.ShouldCompact(lines) {
+		t.Errorf("%d bytes, and %d of them stay", size, left)
+	}
+}
+
 // A crash at each point of a compaction leaves the clocks and the members.
 func TestCrashes(t *testing.T) {
 	for name, left := range map[string]struct{ file, beside string }{

@@ -78,6 +78,7 @@ func Open(name, path string, settings Settings) (*Agent, error) {
 		responders:     C.uint64_t(settings.Responders),
 		per_time:       C.uint64_t(settings.PerTime),
 		ignore_old:     C.bool(settings.IgnoreOld),
+		keep_events:    C.bool(settings.KeepEvents),
 	}
 	named := []byte(name)
 	if err := agent.settled(C.serf_agent_open(agent.handle, ptr(named), size(named), &set, ptr(text), size(text))); err != nil {

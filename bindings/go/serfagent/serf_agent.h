@@ -126,6 +126,7 @@ struct serf_agent_settings {
     uint64_t responders;     /* names counted of a query's acks, and of its responses: 1 to 65,536 */
     uint64_t per_time;       /* events, or queries, that are taken of one time: 1 to 65,536 */
     bool ignore_old;         /* whether joining lifts the least time of events to the other agent's clock */
+    bool keep_events;        /* whether the file keeps events and queries, and a restart goes on with those of the buffers */
 };
 
 /* What the last call gave. */
@@ -244,7 +245,9 @@ struct serf_agent_clocks {
 
 /* Life */
 
-/* Opens an agent over the text of the host's file, into an empty handle. Its first bytes end a torn last line. */
+/* Opens an agent over the text of the host's file, into an empty handle. Its first bytes end a torn last line. Where the
+   settings keep events, an event or a query that the file keeps counts as handed out, and one that it doesn't keep is handed out
+   when it comes, as long as its buffer reaches it. */
 uint32_t serf_agent_open(struct serf_agent *handle, const uint8_t *name, size_t name_len,
                          const struct serf_agent_settings *settings, const uint8_t *text, size_t text_len);
 /* Closes it; the handle is empty then. */
@@ -270,7 +273,8 @@ uint32_t serf_agent_receive(struct serf_agent *handle, uint64_t now, const uint8
 uint32_t serf_agent_receive_tagged(struct serf_agent *handle, uint64_t now, const uint8_t *packet, size_t packet_len,
                                    bool tags_pass);
 /* Merges another agent's whole state. Where it ends with SERF_AGENT_OUT_OF_MEMORY it gives the events that it took before, if
-   it was begun: the host writes their lines and hands them out, as ever. Made again it gives the others alone. */
+   it was begun: the host writes their lines and hands them out, as ever. Made again it gives the others alone. Where the
+   settings keep events and ignore what is old, a join leaves a line of its least time first, so it holds in later lives too. */
 uint32_t serf_agent_merge(struct serf_agent *handle, const uint8_t *packet, size_t packet_len, bool is_join);
 /* The agent's whole state, to send, with the members that serf_agent_add_status and serf_agent_add_left named since the
    last that was tried; it forgets them, unless for want of memory. */
@@ -298,7 +302,8 @@ uint32_t serf_agent_close_due(struct serf_agent *handle, uint64_t now, size_t *c
 uint32_t serf_agent_observe_member(struct serf_agent *handle, uint64_t time);
 /* Notes the member clock, so that a restart goes on from there. */
 uint32_t serf_agent_save_member_clock(struct serf_agent *handle);
-/* Makes the text that replaces the file's: one line of each clock. */
+/* Makes the text that replaces the file's: one line of each clock, and where the settings keep events the lines of what the
+   buffers hold. */
 uint32_t serf_agent_compact(struct serf_agent *handle);
 
 /* Bursts: many packets, and one flush

@@ -15,6 +15,9 @@ type Settings struct {
 	Responders, PerTime uint64
 	// Whether events from before a join are ignored.
 	IgnoreOld bool
+	// Whether the file keeps events and queries, and a restart goes on with those that the buffers held. What the node missed is
+	// then handed out after a restart, while the buffer reaches it. A join that ignores what is old loses it.
+	KeepEvents bool
 }
 
 // DefaultSettings are Serf's.

@@ -7,6 +7,10 @@
 // What memberlist calls takes no lock that is held while the file is flushed: packets and states wait in queues, and the state
 // that is sent is the agent's last where the agent is busy.
 //
+// An agent whose settings have KeepEvents goes on after a restart with what its buffers held, and takes what the node missed from
+// the others' states. memberlist says of the states of each join that they are of a join, after a restart too. So with IgnoreOld
+// each of these joins ignores what the node missed: leave IgnoreOld off where nothing is to be missed.
+//
 // Stock agents of Serf show the node alive with its tags, left behind a Leave, and failed where it just ends. Members shows
 // this node's own view of the others.
 //

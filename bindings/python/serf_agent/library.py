@@ -117,6 +117,7 @@ class CSettings(Structure):
     _fields_ = [
         *((name, c_uint64) for name in ("event_buffer", "query_buffer", "event_limit", "query_limit", "response_limit", "responders", "per_time")),
         ("ignore_old", c_bool),
+        ("keep_events", c_bool),
     ]
 
 

@@ -9,6 +9,8 @@ class Settings:
 
     The sizes are in bytes, 9,216 at most: of a fired event, of a fired query's packet, and of a response's packet. Of the
     last two 0 stands for 1,024.
+
+    With ``keep_events`` the file keeps events and queries, and a restart goes on with those that the buffers held.
     """
 
     event_buffer: int = 512
@@ -19,3 +21,4 @@ class Settings:
     responders: int = 1024
     per_time: int = 1024
     ignore_old: bool = False
+    keep_events: bool = False

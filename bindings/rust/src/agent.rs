@@ -85,6 +85,7 @@ impl Agent {
             responders: settings.responders,
             per_time: settings.per_time,
             ignore_old: settings.ignore_old,
+            keep_events: settings.keep_events,
         };
         agent.settled(|handle| {
             // SAFETY: the handle is the agent's own, and each pointer comes with its length.

@@ -23,6 +23,7 @@ pub struct Settings {
     pub responders: u64,
     pub per_time: u64,
     pub ignore_old: bool,
+    pub keep_events: bool,
 }
 
 #[repr(C)]

@@ -21,6 +21,8 @@ pub struct Settings {
     pub per_time: u64,
     /// Whether events from before a join are ignored.
     pub ignore_old: bool,
+    /// Whether the file keeps events and queries, and a restart goes on with those that the buffers held.
+    pub keep_events: bool,
 }
 
 impl Default for Settings {
@@ -34,6 +36,7 @@ impl Default for Settings {
             responders: 1024,
             per_time: 1024,
             ignore_old: false,
+            keep_events: false,
         }
     }
 }

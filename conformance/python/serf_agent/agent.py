@@ -2,7 +2,7 @@
 
 from collections import namedtuple
 
-from . import messages
+from . import kept, messages
 from .messagepack import Fault
 from .messages import GREATEST, PushPull, Query, Response, Slot, Texts, UserEvent
 from .snapshot import SinkFault, Snapshot
@@ -27,7 +27,10 @@ def limit_of(limit, name):
 ACK = 1
 NO_BROADCAST = 2
 
-Config = namedtuple("Config", "name events queries limit responders ignore_old per_time query_limit response_limit")
+SETTINGS = "name events queries limit responders ignore_old per_time query_limit response_limit keeps"
+
+# Whether it keeps its events over a restart is left out mostly: it doesn't then.
+Config = namedtuple("Config", SETTINGS, defaults=[False])
 
 
 class Refusal(Exception):
@@ -78,13 +81,15 @@ class Agent:
     def live(self, text):
         """Begins a life on a snapshot's text."""
         before = self.events, self.queries
-        self.snapshot = Snapshot(text)
+        self.snapshot = Snapshot(text, self.config.keeps)
         values = self.snapshot.values
         self.member = self.clock_behind(values["clock"])
         self.events = self.window(self.config.events, values["event-clock"])
         self.queries = self.window(self.config.queries, values["query-clock"])
         if wrong("restart_keeps_windows") and before[0]:
             self.events.slots, self.queries.slots = before[0].slots, before[1].slots
+        if self.config.keeps:
+            self.go_on(text)
         self.open = {}
         if not wrong("answers_survive_restart"):
             self.handed = []
@@ -95,6 +100,26 @@ class Agent:
     def window(self, slots, value):
         return Window(slots, self.config.per_time, self.clock_behind(value), value + 1)
 
+    def go_on(self, text):
+        """Goes on with the windows that the life before left, by what the text keeps."""
+        last = self.snapshot.values
+        self.events.go_on(last[kept.EVENTS], kept.least_in(text, kept.EVENTS))
+        self.queries.go_on(last[kept.QUERIES], kept.least_in(text, kept.QUERIES))
+        for time, name, payload in kept.events_in(text):
+            if self.is_kept(time, last[kept.EVENTS]):
+                reason = self.judge_event(time, name, payload, self.events.clock)
+                self.events.take_back(time, self.event_entry(name, payload), reason)
+        for time, query_id in kept.queries_in(text):
+            if self.is_kept(time, last[kept.QUERIES]):
+                key = self.query_key(query_id)
+                self.queries.take_back(time, key, self.queries.judge(time, key, self.queries.clock))
+        for window in (self.events, self.queries):
+            window.minimum = max(window.minimum, window.reach())
+
+    def is_kept(self, time, last):
+        """Whether a line of this time counts: none above the last clock line does."""
+        return time <= last or wrong("line_above_the_clock_line_taken_back")
+
     def clocks(self):
         return self.member, self.events.clock, self.queries.clock
 
@@ -103,7 +128,10 @@ class Agent:
         self.live(disk.durable + (b"" if wrong("tail_is_lost") else tail))
         if wrong("restart_keeps_the_plan"):
             self.snapshot.disk.plan, self.snapshot.disk.keeps_new = disk.plan, disk.keeps_new
-        return Reply("restarted", *self.clocks())
+        reply = Reply("restarted", *self.clocks())
+        if self.config.keeps and wrong("taken_back_is_handed_out"):
+            reply.events = [event_line(time, *texts, False) for time, (_, texts) in self.events.held_from(0)]
+        return reply
 
     def fail(self, call, count):
         self.snapshot.disk.plan_failure(call, count)
@@ -161,15 +189,27 @@ class Agent:
             reply.events.append(event_line(time, name, payload, coalesce))
         return reply
 
+    def event_entry(self, name, payload):
+        """What the window holds of an event: what tells it from others, and its texts."""
+        return self.event_key(name, payload), (name, payload)
+
+    def note(self, kind, value, line):
+        """Writes the line of what is taken; where events are kept, its own line too."""
+        if self.config.keeps:
+            self.snapshot.note_kept(kind, value, line)
+        else:
+            self.snapshot.note(kind, value)
+
     def keep_event(self, time, name, payload, enters=True):
         """Takes an event: its line first, then its entry and the clock."""
         clock = self.events.observed(time)
         if wrong("failed_line_moves_clock"):
             self.events.clock = clock
         if not wrong("no_line_for_events"):
-            self.snapshot.note("event-clock", clock if wrong("line_of_the_clock") else time)
+            value = clock if wrong("line_of_the_clock") else time
+            self.note(kept.EVENTS, value, kept.event_line(time, name, payload))
         if enters:
-            self.events.enter(time, (self.event_key(name, payload), (name, payload)))
+            self.events.enter(time, self.event_entry(name, payload))
         self.events.clock = clock
 
     def judge_event(self, time, name, payload, clock):
@@ -242,6 +282,9 @@ class Agent:
                 self.queries.observe_before(state.QueryLTime)
 
     def merged(self, state, join, reply):
+        if wrong("failed_join_is_heard_of"):
+            self.merge_clocks(state)
+        self.tell_join(state, join)
         if not wrong("merge_moves_clocks_at_its_end"):
             self.merge_clocks(state)
         before = self.events.minimum
@@ -258,10 +301,21 @@ class Agent:
                 reply.events = []
         return reply
 
-    def lift_minimum(self, state, join):
+    def ignores_old(self, join):
+        """Whether a merge ignores what is below the other's event clock."""
         if not self.config.ignore_old or wrong("join_ignores_nothing"):
+            return False
+        return join or wrong("every_merge_ignores")
+
+    def tell_join(self, state, join):
+        """Writes the least time that a join sets, where events are kept. Where this fails nothing is heard of."""
+        if not self.config.keeps or not self.ignores_old(join) or wrong("join_leaves_no_least_line"):
             return
-        if not join and not wrong("every_merge_ignores"):
+        if state.EventLTime > self.events.minimum or not wrong("join_line_only_where_it_rises"):
+            self.snapshot.note_kept(kept.EVENTS, 0, kept.least_line(kept.EVENTS, state.EventLTime))
+
+    def lift_minimum(self, state, join):
+        if not self.ignores_old(join):
             return
         least = self.events.clock if wrong("minimum_of_own_clock") else state.EventLTime
         self.events.minimum = least if wrong("join_sets_minimum") else max(self.events.minimum, least)
@@ -285,8 +339,38 @@ class Agent:
 
     def compact(self):
         self.running()
-        self.snapshot.compact()
+        self.snapshot.compact(self.kept_lines())
         return Reply("compacted")
+
+    def kept_lines(self):
+        """The lines that a compaction leaves of what the windows hold, of each kind behind its least time; none where nothing is kept."""
+        if not self.config.keeps:
+            return b""
+        events = self.lines_held(kept.EVENTS, self.events, lambda time, entry: kept.event_line(time, *entry[1]))
+        return events + self.lines_held(kept.QUERIES, self.queries, kept.query_line)
+
+    def lines_held(self, kind, window, line):
+        least = self.least_told(window, kind)
+        held = window.held_from(0 if wrong("compaction_leaves_old_lines") else least)
+        if wrong("compaction_drops_a_held_line"):
+            held = held[1:]
+        front = b"" if wrong("compaction_tells_no_least_time") else kept.least_line(kind, least)
+        return front + b"".join(line(time, entry) for time, entry in held)
+
+    def least_told(self, window, kind):
+        """The least time that a compaction tells: what is below it may not be taken, or the window has passed it.
+
+        The next life begins one above the last clock line. So the window is counted from there: the clock can be far above it.
+        """
+        last = self.snapshot.values[kind]
+        reach = max(last + 1 - window.size, 0)
+        if wrong("compaction_tells_the_minimum_alone"):
+            reach = 0
+        if wrong("compaction_counts_from_the_clock"):
+            reach = min(window.reach(), last + 1)
+        if wrong("compaction_forgets_what_a_join_set"):
+            return min(max(window.minimum, reach), last + 1)
+        return max(window.minimum, reach)
 
     # Queries
 
@@ -322,7 +406,7 @@ class Agent:
 
     def keep_query(self, time, query_id):
         """Takes a query: its line first, then its entry and the clock."""
-        self.snapshot.note("query-clock", time)
+        self.note(kept.QUERIES, time, kept.query_line(time, query_id))
         self.queries.enter(time, self.query_key(query_id))
         self.move_query_clock(self.queries.observed(time))
 

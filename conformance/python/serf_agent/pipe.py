@@ -8,18 +8,23 @@ def unhexed(word):
     return b"" if word == b"-" else bytes.fromhex(word.decode("ascii"))
 
 
+# Of each MODE whether old events are ignored at a join, and whether events are kept over a restart.
+MODES = {b"keep": (False, False), b"ignore": (True, False), b"keep+events": (False, True), b"ignore+events": (True, True)}
+
+
 def settings(words):
     """The settings of an `open` call, from its name on. The two limits of packets may be left out."""
     numbers = [int(word) for word in words[1:5]]
     limits = [int(word) for word in words[7:]] or [DEFAULT_QUERY_LIMIT, DEFAULT_RESPONSE_LIMIT]
-    return Config(unhexed(words[0]), *numbers, words[5] == b"ignore", int(words[6]), *limits)
+    ignore_old, keeps = MODES[words[5]]
+    return Config(unhexed(words[0]), *numbers, ignore_old, int(words[6]), *limits, keeps)
 
 
 class Pipe:
     """The agent that the calls drive: the one of the last `open`."""
 
     def __init__(self):
-        self.agent = None
+        self.agent, self.keeps = None, False
 
     def reply(self, line):
         """The lines that answer a call."""
@@ -32,12 +37,22 @@ class Pipe:
             return ["refused SinkFault"]
 
     def call(self, name, words):
+        if name == "keeps":
+            self.keeps = True
+            return Reply("keeps")
         if name == "open":
-            self.agent = Agent(settings(words[:-1]), unhexed(words[-1]))
-            return Reply("opened", *self.agent.clocks())
+            return self.opened(words)
         if self.agent is None or name not in CALLS:
             return Reply("unsupported")
         return CALLS[name](self.agent, words)
+
+    def opened(self, words):
+        """Makes an agent; one that keeps its events where its MODE says so, or `keeps` was said just for it."""
+        config = settings(words[:-1])
+        config = config._replace(keeps=config.keeps or self.keeps)
+        self.keeps = False
+        self.agent = Agent(config, unhexed(words[-1]))
+        return Reply("opened", *self.agent.clocks())
 
 
 CALLS = {

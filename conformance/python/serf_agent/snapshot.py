@@ -28,11 +28,15 @@ def value_of(line, kind):
     return value if value <= GREATEST_VALUE else None
 
 
+def lines_of(text):
+    """The lines of a snapshot's text; what follows the last newline is none."""
+    lines = text.split(b"\n")
+    return lines if wrong("torn_tail_is_read") else lines[:-1]
+
+
 def values_in(text):
     """The value of each kind in a snapshot's text: the greatest of its lines, and 0 without one."""
-    lines = text.split(b"\n")
-    if not wrong("torn_tail_is_read"):
-        lines = lines[:-1]
+    lines = lines_of(text)
     found = {}
     for kind in KINDS:
         values = [value for value in (value_of(line, kind) for line in lines) if value is not None]
@@ -87,8 +91,8 @@ class Disk:
 class Snapshot:
     """Clock lines on a disk. After the disk failed nothing is written any more."""
 
-    def __init__(self, text):
-        self.values = values_in(text)
+    def __init__(self, text, keeps=False):
+        self.values, self.keeps = values_in(text), keeps
         if text and not text.endswith(b"\n") and not wrong("torn_tail_is_not_ended"):
             text += b"#\n"
         self.disk = Disk(text)
@@ -111,18 +115,41 @@ class Snapshot:
         self.guarded(lambda: self.keep(kind, value))
         self.values[kind] = max(value, self.values[kind])
 
+    def note_kept(self, kind, value, line):
+        """Writes a line of what is kept, and before it the line of its kind where the value rises; all in one flush."""
+        clock = b"" if value <= self.values[kind] else self.clock_line(kind, value)
+        if wrong("no_kept_line_below_the_clock_line") and value and not clock:
+            return
+        if wrong("kept_line_without_its_clock_line"):
+            clock = b""
+        self.guarded(lambda: self.flushed(line + clock if wrong("clock_line_behind_the_kept_line") else clock + line))
+        self.values[kind] = max(value, self.values[kind])
+
+    def clock_line(self, kind, value):
+        """A clock line; that of events or of queries has a zero in front where these are kept."""
+        has_zero = self.keeps and kind != KINDS[0] and not wrong("no_zero_in_clock_lines")
+        return f"{kind}: {'0' if has_zero else ''}{value}\n".encode()
+
     def keep(self, kind, value):
-        self.disk.append(f"{kind}: {value}\n".encode())
+        self.flushed(self.clock_line(kind, value))
+
+    def flushed(self, line):
+        self.disk.append(line)
         if not wrong("line_is_not_flushed"):
             self.disk.flush()
 
-    def compact(self):
+    def compacted(self, kept):
+        """What a compaction leaves: the lines of what is kept, and the last line of each kind."""
         kinds = [kind for kind in KINDS if self.values[kind]]
         if wrong("compaction_drops_query_line"):
             kinds = [kind for kind in kinds if kind != "query-clock"]
         if wrong("compaction_in_another_order"):
             kinds.reverse()
-        text = b"".join(f"{kind}: {self.values[kind]}\n".encode() for kind in kinds)
+        return kept + b"".join(self.clock_line(kind, self.values[kind]) for kind in kinds)
+
+    def compact(self, kept=b""):
+        """Replaces the text by what a compaction leaves."""
+        text = self.compacted(kept)
         if not text and wrong("nothing_to_compact"):
             return
         self.guarded(lambda: self.disk.replace(b"" if wrong("compaction_writes_nothing") else text))

@@ -187,6 +187,33 @@ SWITCHES = {
     "stopped_reads_first": "a stopped agent tells a packet's fault first",
     "stopped_refuses_respond": "a stopped agent answers no query",
     "stopped_refuses_close": "a stopped agent closes no query",
+    # events kept over a restart, where the settings say so
+    "first_kept_event_forgotten": "a restart forgets the first event that the snapshot keeps",
+    "kept_queries_forgotten": "a restart takes no query back",
+    "kept_texts_turned": "the line of an event has its payload before its name",
+    "least_lines_passed_over": "a restart takes below the least time that a line says",
+    "last_least_line_wins": "of the lines that say a least time the last one counts, and not the greatest",
+    "clock_line_without_a_zero_passed_over": "a restart takes what was handed out in a life that kept no events",
+    "clock_line_with_a_zero_counts": "a restart takes nothing up to the last clock line",
+    "least_time_above_the_clock": "after a restart the clock stands below the least time",
+    "taken_back_is_handed_out": "a restart hands out again what it takes back",
+    "full_time_left_out_alone": "what a restart leaves out of a full time can be taken again after a compaction",
+    "any_number_taken_back": "a restart takes back any number of events of one time",
+    "line_above_the_clock_line_taken_back": "a restart takes back an event above the last clock line",
+    "loose_kept_lines": "two spaces in the line of an event or a query are read as one",
+    "no_zero_in_clock_lines": "a clock line of an agent that keeps its events has no zero in front",
+    "no_kept_line_below_the_clock_line": "an event or a query that isn't above the last clock line leaves no line",
+    "kept_line_without_its_clock_line": "the line of an event or a query has no clock line before it",
+    "join_leaves_no_least_line": "the least time that a join sets doesn't outlive a restart",
+    "join_line_only_where_it_rises": "a join leaves a line only where it raises the least time of this life",
+    "failed_join_is_heard_of": "a join whose line failed moves the clocks",
+    "compaction_drops_a_held_line": "a compaction leaves out the first event, and the first query, that is held",
+    "compaction_tells_no_least_time": "a compaction leaves no line of a least time",
+    "compaction_tells_the_minimum_alone": "a compaction's least time leaves out what the window has passed",
+    "compaction_counts_from_the_clock": "a compaction's least time is that of the clock's window, which can be above the last clock line",
+    "compaction_forgets_what_a_join_set": "a compaction's least time is at most one above the last clock line",
+    "compaction_leaves_old_lines": "a compaction leaves the lines of what the window has passed",
+    "clock_line_behind_the_kept_line": "the line of an event stands before its clock line",
     # what only a look shows
     "half_a_line_is_kept": "a disk that fails at an append keeps half of the line",
     "refused_join_lifts_nothing": "a join at which the disk fails lifts no least time",
@@ -196,6 +223,36 @@ SWITCHES = {
 
 # No other reply shows these.
 ONLY_BY_LOOK = ("half_a_line_is_kept", "refused_join_lifts_nothing", "failed_line_moves_clock", "compaction_in_another_order")
+
+# Where no agent keeps its events, nothing shows these.
+ONLY_BY_KEEPING = (
+    "first_kept_event_forgotten",
+    "kept_queries_forgotten",
+    "kept_texts_turned",
+    "least_lines_passed_over",
+    "last_least_line_wins",
+    "clock_line_without_a_zero_passed_over",
+    "clock_line_with_a_zero_counts",
+    "least_time_above_the_clock",
+    "taken_back_is_handed_out",
+    "full_time_left_out_alone",
+    "any_number_taken_back",
+    "line_above_the_clock_line_taken_back",
+    "loose_kept_lines",
+    "no_zero_in_clock_lines",
+    "no_kept_line_below_the_clock_line",
+    "kept_line_without_its_clock_line",
+    "join_leaves_no_least_line",
+    "join_line_only_where_it_rises",
+    "failed_join_is_heard_of",
+    "compaction_drops_a_held_line",
+    "compaction_tells_no_least_time",
+    "compaction_tells_the_minimum_alone",
+    "compaction_counts_from_the_clock",
+    "compaction_forgets_what_a_join_set",
+    "compaction_leaves_old_lines",
+    "clock_line_behind_the_kept_line",
+)
 
 # Where no agent has limits of packets of its own, as in random schedules, nothing shows these.
 ONLY_BY_LIMITS = ("query_limit_not_read", "response_limit_not_read", "limits_of_packets_turned")

@@ -15,6 +15,29 @@ class Window:
         self.clock, self.minimum = clock, minimum
         self.slots = [None] * slots
 
+    def go_on(self, last, least):
+        """Goes on from a text's last clock line and its least time, which can be above that."""
+        self.clock = last + 1 if wrong("least_time_above_the_clock") else max(last + 1, least)
+        self.minimum = least
+
+    def take_back(self, time, entry, reason):
+        """Takes an entry back that a text keeps, where nothing speaks against it.
+
+        What finds its time full is left out. It can't be known again, so no time up to its own is taken any more.
+        """
+        if reason is None or (reason == "TimeFull" and wrong("any_number_taken_back")):
+            self.enter(time, entry)
+        elif reason == "TimeFull" and not wrong("full_time_left_out_alone"):
+            self.minimum = max(self.minimum, time + 1)
+
+    def reach(self):
+        """The first time that isn't too old."""
+        return max(self.clock - self.size, 0)
+
+    def held_from(self, least):
+        """What the slots hold from a time on, in the order of the slots."""
+        return [(held[0], entry) for held in self.slots if held is not None and held[0] >= least for entry in held[1]]
+
     def observed(self, time):
         """The clock, once it has seen a time."""
         after = time if wrong("witness_without_one") else time + 1

@@ -1,5 +1,5 @@
 -- What sound settings are.
-use Rattle.serf_agent.proofs.Names.{◌≡◌, ◌≤◌, ◌&&◌, nat_le, Bool, true, length, and_parts, leb-true}
+use Rattle.serf_agent.proofs.Names.{◌≡◌, ◌<◌, ◌≤◌, ◌&&◌, nat_le, Bool, true, length, arith, and_parts, leb-true}
 use Rattle.serf_agent.specs.declared.config.Config.{Config}
 use Rattle.serf_agent.specs.Config.{is_sound, is_between}
 
@@ -35,3 +35,13 @@ name-sound c h =
     let slots = and_parts (is_between 1 128 (length c.name) && is_between 1 65536 c.event_buffer) (is_between 1 65536 c.query_buffer) buffers.0 in
     let name = and_parts (is_between 1 128 (length c.name)) (is_between 1 65536 c.event_buffer) slots.0 in
     leb-true (length c.name) 128 (and_parts (nat_le 1 (length c.name)) (nat_le (length c.name) 128) name.0).1
+
+-- each buffer has a slot
+pub buffers-sound : (c : Config) → is_sound c ≡ true → (0 < c.event_buffer) × (0 < c.query_buffer)
+buffers-sound c h =
+    let buffers = and_parts (buffers_of c) (nat_le c.event_limit 9216) (events c h) in
+    let slots = and_parts (is_between 1 128 (length c.name) && is_between 1 65536 c.event_buffer) (is_between 1 65536 c.query_buffer) buffers.0 in
+    let event = and_parts (is_between 1 128 (length c.name)) (is_between 1 65536 c.event_buffer) slots.0 in
+    let some : 1 ≤ c.event_buffer = leb-true 1 c.event_buffer (and_parts (nat_le 1 c.event_buffer) (nat_le c.event_buffer 65536) event.1).0 in
+    let more : 1 ≤ c.query_buffer = leb-true 1 c.query_buffer (and_parts (nat_le 1 c.query_buffer) (nat_le c.query_buffer 65536) slots.1).0 in
+    (omega (arith, some), omega (arith, more))

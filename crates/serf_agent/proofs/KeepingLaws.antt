@@ -59,10 +59,10 @@ pub Contains-entry : {K : Type 0} (ps : List (Past K)) (p : Past K) → Contains
 Contains-entry {K} ps p there = Contains-map (λ (q : Past K). q.entry) ps p there
 
 -- pairs of a list, and of two lists one behind the other
-pairs-head : {A : Type 0} (R : A → A → Type 0) (x : A) (xs : List A) → AllPairs R (x ∷ xs) → All (R x) xs
+pub pairs-head : {A : Type 0} (R : A → A → Type 0) (x : A) (xs : List A) → AllPairs R (x ∷ xs) → All (R x) xs
 pairs-head R x xs h = λ k d within. h 0 (suc k) d (omega arith) (omega arith)
 
-pairs-tail : {A : Type 0} (R : A → A → Type 0) (x : A) (xs : List A) → AllPairs R (x ∷ xs) → AllPairs R xs
+pub pairs-tail : {A : Type 0} (R : A → A → Type 0) (x : A) (xs : List A) → AllPairs R (x ∷ xs) → AllPairs R xs
 pairs-tail R x xs h = λ i j d lt within. h (suc i) (suc j) d (omega arith) (omega arith)
 
 pairs-append : {A : Type 0} (R : A → A → Type 0) (xs ys : List A) → AllPairs R xs → AllPairs R ys → All (λ x. All (R x) ys) xs → AllPairs R (xs ++ ys)
@@ -78,13 +78,13 @@ abbrev is_this : {K : Type 0} → (K → K → Bool) → ℕ → K → TimedEntr
 is_this same t what e = (e.time == t) && same e.key what
 
 -- what is among entries was entered
-entered-contained : {K : Type 0} (same : K → K → Bool) → ((a : K) → same a a ≡ true) → (es : List (TimedEntry K)) (e : TimedEntry K) → Contains es e → was_entered same es e.time e.key ≡ true
+pub entered-contained : {K : Type 0} (same : K → K → Bool) → ((a : K) → same a a ≡ true) → (es : List (TimedEntry K)) (e : TimedEntry K) → Contains es e → was_entered same es e.time e.key ≡ true
 entered-contained {K} same itself es e there =
     let this : is_this same e.time e.key e ≡ true = and_from (e.time == e.time) (same e.key e.key) (eq-eqb e.time e.time refl) (itself e.key) in
     list_any_at (is_this same e.time e.key) es there.0 e there.1 (subst (λ (x : TimedEntry K). is_this same e.time e.key x ≡ true) (sym there.2) this)
 
 -- and what was entered is among them, where the test tells equal keys
-contained-entered : {K : Type 0} (same : K → K → Bool) → ((a b : K) → same a b ≡ true → a ≡ b) → (es : List (TimedEntry K)) (e : TimedEntry K) → was_entered same es e.time e.key ≡ true → Contains es e
+pub contained-entered : {K : Type 0} (same : K → K → Bool) → ((a b : K) → same a b ≡ true → a ≡ b) → (es : List (TimedEntry K)) (e : TimedEntry K) → was_entered same es e.time e.key ≡ true → Contains es e
 contained-entered {K} same tells [] e h = absurd (cc h)
 contained-entered {K} same tells (d ∷ es) e h = elim (or_cases (is_this same e.time e.key d) (was_entered same es e.time e.key) h) [
   | inl this ↦
@@ -233,10 +233,10 @@ only_kept {K} laws same n k life last least kept track =
 
 -- ---- of events, and of queries
 
-same_texts-itself : (a : EventBody) → same_texts a a ≡ true
+pub same_texts-itself : (a : EventBody) → same_texts a a ≡ true
 same_texts-itself a = and_from _ _ ((bytes_eq-Decides a.name a.name).1 refl) ((bytes_eq-Decides a.payload a.payload).1 refl)
 
-same_texts-tells : (a b : EventBody) → same_texts a b ≡ true → a ≡ b
+pub same_texts-tells : (a b : EventBody) → same_texts a b ≡ true → a ≡ b
 same_texts-tells a b h =
     let parts = and_parts (bytes_eq a.name b.name) (bytes_eq a.payload b.payload) h in
     let name : a.name ≡ b.name = (bytes_eq-Decides a.name b.name).0 parts.0 in

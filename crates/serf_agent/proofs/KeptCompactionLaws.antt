@@ -13,11 +13,12 @@ use Rattle.serf_snap.specs.EventLines.{event_line, least_in, least_line, query_l
 use Rattle.serf_snap.specs.KeptNotes.{SaysNoClock, kept_compaction_of, kept_line_above_zero}
 use Rattle.serf_agent.specs.Ideal.{IdealAgent, Past, Track}
 use Rattle.serf_agent.specs.Keeping.{in_life}
-use Rattle.serf_agent.specs.KeptLines.{AreTold, CompactionLaws, held_from, held_in, kept_lines, least_told, lines_told, track_lines}
+use Rattle.serf_agent.specs.KeptLines.{AreTold, CompactionLaws, held_from, held_in, kept_lines, least_told, lines_told, stored_lines}
 use Rattle.serf_agent.specs.KeptTexts.{AreKept, IsIdShort, IsIdTold, IsShort, IsTold, KeptEventLaws, KeptQueryLaws, KeptTextLaws, kept_events, kept_queries, line_of_event, whatever}
 use Rattle.serf_agent.specs.KeptRestart.{HasKept}
 use Rattle.serf_agent.specs.Sound.{IsSound}
-use Rattle.serf_agent.specs.Tracks.{IsTrackSound, of_life}
+use Rattle.serf_agent.specs.Tracks.{ConcreteTrack, IsTrackSound, of_life, view_of_track}
+use Rattle.serf_agent.specs.View.{ConcreteState, view_of}
 use Rattle.serf_agent.proofs.KeepingLaws.{All-kept, Contains-entry, Contains-map}
 use Rattle.serf_agent.proofs.TrackLaws.{slots-below}
 
@@ -30,11 +31,15 @@ pub record BelowCompactions : Type 0 where
   pub query_texts : KeptQueryLaws
   pub least_own : (k : ClockKind) (text : List ℕ) (t : ℕ) → is_whole text ≡ true → t ≤ 2 ^ 64 - 1 → least_in k (text ++ least_line k t) ≡ max (least_in k text) t
   pub least_grows : (k : ClockKind) (front tail : List ℕ) → least_in k front ≤ least_in k (front ++ tail)
-  pub event_line_whole : (t : ℕ) (name payload : List ℕ) → t < 2 ^ 64 - 1 → SaysNoClock (event_line t name payload)
-  pub query_line_whole : (t id : ℕ) → t < 2 ^ 64 - 1 → id < 2 ^ 32 → SaysNoClock (query_line t id)
-  pub least_line_whole : (k : ClockKind) (t : ℕ) → t ≤ 2 ^ 64 - 1 → SaysNoClock (least_line k t)
+  pub event_line_whole : (t : ℕ) (name payload : List ℕ) → SaysNoClock (event_line t name payload)
+  pub query_line_whole : (t id : ℕ) → SaysNoClock (query_line t id)
+  pub least_line_whole : (k : ClockKind) (t : ℕ) → SaysNoClock (least_line k t)
   pub both : (a b : List ℕ) → SaysNoClock a → SaysNoClock b → SaysNoClock (a ++ b)
   pub whole : (text line : List ℕ) → is_whole text ≡ true → is_whole line ≡ true → is_whole (text ++ line) ≡ true
+
+-- the lines of what is stored of a track in a life
+abbrev pub track_lines : {K : Type 0} → ClockKind → (ℕ → K → List ℕ) → ℕ → ℕ → ℕ → Track K → List ℕ
+track_lines kind line n life last track = stored_lines kind line n last (view_of_track n life track)
 
 -- ---- lists
 
@@ -57,9 +62,9 @@ abbrev entry_at : {K : Type 0} → ℕ → K → TimedEntry K
 entry_at t key = record { time = t; key = key }
 
 -- an entry that may still be taken stands in its slot
-held-entry : {K : Type 0} (laws : SlotLaws K) (n life last : ℕ) (track : Track K) → IsTrackSound track life last → 0 < n → (p : Past K) → Contains track.history p → least_told n last track ≤ p.entry.time
-    → Contains (held_from (least_told n last track) (slots_of n (of_life life track.history))) p.entry
-held-entry {K} laws n life last track sound pos p there high = by (laws.held_or_too_old n track.clock t es pos below)
+held-entry : {K : Type 0} (laws : SlotLaws K) (n life last : ℕ) (track : Track K) → IsTrackSound track life last → 0 < n → (p : Past K) → Contains track.history p → least_told n last track.minimum ≤ p.entry.time
+    → Contains (held_from (least_told n last track.minimum) (slots_of n (of_life life track.history))) p.entry
+held-entry {K} laws n life last track sound pos p there high = by (laws.held_or_too_old n (last + 1) t es pos below)
   where
     t : ℕ
     t = p.entry.time
@@ -76,18 +81,15 @@ held-entry {K} laws n life last track sound pos p there high = by (laws.held_or_
     reached : p.entry.time ≤ last
     reached = All-contains (λ (q : Past K). q.entry.time ≤ last) track.history p sound.noted there
 
-    behind : p.entry.time < track.clock
-    behind = All-contains (λ (q : Past K). q.entry.time < track.clock) track.history p sound.below_clock there
-
-    below : TimesBelow track.clock (slots_of n (of_life life track.history))
-    below = slots-below n life track.clock track.history (omega (arith, behind)) sound.below_clock
+    below : TimesBelow (last + 1) (slots_of n (of_life life track.history))
+    below = slots-below n life (last + 1) track.history (omega arith) (All-weaker (λ (q : Past K). q.entry.time ≤ last) (λ (q : Past K). q.entry.time < last + 1) (λ q up. omega (arith, up)) track.history sound.noted)
 
     own : p.life ≡ life
     own =
         let le : p.life ≤ life = All-contains (λ (q : Past K). q.life ≤ life) track.history p sound.lives there in
         let before : p.life < life → p.entry.time < track.minimum = All-contains (λ (q : Past K). q.life < life → q.entry.time < track.minimum) track.history p sound.earlier there in
         elim (cases_lt p.life life) [
-          | inl old ↦ absurd (let low : p.entry.time < track.minimum = before old in let up : p.entry.time ≤ last = reached in omega (arith, low, up, high))
+          | inl old ↦ absurd (let low : p.entry.time < track.minimum = before old in omega (arith, low, high))
           | inr now ↦ omega arith
         ]
 
@@ -107,24 +109,24 @@ held-entry {K} laws n life last track sound pos p there high = by (laws.held_or_
         let size : length (slots_of n (of_life life track.history)) ≡ n = laws.size n (of_life life track.history) in
         Contains-get_or (slots_of n (of_life life track.history)) (p.entry.time % length (slots_of n (of_life life track.history))) empty_slot (omega (arith, size, pos))
 
-    in_slot : (b : Bool) → (slot.time == p.entry.time) ≡ b → Contains (cond b slot.held []) p.entry.key → Contains (held_in (least_told n last track) slot) p.entry
+    in_slot : (b : Bool) → (slot.time == p.entry.time) ≡ b → Contains (cond b slot.held []) p.entry.key → Contains (held_in (least_told n last track.minimum) slot) p.entry
     in_slot false is inside = absurd (omega (arith, inside.1))
     in_slot true is inside =
         let same : slot.time ≡ p.entry.time = eqb-true slot.time p.entry.time is in
-        let late : nat_lt slot.time (least_told n last track) ≡ false = le-ltb slot.time (least_told n last track) (omega (arith, same, high)) in
+        let late : nat_lt slot.time (least_told n last track.minimum) ≡ false = le-ltb slot.time (least_told n last track.minimum) (omega (arith, same, high)) in
         let told : Contains (map (entry_at slot.time) slot.held) (entry_at slot.time p.entry.key) = Contains-map (entry_at slot.time) slot.held p.entry.key inside in
         let entry : Contains (map (entry_at slot.time) slot.held) p.entry = subst (λ (m : ℕ). Contains (map (entry_at slot.time) slot.held) (entry_at m p.entry.key)) same told in
         subst (λ (b : Bool). Contains (cond b [] (map (entry_at slot.time) slot.held)) p.entry) (sym late) entry
 
-    by : (held_of (slot_for (slots_of n (of_life life track.history)) p.entry.time) p.entry.time ≡ held_at p.entry.time (of_life life track.history)) ⊎ (p.entry.time + n < track.clock)
-        → Contains (held_from (least_told n last track) (slots_of n (of_life life track.history))) p.entry
-    by (inr old) = absurd (let up : p.entry.time ≤ last = reached in omega (arith, old, up, high))
+    by : (held_of (slot_for (slots_of n (of_life life track.history)) p.entry.time) p.entry.time ≡ held_at p.entry.time (of_life life track.history)) ⊎ (p.entry.time + n < last + 1)
+        → Contains (held_from (least_told n last track.minimum) (slots_of n (of_life life track.history))) p.entry
+    by (inr old) = absurd (omega (arith, old, high))
     by (inl same) =
-        Contains-flat_map (held_in (least_told n last track)) slots slot p.entry here
+        Contains-flat_map (held_in (least_told n last track.minimum)) slots slot p.entry here
         (in_slot (slot.time == p.entry.time) refl (subst (λ (l : List K). Contains l p.entry.key) (sym same) key_in))
 
 -- what the slots hold was entered
-only-entered : {K : Type 0} (laws : SlotLaws K) (n life least : ℕ) (history : List (Past K)) (P : TimedEntry K → Type 0) → All (λ p. P p.entry) history → All P (held_from least (slots_of n (of_life life history)))
+pub only-entered : {K : Type 0} (laws : SlotLaws K) (n life least : ℕ) (history : List (Past K)) (P : TimedEntry K → Type 0) → All (λ p. P p.entry) history → All P (held_from least (slots_of n (of_life life history)))
 only-entered {K} laws n life least history P all =
     All-flat_map (held_in least) P (slots_of n (of_life life history))
     (All-weaker (λ (s : SlotOf K). All (λ what. Contains (of_life life history) (entry_at s.time what)) s.held) (λ (s : SlotOf K). All P (held_in least s)) (λ s h. of_slot s h (nat_lt s.time least))
@@ -171,14 +173,14 @@ lines_kept {K} kind read line Told Short texts both line_whole (e ∷ es) histor
 -- the lines of a track, with bytes behind them
 track-kept : {K : Type 0} (kind : ClockKind) (read : Wanted → List ℕ → List (TimedEntry K)) (line : ℕ → K → List ℕ) (Told : K → Type 0) (Short : ℕ → K → Type 0) → BelowCompactions → SlotLaws K → KeptTextLaws kind read line Told Short
     → ((e : TimedEntry K) → Fits Told Short e → is_whole (line e.time e.key) ≡ true)
-    → (n life last : ℕ) (track : Track K) (front back : List ℕ) → IsTrackSound track life last → 0 < n → last < 2 ^ 64 - 1 → is_whole front ≡ true → All (λ p. Fits Told Short p.entry) track.history
+    → (n life last : ℕ) (track : Track K) (front back : List ℕ) → IsTrackSound track life last → track.minimum ≤ 2 ^ 64 - 1 → 0 < n → last < 2 ^ 64 - 1 → is_whole front ≡ true → All (λ p. Fits Told Short p.entry) track.history
     → (is_whole (front ++ track_lines kind line n life last track) ≡ true) × AreKept kind read track.history ((front ++ track_lines kind line n life last track) ++ back)
-track-kept {K} kind read line Told Short laws slots texts line_whole n life last track front back sound pos small whole fits =
-    let least : ℕ = least_told n last track in
+track-kept {K} kind read line Told Short laws slots texts line_whole n life last track front back sound low pos small whole fits =
+    let least : ℕ = least_told n last track.minimum in
     let told : List (TimedEntry K) = held_from least (slots_of n (of_life life track.history)) in
     let start : List ℕ = front ++ least_line kind least in
-    let bound : least ≤ 2 ^ 64 - 1 = omega arith in
-    let start_whole : is_whole start ≡ true = laws.whole front (least_line kind least) whole (laws.least_line_whole kind least bound).whole in
+    let bound : least ≤ 2 ^ 64 - 1 = omega (arith, low) in
+    let start_whole : is_whole start ≡ true = laws.whole front (least_line kind least) whole (laws.least_line_whole kind least).whole in
     let none : AreKept kind read [] start = All-nil (λ (p : Past K). (p.entry.time < least_in kind start) ⊎ Contains (read whatever start) p.entry) in
     let all = lines_kept kind read line Told Short texts laws.whole line_whole told [] start start_whole (only-entered slots n life least track.history (Fits Told Short) fits) none in
     let joined : start ++ lines_told line told ≡ front ++ track_lines kind line n life last track = append_assoc front (least_line kind least) (lines_told line told) in
@@ -201,51 +203,43 @@ track-kept {K} kind read line Told Short laws slots texts line_whole n life last
         let P : Past K → Type 0 = λ q. (q.entry.time < least_in kind text) ⊎ Contains (read whatever text) q.entry in
         All-cons (λ x. (x.time < least_in kind text) ⊎ Contains (read whatever text) x) e es (All-head P p (in_life 0 es) h) (back_to es text (All-tail P p (in_life 0 es) h))
 
-    each : (text : List ℕ) → least_told n last track ≤ least_in kind text → All (λ e. (e.time < least_in kind text) ⊎ Contains (read whatever text) e) (held_from (least_told n last track) (slots_of n (of_life life track.history)))
+    each : (text : List ℕ) → least_told n last track.minimum ≤ least_in kind text → All (λ e. (e.time < least_in kind text) ⊎ Contains (read whatever text) e) (held_from (least_told n last track.minimum) (slots_of n (of_life life track.history)))
         → (ps : List (Past K)) → ((p : Past K) → Contains ps p → Contains track.history p) → All (λ p. (p.entry.time < least_in kind text) ⊎ Contains (read whatever text) p.entry) ps
     each text high stands [] inside = All-nil (λ p. (p.entry.time < least_in kind text) ⊎ Contains (read whatever text) p.entry)
     each text high stands (p ∷ ps) inside =
         All-cons (λ q. (q.entry.time < least_in kind text) ⊎ Contains (read whatever text) q.entry) p ps
-        (elim (cases_lt p.entry.time (least_told n last track)) [
+        (elim (cases_lt p.entry.time (least_told n last track.minimum)) [
           | inl low ↦ inl (omega (arith, low, high))
-          | inr late ↦ All-contains (λ e. (e.time < least_in kind text) ⊎ Contains (read whatever text) e) (held_from (least_told n last track) (slots_of n (of_life life track.history))) p.entry stands
+          | inr late ↦ All-contains (λ e. (e.time < least_in kind text) ⊎ Contains (read whatever text) e) (held_from (least_told n last track.minimum) (slots_of n (of_life life track.history))) p.entry stands
               (held-entry slots n life last track sound pos p (inside p (0, omega arith, refl)) late)
         ])
         (each text high stands ps (λ q there. inside q (Contains-append_right (p ∷ []) ps q there)))
 
 -- ---- what the lines say
 
-lines-say : {K : Type 0} (line : ℕ → K → List ℕ) (Fit : TimedEntry K → Type 0) → BelowCompactions → ((e : TimedEntry K) → Fit e → SaysNoClock (line e.time e.key)) → (es : List (TimedEntry K)) → All Fit es → SaysNoClock (lines_told line es)
-lines-say line Fit laws says [] fits = record { whole = refl; clocks = no_clock }
+lines-say : {K : Type 0} (line : ℕ → K → List ℕ) → BelowCompactions → ((t : ℕ) (what : K) → SaysNoClock (line t what)) → (es : List (TimedEntry K)) → SaysNoClock (lines_told line es)
+lines-say line laws says [] = record { whole = refl; clocks = no_clock }
   where
     no_clock : (kind : ClockKind) → last_clock kind [] ≡ 0
     no_clock kind = refl
-lines-say line Fit laws says (e ∷ es) fits = laws.both (line e.time e.key) (lines_told line es) (says e (All-head Fit e es fits)) (lines-say line Fit laws says es (All-tail Fit e es fits))
+lines-say line laws says (e ∷ es) = laws.both (line e.time e.key) (lines_told line es) (says e.time e.key) (lines-say line laws says es)
 
-track-says : {K : Type 0} (kind : ClockKind) (line : ℕ → K → List ℕ) (Fit : TimedEntry K → Type 0) → BelowCompactions → SlotLaws K → ((e : TimedEntry K) → Fit e → SaysNoClock (line e.time e.key)) → (n life last : ℕ) (track : Track K)
-    → last < 2 ^ 64 - 1 → All (λ p. Fit p.entry) track.history → SaysNoClock (track_lines kind line n life last track)
-track-says {K} kind line Fit laws slots says n life last track small fits =
-    let least : ℕ = least_told n last track in
-    let bound : least ≤ 2 ^ 64 - 1 = omega arith in
-    laws.both (least_line kind least) (lines_told line (held_from least (slots_of n (of_life life track.history)))) (laws.least_line_whole kind least bound)
-    (lines-say line Fit laws says (held_from least (slots_of n (of_life life track.history))) (only-entered slots n life least track.history Fit fits))
+track-says : {K : Type 0} (kind : ClockKind) (line : ℕ → K → List ℕ) → BelowCompactions → ((t : ℕ) (what : K) → SaysNoClock (line t what)) → (n last : ℕ) (track : ConcreteTrack K) → SaysNoClock (stored_lines kind line n last track)
+track-says kind line laws says n last track =
+    let least : ℕ = least_told n last track.minimum in
+    laws.both (least_line kind least) (lines_told line (held_from least track.slots)) (laws.least_line_whole kind least) (lines-say line laws says (held_from least track.slots))
 
-says_no_clock : BelowCompactions → (i : IdealAgent) → IsSound i → AreTimes i.snapshot → All (λ p. IsIdTold p.entry.key) i.queries.history → SaysNoClock (kept_lines i)
-says_no_clock laws i sound times told =
-    let event : ℕ = i.snapshot.event_clock in
-    let asked : ℕ = i.snapshot.query_clock in
-    let low_event : event < 2 ^ 64 - 1 = times.event_clock in
-    let low_query : asked < 2 ^ 64 - 1 = times.query_clock in
-    laws.both (track_lines kinds.Event line_of_event i.config.event_buffer i.life event i.events) (track_lines kinds.Query query_line i.config.query_buffer i.life asked i.queries)
-    (track-says kinds.Event line_of_event (λ (e : TimedEntry EventBody). e.time ≤ event) laws laws.event_slots (λ e low. laws.event_line_whole e.time e.key.name e.key.payload (omega arith)) i.config.event_buffer i.life event i.events low_event sound.events.noted)
-    (track-says kinds.Query query_line (λ (e : TimedEntry ℕ). (e.time ≤ asked) × IsIdTold e.key) laws laws.query_slots (λ e low. laws.query_line_whole e.time e.key (omega (arith, low.0)) low.1) i.config.query_buffer i.life asked i.queries low_query
-    (λ k d inside. (sound.queries.noted k d inside, told k d inside)))
+says_no_clock : BelowCompactions → (a : ConcreteState) → SaysNoClock (kept_lines a)
+says_no_clock laws a =
+    laws.both (stored_lines kinds.Event line_of_event a.config.event_buffer a.snapshot.event_clock a.events) (stored_lines kinds.Query query_line a.config.query_buffer a.snapshot.query_clock a.queries)
+    (track-says kinds.Event line_of_event laws (λ t what. laws.event_line_whole t what.name what.payload) a.config.event_buffer a.snapshot.event_clock a.events)
+    (track-says kinds.Query query_line laws laws.query_line_whole a.config.query_buffer a.snapshot.query_clock a.queries)
 
 -- ---- an agent
 
-keeps : BelowCompactions → (i : IdealAgent) → IsSound i → 0 < i.config.event_buffer → 0 < i.config.query_buffer → AreTimes i.snapshot → AreTold IsTold i.events.history → AreTold IsIdTold i.queries.history
-    → HasKept i (kept_compaction_of (kept_lines i) i.snapshot)
-keeps laws i sound some_events some_queries times told_events told_queries =
+keeps : BelowCompactions → (i : IdealAgent) → IsSound i → 0 < i.config.event_buffer → 0 < i.config.query_buffer → AreTimes i.snapshot → i.events.minimum ≤ 2 ^ 64 - 1 → i.queries.minimum ≤ 2 ^ 64 - 1 → AreTold IsTold i.events.history → AreTold IsIdTold i.queries.history
+    → HasKept i (kept_compaction_of (kept_lines (view_of i)) i.snapshot)
+keeps laws i sound some_events some_queries times low_event low_query told_events told_queries =
     let s = i.snapshot in
     let ev : List ℕ = track_lines kinds.Event line_of_event i.config.event_buffer i.life i.snapshot.event_clock i.events in
     let qu : List ℕ = track_lines kinds.Query query_line i.config.query_buffer i.life i.snapshot.query_clock i.queries in
@@ -254,10 +248,10 @@ keeps laws i sound some_events some_queries times told_events told_queries =
     let q : List ℕ = kept_line_above_zero kinds.Query i.snapshot.query_clock in
     let event_fits : All (λ (p : Past EventBody). Fits IsTold IsShort p.entry) i.events.history = λ k d inside. let t = told_events k d inside in (t.0, t.1, t.2, sound.short k d inside) in
     let query_fits : All (λ (p : Past ℕ). Fits IsIdTold IsIdShort p.entry) i.queries.history = λ k d inside. let t = told_queries k d inside in (t.0, t.1, t.2, omega arith) in
-    let events = track-kept kinds.Event kept_events line_of_event IsTold IsShort laws laws.event_slots laws.event_texts (λ x fit. (laws.event_line_whole x.time x.key.name x.key.payload fit.1).whole)
-    i.config.event_buffer i.life i.snapshot.event_clock i.events [] qu sound.events some_events times.event_clock refl event_fits in
-    let queries = track-kept kinds.Query kept_queries query_line IsIdTold IsIdShort laws laws.query_slots laws.query_texts (λ x fit. (laws.query_line_whole x.time x.key fit.1 fit.2).whole)
-    i.config.query_buffer i.life i.snapshot.query_clock i.queries ev m sound.queries some_queries times.query_clock events.0 query_fits in
+    let events = track-kept kinds.Event kept_events line_of_event IsTold IsShort laws laws.event_slots laws.event_texts (λ x fit. (laws.event_line_whole x.time x.key.name x.key.payload).whole)
+    i.config.event_buffer i.life i.snapshot.event_clock i.events [] qu sound.events low_event some_events times.event_clock refl event_fits in
+    let queries = track-kept kinds.Query kept_queries query_line IsIdTold IsIdShort laws laws.query_slots laws.query_texts (λ x fit. (laws.query_line_whole x.time x.key).whole)
+    i.config.query_buffer i.life i.snapshot.query_clock i.queries ev m sound.queries low_query some_queries times.query_clock events.0 query_fits in
     record {
       events = laws.event_texts.grows i.events.history (((ev ++ qu) ++ m) ++ e) q (laws.event_texts.grows i.events.history ((ev ++ qu) ++ m) e (laws.event_texts.grows i.events.history (ev ++ qu) m events.1));
       queries = laws.query_texts.grows i.queries.history (((ev ++ qu) ++ m) ++ e) q (laws.query_texts.grows i.queries.history ((ev ++ qu) ++ m) e queries.1);

@@ -9,7 +9,8 @@ use Rattle.serf_snap.specs.EventLines.{events_in, least_in, queries_in}
 use Rattle.serf_agent.specs.Events.{texts_len}
 use Rattle.serf_agent.specs.Ideal.{IdealAgent, Past}
 use Rattle.serf_agent.specs.Keeping.{KeepingLaws, entries_in}
-use Rattle.serf_agent.specs.KeptRestart.{HasKept, KeptRestartLaws, events_reached, queries_reached, restarted_kept}
+use Rattle.serf_agent.specs.KeptLaws.{KeptRestartLaws}
+use Rattle.serf_agent.specs.KeptRestart.{HasKept, events_reached, queries_reached, restarted_kept}
 use Rattle.serf_agent.specs.KeptTexts.{AreKept, IsIdShort, IsShort, KeptEventLaws, KeptQueryLaws, event_entry, kept_events, kept_queries, query_entry, whatever}
 use Rattle.serf_agent.specs.Restart.{IsInText}
 use Rattle.serf_agent.specs.Snapshots.{SnapshotLaws}
@@ -32,7 +33,7 @@ no-pairs : {A : Type 0} (R : A → A → Type 0) → AllPairs R []
 no-pairs R = λ i j d lt within. absurd (omega arith)
 
 -- what holds of each entry of two lists holds of a history whose entries are all among these
-among : {K : Type 0} (P : TimedEntry K → Type 0) (old new : List (Past K)) (kept : List (TimedEntry K)) → All (λ p. P p.entry) old → All P kept → All (Contains (entries_in old ++ kept)) (entries_in new) → All (λ p. P p.entry) new
+pub among : {K : Type 0} (P : TimedEntry K → Type 0) (old new : List (Past K)) (kept : List (TimedEntry K)) → All (λ p. P p.entry) old → All P kept → All (Contains (entries_in old ++ kept)) (entries_in new) → All (λ p. P p.entry) new
 among {K} P old new kept had back from =
     let both : All P (entries_in old ++ kept) = All-append P (entries_in old) kept (All-map P (λ (p : Past K). p.entry) old had) back in
     each new (All-weaker (Contains (entries_in old ++ kept)) P (λ e there. All-contains P (entries_in old ++ kept) e both there) (entries_in new) from)

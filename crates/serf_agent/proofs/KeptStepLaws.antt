@@ -22,7 +22,7 @@ pub record BelowSteps : Type 0 where
 
 -- ---- what is durable
 
-some-same : {X : Type 0} (x y : X) → Some x ≡ Some y → x ≡ y
+pub some-same : {X : Type 0} (x y : X) → Some x ≡ Some y → x ≡ y
 some-same x y h = cc
 
 -- bytes behind what was durable
@@ -31,7 +31,7 @@ grown-durable None bytes new at = absurd (cc at)
 grown-durable (Some old) bytes new at = (old, refl, some-same _ _ at)
 
 -- and a part of them
-part-durable : (s : Option (List ℕ)) (bytes new : List ℕ) → KeepsPart s bytes (Some new) → (old : List ℕ) × (more : List ℕ) × (s ≡ Some old) × (new ≡ old ++ more)
+pub part-durable : (s : Option (List ℕ)) (bytes new : List ℕ) → KeepsPart s bytes (Some new) → (old : List ℕ) × (more : List ℕ) × (s ≡ Some old) × (new ≡ old ++ more)
 part-durable None bytes new part = absurd (cc part)
 part-durable (Some old) bytes new part = (old, take part.0 bytes, refl, part.1)
 

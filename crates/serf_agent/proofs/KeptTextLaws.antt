@@ -1,4 +1,5 @@
 -- What a text keeps of what was handed out, and what an opening takes of it: of events and of queries alike.
+use Rattle.serf_wire.specs.Bytes.{AreBytes}
 use Rattle.serf_agent.proofs.Names.{◌≡◌, ℕ, zero, suc, ◌+◌, ◌-◌, ◌^◌, ◌<◌, ◌≤◌, ◌⊎◌, inl, inr, max, cond, Bool, true, false, List, [], ◌∷◌, ◌++◌, Option, Some, None, length, map, refl, sym, ◌∙◌, ap, subst, arith, All, cases_lt, lt-ltb, leb-true, and_from, and_parts, All-head, All-nil, All-push, All-tail, All-weaker, EventBody, TimedEntry}
 use Rattle.std.specs.Prelude.{Contains, slice_index_or}
 use Rattle.std.proofs.lemmas.Bool.{le-leb, ltb-true}
@@ -12,7 +13,7 @@ use Rattle.serf_snap.specs.EventLines.{event_line, event_of_line, events_in, if_
 use Rattle.serf_snap.specs.TimedEvent.{TimedEvent, timed_event}
 use Rattle.serf_agent.specs.Ideal.{Past}
 use Rattle.serf_agent.specs.Keeping.{IsHad, entries_in, opened_clock}
-use Rattle.serf_agent.specs.KeptTexts.{AreBytes, AreKept, IsIdShort, IsIdTold, IsShort, IsTold, KeptEventLaws, KeptQueryLaws, event_entry, kept_events, kept_queries, line_of_event, query_entry, whatever, within_reach}
+use Rattle.serf_agent.specs.KeptTexts.{AreKept, IsIdShort, IsIdTold, IsShort, IsTold, KeptEventLaws, KeptQueryLaws, event_entry, kept_events, kept_queries, line_of_event, query_entry, whatever, within_reach}
 use Rattle.serf_agent.proofs.KeepingLaws.{map-append}
 
 -- ---- what the crate below promises of least times, and of a line that is written
@@ -33,7 +34,7 @@ pub record QueryLaws : Type 0 where
 -- ---- what a line says
 
 -- what is read of lines, as entries
-abbrev entries_said : {K T : Type 0} → (List ℕ → Option T) → (T → Bool) → (T → TimedEntry K) → List (List ℕ) → List (TimedEntry K)
+abbrev pub entries_said : {K T : Type 0} → (List ℕ → Option T) → (T → Bool) → (T → TimedEntry K) → List (List ℕ) → List (TimedEntry K)
 entries_said item wanted entry lines = map entry (said_by_lines item wanted lines)
 
 only : {X : Type 0} (x e : X) (k : ℕ) → k < 1 → slice_index_or (x ∷ []) k e ≡ e → x ≡ e
@@ -51,7 +52,7 @@ read-one {K} {T} v w entry e wider (Some d) h = by (v d) refl h
         let passes : w d ≡ true = wider d (only (entry d) e h.0 h.1 h.2) is in
         subst (λ (b : Bool). Contains (map entry (cond b (d ∷ []) [])) e) (sym passes) h
 
-read-lines : {K T : Type 0} (item : List ℕ → Option T) (v w : T → Bool) (entry : T → TimedEntry K) (e : TimedEntry K) → ((d : T) → entry d ≡ e → v d ≡ true → w d ≡ true) → (lines : List (List ℕ)) → Contains (entries_said item v entry lines) e
+pub read-lines : {K T : Type 0} (item : List ℕ → Option T) (v w : T → Bool) (entry : T → TimedEntry K) (e : TimedEntry K) → ((d : T) → entry d ≡ e → v d ≡ true → w d ≡ true) → (lines : List (List ℕ)) → Contains (entries_said item v entry lines) e
     → Contains (entries_said item w entry lines) e
 read-lines item v w entry e wider [] h = absurd (omega (arith, h.1))
 read-lines {K} {T} item v w entry e wider (l ∷ ls) h =
@@ -80,14 +81,14 @@ all-wanted {T} item w (l ∷ ls) = All-append (λ (d : T). w d ≡ true) (if_wan
 -- ---- what is wanted
 
 -- How the items of a kind are read: what is wanted of them is told by their time and by their length.
-record Reads {K T : Type 0} (wanted : Wanted → T → Bool) (entry : T → TimedEntry K) (Short : ℕ → K → Type 0) : Type 0 where
-  passes : (w : Wanted) (d : T) → w.from ≤ (entry d).time → (entry d).time < w.below → Short w.longest (entry d).key → wanted w d ≡ true
-  from : (w : Wanted) (d : T) → wanted w d ≡ true → w.from ≤ (entry d).time
-  below : (w : Wanted) (d : T) → wanted w d ≡ true → (entry d).time < w.below
-  short : (w : Wanted) (d : T) → wanted w d ≡ true → Short w.longest (entry d).key
-  longer : (a b : ℕ) (key : K) → a ≤ b → Short a key → Short b key
+pub record Reads {K T : Type 0} (wanted : Wanted → T → Bool) (entry : T → TimedEntry K) (Short : ℕ → K → Type 0) : Type 0 where
+  pub passes : (w : Wanted) (d : T) → w.from ≤ (entry d).time → (entry d).time < w.below → Short w.longest (entry d).key → wanted w d ≡ true
+  pub from : (w : Wanted) (d : T) → wanted w d ≡ true → w.from ≤ (entry d).time
+  pub below : (w : Wanted) (d : T) → wanted w d ≡ true → (entry d).time < w.below
+  pub short : (w : Wanted) (d : T) → wanted w d ≡ true → Short w.longest (entry d).key
+  pub longer : (a b : ℕ) (key : K) → a ≤ b → Short a key → Short b key
 
-reads_events : Reads is_event_wanted event_entry IsShort
+pub reads_events : Reads is_event_wanted event_entry IsShort
 reads_events = record {
   passes = λ w d from below short. and_from _ _ (and_from _ _ (le-leb w.from d.time from) (lt-ltb d.time w.below below)) (le-leb (length d.name + length d.payload) w.longest short);
   from = λ w d h. leb-true _ _ (and_parts _ _ (and_parts _ _ h).0).0;

@@ -6,6 +6,8 @@ pub mod MemberClockLaws
 pub mod MergeLaws
 pub mod NoteLaws
 pub mod SendLaws
+pub mod RecallViews
+pub mod ToldLines
 pub mod SoundLaws
 pub mod StepLaws
 pub mod TakenQueries
@@ -20,3 +22,11 @@ pub mod KeptRestartLaws
 pub mod KeptStepLaws
 pub mod KeptCompactionLaws
 pub mod UnkeptLaws
+pub mod DurableLaws
+pub mod KeptLifeLaws
+pub mod MetLaws
+pub mod HandsOutLaws
+pub mod OfferLaws
+pub mod HandsOutLives
+pub mod JoinLaws
+pub mod WrongLives

@@ -1,7 +1,12 @@
 -- What each call leaves of an ideal agent's history, and so what is handed out over all lives.
-use Rattle.serf_agent.proofs.Names.{◌≡◌, ◌≢◌, ℕ, ◌-◌, ◌^◌, ◌<◌, ◌≤◌, ◌++◌, ◌∷◌, [], nat_le, cond, Bool, true, false, List, Option, Some, None, Result, Ok, Err, map, refl, sym, ap, subst, ◌∙◌, append-nil, arith, All, AllPairs, leb-false, All-nil, All-pop, All-push, All-weaker, all_pairs_push, WireFault, EventBody, decoded, Message, Query, QueryResponse, user_event, query, query_response, push_pull, foreign, InRange, event_of, TimedEntry, ClockKind, last_clock, Device, Writing, Kept, Failed, opened}
+use Rattle.serf_agent.proofs.Names.{◌≡◌, ◌≢◌, ℕ, ◌-◌, ◌^◌, ◌<◌, ◌≤◌, ◌++◌, ◌∷◌, [], nat_le, cond, Bool, true, false, List, Option, Some, None, Result, Ok, Err, map, refl, sym, ap, subst, ◌∙◌, append-nil, arith, All, AllPairs, leb-false, All-cons, All-head, All-nil, All-pop, All-push, All-tail, All-weaker, all_pairs_push, WireFault, EventBody, decoded, Message, PushPull, Query, QueryResponse, user_event, query, query_response, push_pull, foreign, InRange, event_of, TimedEntry, ClockKind, last_clock, Device, Writing, Kept, Failed, opened}
 use Rattle.serf_wire.specs.Laws.{DecodesInRange}
 use Rattle.serf_snap.specs.declared.kind.ClockKind.TheVariants as kinds
+use Rattle.std.specs.Prelude.{Contains}
+use Rattle.std.proofs.lemmas.List.Elements.{All-contains, All-map}
+use Rattle.serf_agent.specs.Keeping.{entries_in}
+use Rattle.serf_agent.specs.KeptLaws.{KeptRestartLaws}
+use Rattle.serf_agent.specs.KeptRestart.{HasKept}
 use Rattle.serf_agent.specs.Snapshots.{SnapshotLaws}
 use Rattle.serf_agent.specs.declared.config.Config.{Config}
 use Rattle.serf_agent.specs.declared.open_query.OpenQuery.{OpenQuery}
@@ -15,19 +20,19 @@ use Rattle.serf_agent.specs.declared.outcome.QueryParams.{QueryParams}
 use Rattle.serf_agent.specs.declared.outcome.Outcome.TheVariants as outcomes
 use Rattle.serf_agent.specs.declared.outcome.Reason.{Reason}
 use Rattle.serf_agent.specs.declared.outcome.ReceiveFault.TheVariants as receives
-use Rattle.serf_agent.specs.Calls.{MayEnd, answers, ended}
+use Rattle.serf_agent.specs.Calls.{AsksSink, MayEnd, answers, ended}
 use Rattle.serf_agent.specs.Config.{is_sound}
-use Rattle.serf_agent.specs.Events.{admission, drawn, event_observed, fire_fault, fired_as, is_too_large, received_as}
+use Rattle.serf_agent.specs.Events.{admission, drawn, event_observed, fire_fault, fired_as, is_too_large, received_as, told_event}
 use Rattle.serf_agent.specs.Handed.{Handed}
 use Rattle.serf_agent.specs.Ideal.{IdealAgent, Past, with_config}
 use Rattle.serf_agent.specs.Lives.{Act, Fires, Asks, Gets, Hears, Takes, Saves, Compacts, Closes, Opens, HasFlushed, HandsOutOnce, HandsOutQueriesOnce, FiresLater, AsksLater, DurableHasFlushed, Lived, MayAct, MayLive, acted, after, asked_entries, event_entry, events_out, fired_entries, first_life, got_entries, lived, queries_out, query_entries}
-use Rattle.serf_agent.specs.Queries.{all_pass, answer_ignore_reason, asked_at, counts_where, handed_query, is_ack, is_full, is_no_timeout, is_too_large_query, query_admission, query_at, query_fault, query_fired_as, query_observed, query_received_as, response_received_as, response_received_at}
+use Rattle.serf_agent.specs.Queries.{all_pass, answer_ignore_reason, asked_at, counts_where, handed_query, is_ack, is_full, is_no_timeout, is_too_large_query, query_admission, query_at, query_fault, query_fired_as, query_observed, query_received_as, response_received_as, response_received_at, told_query}
 use Rattle.serf_agent.specs.Receive.{receive_message, receive_read}
-use Rattle.serf_agent.specs.Restart.{IsInText, unopened}
+use Rattle.serf_agent.specs.Restart.{HasPast, IsInText, restarted, restarted_by, unopened}
 use Rattle.serf_agent.specs.Sound.{IsSound}
-use Rattle.serf_agent.specs.States.{handed_by}
+use Rattle.serf_agent.specs.States.{handed_by, heard_by, told_least}
 use Rattle.serf_agent.proofs.LineLaws.{compacts_so, saves_so}
-use Rattle.serf_agent.proofs.SoundLaws.{admission-new, query_admission-new, sound-closed, sound-compact, sound-counted, sound-event_entered, sound-event_observed, sound-joined, sound-note_failed, sound-query_asked, sound-query_entered, sound-query_observed, sound-restarted, sound-saved, sound-unopened, sound-with_config, text-unopened}
+use Rattle.serf_agent.proofs.SoundLaws.{admission-new, query_admission-new, sound-closed, sound-compact, sound-counted, sound-event_entered, sound-event_observed, sound-heard, sound-joined, sound-note_failed, sound-query_asked, sound-query_entered, sound-query_observed, sound-restarted, sound-saved, sound-unopened, sound-with_config, past-unopened}
 use Rattle.serf_agent.proofs.StepLaws.{small-short}
 use Rattle.serf_agent.proofs.TrackLaws.{later-fresh}
 
@@ -40,6 +45,7 @@ pub record Below : Type 0 where
   pub grows : (k : ClockKind) (front tail : List ℕ) → last_clock k front ≤ last_clock k (front ++ tail)
   pub ranged : DecodesInRange
   pub snapshots : SnapshotLaws
+  pub restart : KeptRestartLaws
 
 -- ---- a history, and what of it was handed out
 
@@ -49,11 +55,24 @@ pub record IsOnce {K : Type 0} (history : List (Past K)) (handed : List (TimedEn
   pub fresh : (e : TimedEntry K) → All (λ p. p.entry ≢ e) history → All (λ x. x ≢ e) handed
   pub below : (t : ℕ) → All (λ p. p.entry.time < t) history → All (λ x. x.time < t) handed
 
--- a history goes on: nothing entered, something entered that is new and was handed out, or wasn't
+-- a history goes on: nothing entered, something entered that is new and was handed out, or wasn't, or all was taken back that was
+-- entered before, with what else a text keeps
 pub data Grows {K : Type 0} (old new : List (Past K)) (more : List (TimedEntry K)) : Type 0 where
   stays : new ≡ old → more ≡ [] → Grows old new more
   enters : (p : Past K) → new ≡ old ++ p ∷ [] → more ≡ p.entry ∷ [] → All (λ q. q.entry ≢ p.entry) old → Grows old new more
   hides : (p : Past K) → new ≡ old ++ p ∷ [] → more ≡ [] → Grows old new more
+  recalls : All (Contains (entries_in new)) (entries_in old) → more ≡ [] → Grows old new more
+
+-- what holds of the entries of a history, and of the history
+pub of-entries : {K : Type 0} (P : TimedEntry K → Type 0) (ps : List (Past K)) → All P (entries_in ps) → All (λ p. P p.entry) ps
+of-entries {K} P [] h = All-nil (λ (p : Past K). P p.entry)
+of-entries {K} P (p ∷ ps) h = All-cons (λ (q : Past K). P q.entry) p ps (All-head P p.entry (entries_in ps) h) (of-entries P ps (All-tail P p.entry (entries_in ps) h))
+
+-- what holds of each of a history, holds of each of one that has no others
+held-among : {K : Type 0} (P : TimedEntry K → Type 0) (old new : List (Past K)) → All (Contains (entries_in new)) (entries_in old) → All (λ p. P p.entry) new → All (λ p. P p.entry) old
+held-among {K} P old new among each =
+    let entries : All P (entries_in new) = All-map P (λ (p : Past K). p.entry) new each in
+    of-entries P old (All-weaker (Contains (entries_in new)) P (λ e there. All-contains P (entries_in new) e entries there) (entries_in old) among)
 
 grown : {K : Type 0} (old new : List (Past K)) (more handed : List (TimedEntry K)) → IsOnce old handed → Grows old new more → IsOnce new (handed ++ more)
 grown {K} old new more handed h (stays same none) =
@@ -72,6 +91,13 @@ grown {K} old new more handed h (hides p same none) =
       below = λ t all. h.below t (All-pop (λ (q : Past K). q.entry.time < t) (old ++ p ∷ []) old (Some p) refl all).0;
     } in
     subst (λ (l : List (TimedEntry K)). IsOnce new l) (sym (ap (λ (m : List (TimedEntry K)). handed ++ m) none ∙ append-nil handed)) (subst (λ (l : List (Past K)). IsOnce l handed) (sym same) both)
+grown {K} old new more handed h (recalls among none) =
+    let same : IsOnce new handed = record {
+      once = h.once;
+      fresh = λ e all. h.fresh e (held-among (λ (x : TimedEntry K). x ≢ e) old new among all);
+      below = λ t all. h.below t (held-among (λ (x : TimedEntry K). x.time < t) old new among all);
+    } in
+    subst (λ (l : List (TimedEntry K)). IsOnce new l) (sym (ap (λ (m : List (TimedEntry K)). handed ++ m) none ∙ append-nil handed)) same
 
 -- ---- calls
 
@@ -90,7 +116,7 @@ moves-received snapshots i t what flag w (Some reason) s runs small is may = sti
 moves-received snapshots i t what flag Kept None s runs small is may =
     let new = admission-new i t what is in
     record { sound = sound-event_entered snapshots t what i s runs small new.0 new.1; events_grow = enters (record { life = i.life; entry = record { time = t; key = what } }) refl refl new.1; queries_grow = stays refl refl }
-moves-received snapshots i t what flag (Failed durable) None s runs small is may = still i _ (sound-note_failed snapshots kinds.Event t durable i s may) refl refl
+moves-received snapshots i t what flag (Failed durable) None s runs small is may = still i _ (sound-note_failed snapshots kinds.Event t (told_event i.config t what) durable i s may) refl refl
 
 no-queries : (i : IdealAgent) (t : ℕ) (what : EventBody) (flag : Bool) (w : Writing) (r : Option Reason) → got_entries (ended i (received_as r i t what flag) w).answer ≡ []
 no-queries i t what flag w (Some reason) = refl
@@ -112,7 +138,7 @@ moves-query_received snapshots tags i now q Kept None s runs small is may =
       events_grow = stays refl refl;
       queries_grow = passes-grow i.queries.history (record { life = i.life; entry = record { time = q.time; key = q.id } }) (handed_query i.config now q) (all_pass tags q.filters i.config.name) refl new;
     }
-moves-query_received snapshots tags i now q (Failed durable) None s runs small is may = still i _ (sound-note_failed snapshots kinds.Query q.time durable i s may) refl refl
+moves-query_received snapshots tags i now q (Failed durable) None s runs small is may = still i _ (sound-note_failed snapshots kinds.Query q.time (told_query i.config q.time q.id) durable i s may) refl refl
 
 -- an answer that is counted hands nothing out
 ack-no-events : (b : Bool) → map event_entry (handed_by (Ok (cond b outcomes.Ack outcomes.Response))) ≡ []
@@ -164,7 +190,7 @@ moves-got laws tags i now packet w s may = by i.snapshot.stopped refl may
 
 -- ---- firing
 
-none-if : {X : Type 0} (b : Bool) (x : X) (r : Option X) → cond b (Some x) r ≡ None → (b ≡ false) × (r ≡ None)
+pub none-if : {X : Type 0} (b : Bool) (x : X) (r : Option X) → cond b (Some x) r ≡ None → (b ≡ false) × (r ≡ None)
 none-if true x r e = absurd (cc e)
 none-if false x r e = (refl, e)
 
@@ -183,7 +209,7 @@ moves-fired snapshots i what flag Kept None s is may =
       events_grow = enters (record { life = i.life; entry = record { time = i.events.clock; key = what } }) refl refl fresh;
       queries_grow = stays refl refl;
     }
-moves-fired snapshots i what flag (Failed durable) None s is may = still i _ (sound-note_failed snapshots kinds.Event i.events.clock durable i s may) refl refl
+moves-fired snapshots i what flag (Failed durable) None s is may = still i _ (sound-note_failed snapshots kinds.Event i.events.clock (told_event i.config i.events.clock what) durable i s may) refl refl
 
 -- the time of what was fired, or another
 abbrev fired_time : ℕ → Result Fired FireFault → ℕ
@@ -212,7 +238,7 @@ moves-query_fired snapshots i now id name payload params Kept None s is may =
       events_grow = stays refl refl;
       queries_grow = passes-grow i.queries.history (record { life = i.life; entry = record { time = i.queries.clock; key = id } }) (handed_query i.config now q) (all_pass false q.filters i.config.name) refl (later-fresh i.queries.history i.queries.clock id s.queries.below_clock);
     }
-moves-query_fired snapshots i now id name payload params (Failed durable) None s is may = still i _ (sound-note_failed snapshots kinds.Query i.queries.clock durable i s may) refl refl
+moves-query_fired snapshots i now id name payload params (Failed durable) None s is may = still i _ (sound-note_failed snapshots kinds.Query i.queries.clock (told_query i.config i.queries.clock id) durable i s may) refl refl
 
 abbrev asked_time : ℕ → Result FiredQuery QueryFault → ℕ
 asked_time t (Ok f) = f.time
@@ -225,6 +251,14 @@ asked-at-clock i now id name payload params (Failed durable) None f is = sym (ap
 
 -- ---- lines, closings and openings
 
+moves-heard : SnapshotLaws → (i : IdealAgent) (m : PushPull) (is_join : Bool) (w : Writing) → IsSound i → MayAct i (Hears m is_join w) → Moves i (after i (Hears m is_join w)) [] []
+moves-heard snapshots i m is_join w s may = by (told_least i.config m is_join) refl w may
+  where
+    by : (line : Option (List ℕ)) → told_least i.config m is_join ≡ line → (w : Writing) → MayEnd i (heard_by line i m is_join) w × (m.member_clock ≤ 2 ^ 64 - 1) × (AsksSink (heard_by line i m is_join) → i.snapshot.stopped ≡ false) → Moves i (ended i (heard_by line i m is_join) w).agent [] []
+    by None is w may = still i _ (sound-joined m is_join i s may.1) refl refl
+    by (Some line) is Kept may = still i _ (subst (λ (o : Option (List ℕ)). IsSound (ended i (heard_by o i m is_join) Kept).agent) is (sound-heard snapshots m is_join i s (may.2 tt) may.1)) refl refl
+    by (Some line) is (Failed durable) may = still i _ (sound-note_failed snapshots kinds.Event 0 (Some line) durable i s may.0) refl refl
+
 moves-saved : SnapshotLaws → (i : IdealAgent) (w : Writing) → IsSound i → MayAct i (Saves w) → Moves i (after i (Saves w)) [] []
 moves-saved snapshots i w s may = by i.snapshot.stopped refl w may
   where
@@ -232,7 +266,7 @@ moves-saved snapshots i w s may = by i.snapshot.stopped refl w may
         → Moves i (ended i (saves_so i b) w).agent [] []
     by true is w m = still i i s refl refl
     by false is Kept m = still i _ (sound-saved snapshots (i.member_clock - 1) i s is (omega (arith, s.member_clock))) refl refl
-    by false is (Failed durable) m = still i _ (sound-note_failed snapshots kinds.Member (i.member_clock - 1) durable i s m) refl refl
+    by false is (Failed durable) m = still i _ (sound-note_failed snapshots kinds.Member (i.member_clock - 1) None durable i s m) refl refl
 
 moves-compacted : SnapshotLaws → (i : IdealAgent) (w : Writing) → IsSound i → MayAct i (Compacts w) → Moves i (after i (Compacts w)) [] []
 moves-compacted snapshots i w s may = by i.snapshot.stopped refl w may
@@ -250,27 +284,36 @@ text-of-flushed i text s h = record {
   queries = All-weaker (λ (p : Past ℕ). p.entry.time ≤ i.snapshot.query_clock) (λ (p : Past ℕ). p.entry.time ≤ last_clock kinds.Query text) (λ p low. omega (arith, low, h.queries)) i.queries.history s.queries.noted;
 }
 
-moves : Below → (i : IdealAgent) (a : Act) → IsSound i → MayAct i a → Moves i (after i a) (events_out i a) (queries_out i a)
+moves-opened : Below → (i : IdealAgent) (config : Config) (text : List ℕ) (d : Device) → IsSound i → MayAct i (Opens config text d) → Moves i (after i (Opens config text d)) [] []
+moves-opened laws i config text d s may =
+    let next : IdealAgent = with_config config i in
+    let said = text-of-flushed i text s may.0 in
+    let past : HasPast config next text = record { times = record { events = said.events; queries = said.queries }; kept = λ keeps. let had : HasKept i text = may.2 keeps in record { events = had.events; queries = had.queries } } in
+    goes config.keep_events (sound-restarted laws.snapshots laws.restart next text d (sound-with_config config i s may.1) past (laws.times kinds.Member text))
+  where
+    goes : (b : Bool) → IsSound (restarted_by b text (opened text d) (with_config config i)) → Moves i (restarted_by b text (opened text d) (with_config config i)) [] []
+    goes true sound = record { sound = sound; events_grow = recalls (laws.restart.events_grown (with_config config i) text (opened text d)) refl; queries_grow = recalls (laws.restart.queries_grown (with_config config i) text (opened text d)) refl }
+    goes false sound = still i _ sound refl refl
+
+pub moves : Below → (i : IdealAgent) (a : Act) → IsSound i → MayAct i a → Moves i (after i a) (events_out i a) (queries_out i a)
 moves laws i (Fires what flag w) s may = moves-fired laws.snapshots i what flag w (fire_fault i what flag) s refl may
 moves laws i (Asks now id name payload params w) s may = moves-query_fired laws.snapshots i now id name payload params w (query_fault i id name payload params) s refl may
 moves laws i (Gets tags now packet w) s may = moves-got laws tags i now packet w s may
-moves laws i (Hears m is_join) s may = still i _ (sound-joined m is_join i s may) refl refl
+moves laws i (Hears m is_join w) s may = moves-heard laws.snapshots i m is_join w s may
 moves laws i (Takes e w) s may = moves-received laws.snapshots i e.time e.key false w (admission i e.time e.key) s may.0 may.1 refl may.2
 moves laws i (Saves w) s may = moves-saved laws.snapshots i w s may
 moves laws i (Compacts w) s may = moves-compacted laws.snapshots i w s may
 moves laws i (Closes now) s may = still i _ (sound-closed now i s) refl refl
-moves laws i (Opens config text d) s may =
-    let said = text-of-flushed i text s may.0 in
-    still i _ (sound-restarted laws.snapshots (with_config config i) text d (sound-with_config config i s may.1) (record { events = said.events; queries = said.queries }) (laws.times kinds.Member text)) refl refl
+moves laws i (Opens config text d) s may = moves-opened laws i config text d s may
 
 -- ---- lives
 
-record Keeps (s : Lived) : Type 0 where
-  sound : IsSound s.agent
-  events_once : IsOnce s.agent.events.history s.events
-  queries_once : IsOnce s.agent.queries.history s.queries
+pub record Keeps (s : Lived) : Type 0 where
+  pub sound : IsSound s.agent
+  pub events_once : IsOnce s.agent.events.history s.events
+  pub queries_once : IsOnce s.agent.queries.history s.queries
 
-keeps : Below → (acts : List Act) (s : Lived) → Keeps s → MayLive s.agent acts → Keeps (lived s acts)
+pub keeps : Below → (acts : List Act) (s : Lived) → Keeps s → MayLive s.agent acts → Keeps (lived s acts)
 keeps laws [] s k may = k
 keeps laws (a ∷ rest) s k may =
     let m = moves laws s.agent a k.sound may.0 in
@@ -280,16 +323,16 @@ keeps laws (a ∷ rest) s k may =
       queries_once = grown s.agent.queries.history (after s.agent a).queries.history (queries_out s.agent a) s.queries k.queries_once m.queries_grow;
     }) may.1
 
-nothing-once : {K : Type 0} → IsOnce {K = K} [] []
-nothing-once {K} = record { once = λ i j d lt within. absurd (omega arith); fresh = λ e all. All-nil (λ (x : TimedEntry K). x ≢ e); below = λ t all. All-nil (λ (x : TimedEntry K). x.time < t) }
+nothing-once : {K : Type 0} (history : List (Past K)) → IsOnce history []
+nothing-once {K} history = record { once = λ i j d lt within. absurd (omega arith); fresh = λ e all. All-nil (λ (x : TimedEntry K). x ≢ e); below = λ t all. All-nil (λ (x : TimedEntry K). x.time < t) }
 
-keeps-first : Below → (config : Config) (text : List ℕ) (d : Device) → is_sound config ≡ true → Keeps (first_life config text d)
+pub keeps-first : Below → (config : Config) (text : List ℕ) (d : Device) → is_sound config ≡ true → Keeps (first_life config text d)
 keeps-first laws config text d ok =
     let i = unopened config (opened text d) in
     record {
-      sound = sound-restarted laws.snapshots i text d (sound-unopened laws.snapshots config text d ok (laws.times kinds.Member text)) (text-unopened config (opened text d) text) (laws.times kinds.Member text);
-      events_once = nothing-once;
-      queries_once = nothing-once;
+      sound = sound-restarted laws.snapshots laws.restart i text d (sound-unopened laws.snapshots config text d ok (laws.times kinds.Member text)) (past-unopened config (opened text d) text) (laws.times kinds.Member text);
+      events_once = nothing-once (restarted text (opened text d) i).events.history;
+      queries_once = nothing-once (restarted text (opened text d) i).queries.history;
     }
 
 -- ---- what is promised

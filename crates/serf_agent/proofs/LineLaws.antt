@@ -1,16 +1,19 @@
 -- How the calls end that only note or replace.
-use Rattle.serf_agent.proofs.Names.{◌≡◌, ◌≢◌, ◌↔◌, ℕ, ◌-◌, ◌^◌, ◌<◌, ◌≤◌, nat_le, inl, inr, Bool, true, false, cond, IsTrue, Result, Ok, Err, OnOk, IsErrOf, refl, sym, ap, subst, ◌∙◌, arith, cases_Bool, leb-false, leb-true, ClockKind, NoteFault, clock_line, Device, appended, flushed, replaced, SnapshotView, SnapshotState, Kept, Failed, last_line, noted, written, compacted, compaction_of, MayWrite, MayReplace}
+use Rattle.serf_agent.proofs.Names.{◌≡◌, ◌≢◌, ◌↔◌, ℕ, ◌-◌, ◌^◌, ◌<◌, ◌≤◌, Bool, true, false, cond, IsTrue, List, None, Result, Ok, Err, OnOk, IsErrOf, refl, sym, ap, subst, ◌∙◌, arith, NoteFault, clock_line, Device, appended, flushed, replaced, SnapshotView, SnapshotState, Kept, Failed, noted, written, MayWrite}
 use Rattle.serf_snap.specs.declared.kind.ClockKind.TheVariants as kinds
 use Rattle.serf_snap.specs.declared.snapshot.NoteFault.TheVariants as notes
+use Rattle.serf_snap.specs.Device.{replace_called}
+use Rattle.serf_snap.specs.KeptNotes.{MayReplaceBy, text_replaced}
 use Rattle.serf_agent.specs.Snapshots.{SnapshotLaws}
 use Rattle.serf_agent.specs.Calls.{Call, Notes, Replaces, answers}
-use Rattle.serf_agent.specs.Devices.{FailsLine, FailsText, device_noted}
+use Rattle.serf_agent.specs.Devices.{FailsLine, FailsText}
 use Rattle.serf_agent.specs.Ideal.{IdealAgent}
 use Rattle.serf_agent.specs.Sound.{IsSound}
-use Rattle.serf_agent.specs.States.{compact, save}
+use Rattle.serf_agent.specs.States.{compact, save, told_lines}
 use Rattle.serf_agent.specs.Steps.{Steps}
+use Rattle.serf_agent.specs.Told.{device_noted, text_with}
 use Rattle.serf_agent.specs.View.{AgentState, ConcreteState, concrete_with, view_of}
-use Rattle.serf_agent.proofs.NoteLaws.{may-failed, may-kept}
+use Rattle.serf_agent.proofs.NoteLaws.{device-noted, may-failed, may-kept}
 use Rattle.serf_agent.proofs.SoundLaws.{sound-compact, sound-saved}
 use Rattle.serf_agent.proofs.StepLaws.{steps-answers, steps-failed, steps-kept}
 
@@ -18,13 +21,6 @@ use Rattle.serf_agent.proofs.StepLaws.{steps-answers, steps-failed, steps-kept}
 runs-by : (stopped : Bool) (r : Result (Unit {0}) NoteFault) → ((r ≡ Err notes.Stopped) ↔ IsTrue stopped) → r ≢ Err notes.Stopped → stopped ≡ false
 runs-by true r when other = absurd (other (when.1 refl))
 runs-by false r when other = refl
-
--- the device after a note that is kept, by whether a line is due
-pub device-noted : (kind : ClockKind) (t : ℕ) (s : SnapshotView) (old new : Device) → (t ≤ last_line kind s → new ≡ old) → (last_line kind s < t → new ≡ flushed (appended (clock_line kind t) old)) → new ≡ device_noted kind t s old
-device-noted kind t s old new none due = elim (cases_Bool (nat_le t (last_line kind s))) [
-  | inl low ↦ rw low (none (leb-true _ _ low))
-  | inr high ↦ rw high (due (leb-false _ _ high))
-]
 
 -- what an agent stores, and its device, with another snapshot
 abbrev pub agent_with : SnapshotState → ConcreteState → AgentState
@@ -46,7 +42,7 @@ pub record IsNoted (t : ℕ) (old : SnapshotView) (device : Device) (new : Snaps
 
 -- a note of the member clock, and a compaction, by whether the agent is stopped
 abbrev pub saves_so : IdealAgent → Bool → Call (Result (Unit {0}) NoteFault)
-saves_so i b = cond b (answers i (Err notes.Stopped)) (Notes kinds.Member (i.member_clock - 1) (record { agent = i; answer = Ok tt }) (Err notes.SinkFault))
+saves_so i b = cond b (answers i (Err notes.Stopped)) (Notes kinds.Member (i.member_clock - 1) None (record { agent = i; answer = Ok tt }) (Err notes.SinkFault))
 
 pub steps-save : SnapshotLaws → (i : IdealAgent) (t : ℕ) (old : Device) (new : SnapshotState) (r : Result (Unit {0}) NoteFault) → IsSound i → t ≡ i.member_clock - 1 → IsNoted t i.snapshot old new r → r ≢ Err notes.OutOfMemory → Steps i (save i) r old (agent_with new (view_of i))
 steps-save snapshots i t old new (Ok done) sound is n other =
@@ -54,9 +50,9 @@ steps-save snapshots i t old new (Ok done) sound is n other =
     let small : i.member_clock - 1 < 2 ^ 64 - 1 = omega (arith, sound.member_clock) in
     let may = subst (λ (u : ℕ). i.snapshot.member_clock < u → MayWrite i.snapshot (clock_line kinds.Member u) Kept) is n.ok_allowed in
     let same = n.ok ∙ ap (λ (u : ℕ). noted kinds.Member u i.snapshot Kept) is in
-    let device : new.device ≡ device_noted kinds.Member (i.member_clock - 1) i.snapshot old = device-noted kinds.Member t i.snapshot old new.device (n.none runs) n.ok_device ∙ ap (λ (u : ℕ). device_noted kinds.Member u i.snapshot old) is in
+    let device : new.device ≡ device_noted kinds.Member (i.member_clock - 1) None i.snapshot old = device-noted kinds.Member t i.snapshot old new.device (n.none runs) n.ok_device ∙ ap (λ (u : ℕ). device_noted kinds.Member u None i.snapshot old) is in
     let kept : Steps i (saves_so i false) (Ok done) old (agent_with new (view_of i)) =
-    steps-kept i kinds.Member (i.member_clock - 1) _ _ (Ok done) old _ (may-kept kinds.Member (i.member_clock - 1) i.snapshot may) refl (ap (λ (s : SnapshotView). concrete_with s (view_of i)) same) (sound-saved snapshots (i.member_clock - 1) i sound runs small) device in
+    steps-kept i kinds.Member (i.member_clock - 1) None _ _ (Ok done) old _ (may-kept kinds.Member (i.member_clock - 1) i.snapshot may) refl (ap (λ (s : SnapshotView). concrete_with s (view_of i)) same) (sound-saved snapshots (i.member_clock - 1) i sound runs small) device in
     subst (λ (b : Bool). Steps i (saves_so i b) (Ok done) old (agent_with new (view_of i))) (sym runs) kept
 steps-save snapshots i t old new (Err notes.Stopped) sound is n other =
     let stopped : i.snapshot.stopped ≡ true = n.stopped.0 refl in
@@ -70,25 +66,29 @@ steps-save snapshots i t old new (Err notes.SinkFault) sound is n other =
     let same = n.fault refl ∙ ap (λ (u : ℕ). written kinds.Member u i.snapshot (Failed new.snapshot.durable)) is in
     let device = subst (λ (u : ℕ). FailsLine old new.device (clock_line kinds.Member u)) is (n.fault_device refl) in
     let failed : Steps i (saves_so i false) (Err notes.SinkFault) old (agent_with new (view_of i)) =
-    steps-failed snapshots i kinds.Member (i.member_clock - 1) _ _ (Err notes.SinkFault) old _ new.snapshot.durable sound (may-failed kinds.Member (i.member_clock - 1) i.snapshot new.snapshot.durable above may) refl (ap (λ (s : SnapshotView). concrete_with s (view_of i)) same) device in
+    steps-failed snapshots i kinds.Member (i.member_clock - 1) None _ _ (Err notes.SinkFault) old _ new.snapshot.durable sound (may-failed kinds.Member (i.member_clock - 1) i.snapshot new.snapshot.durable above may) refl (ap (λ (s : SnapshotView). concrete_with s (view_of i)) same) device in
     subst (λ (b : Bool). Steps i (saves_so i b) (Err notes.SinkFault) old (agent_with new (view_of i))) (sym runs) failed
 
--- what a compaction gives, over a device
-pub record IsCompacted (old : SnapshotView) (device : Device) (new : SnapshotState) (r : Result (Unit {0}) NoteFault) : Type 0 where
+-- what a compaction gives that leaves this text, over a device
+pub record IsCompacted (text : List ℕ) (old : SnapshotView) (device : Device) (new : SnapshotState) (r : Result (Unit {0}) NoteFault) : Type 0 where
   pub stopped : (r ≡ Err notes.Stopped) ↔ IsTrue old.stopped
-  pub ok : OnOk r (new.snapshot ≡ compacted old Kept)
-  pub ok_allowed : OnOk r (MayReplace old Kept)
-  pub ok_device : OnOk r (new.device ≡ replaced (compaction_of old) device)
-  pub fault : IsErrOf r notes.SinkFault → new.snapshot ≡ compacted old (Failed new.snapshot.durable)
-  pub fault_allowed : IsErrOf r notes.SinkFault → MayReplace old (Failed new.snapshot.durable)
-  pub fault_device : IsErrOf r notes.SinkFault → FailsText device new.device (compaction_of old)
+  pub ok : OnOk r (new.snapshot ≡ text_replaced text old Kept)
+  pub ok_allowed : OnOk r (MayReplaceBy text old Kept)
+  pub ok_device : OnOk r (new.device ≡ replaced text device)
+  pub fault : IsErrOf r notes.SinkFault → new.snapshot ≡ text_replaced text old (Failed new.snapshot.durable)
+  pub fault_allowed : IsErrOf r notes.SinkFault → MayReplaceBy text old (Failed new.snapshot.durable)
+  pub fault_device : IsErrOf r notes.SinkFault → FailsText device new.device text
   pub stays : IsErrOf r notes.Stopped → new.snapshot ≡ old
   pub stays_device : IsErrOf r notes.Stopped → new.device ≡ device
 
-abbrev pub compacts_so : IdealAgent → Bool → Call (Result (Unit {0}) NoteFault)
-compacts_so i b = cond b (answers i (Err notes.Stopped)) (Replaces (record { agent = i; answer = Ok tt }) (Err notes.SinkFault))
+-- the text of an agent's compaction
+abbrev pub text_of : IdealAgent → List ℕ
+text_of i = text_with (told_lines (view_of i)) i.snapshot
 
-pub steps-compact : SnapshotLaws → (i : IdealAgent) (old : Device) (new : SnapshotState) (r : Result (Unit {0}) NoteFault) → IsSound i → IsCompacted i.snapshot old new r → r ≢ Err notes.OutOfMemory → Steps i (compact i) r old (agent_with new (view_of i))
+abbrev pub compacts_so : IdealAgent → Bool → Call (Result (Unit {0}) NoteFault)
+compacts_so i b = cond b (answers i (Err notes.Stopped)) (Replaces (told_lines (view_of i)) (record { agent = i; answer = Ok tt }) (Err notes.SinkFault))
+
+pub steps-compact : SnapshotLaws → (i : IdealAgent) (old : Device) (new : SnapshotState) (r : Result (Unit {0}) NoteFault) → IsSound i → IsCompacted (text_of i) i.snapshot old new r → r ≢ Err notes.OutOfMemory → Steps i (compact i) r old (agent_with new (view_of i))
 steps-compact snapshots i old new (Ok done) sound n other =
     let runs = runs-by i.snapshot.stopped (Ok done) n.stopped (λ q. cc) in
     let kept : Steps i (compacts_so i false) (Ok done) old (agent_with new (view_of i)) =
@@ -105,3 +105,8 @@ steps-compact snapshots i old new (Err notes.SinkFault) sound n other =
     let failed : Steps i (compacts_so i false) (Err notes.SinkFault) old (agent_with new (view_of i)) =
     record { writing = Failed new.snapshot.durable; allowed = may; answers = refl; state = ap (λ (s : SnapshotView). concrete_with s (view_of i)) (n.fault refl); sound = sound-compact snapshots (Failed new.snapshot.durable) i sound may; device = n.fault_device refl } in
     subst (λ (b : Bool). Steps i (compacts_so i b) (Err notes.SinkFault) old (agent_with new (view_of i))) (sym runs) failed
+
+-- a text that was replaced was replaced by one call
+pub called-ok : (text : List ℕ) (old new : Device) (r : Result (Unit {0}) NoteFault) → OnOk r (new ≡ replaced text old) → OnOk r (new.calls ≡ replace_called old.calls)
+called-ok text old new (Ok done) is = ap (λ (d : Device). d.calls) is
+called-ok text old new (Err fault) is = tt

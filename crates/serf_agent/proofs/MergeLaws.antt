@@ -1,22 +1,28 @@
 -- Events of a push/pull, one after another.
-use Rattle.serf_agent.proofs.Names.{◌≡◌, inl, inr, ℕ, ◌-◌, ◌^◌, ◌<◌, Bool, false, List, [], ◌∷◌, ◌++◌, Option, Some, None, Ok, Err, refl, sym, ap, subst, ◌∙◌, append_assoc, append-nil, EventBody, PushPull, push_pull, TimedEntry, Device, Kept, noted}
+use Rattle.serf_agent.proofs.Names.{◌≡◌, ◌≢◌, inl, inr, ℕ, ◌-◌, ◌^◌, ◌<◌, Bool, false, List, [], ◌∷◌, ◌++◌, Option, Some, None, Ok, Err, refl, sym, ap, subst, ◌∙◌, append_assoc, append-nil, EventBody, PushPull, push_pull, TimedEntry, Device, Kept, Failed, NoteFault, SnapshotView, arith, cases_Bool, leb-false, nat_le}
 use Rattle.serf_snap.specs.declared.kind.ClockKind.TheVariants as kinds
+use Rattle.serf_snap.specs.declared.snapshot.NoteFault.TheVariants as notes
 use Rattle.serf_agent.specs.Snapshots.{SnapshotLaws}
 use Rattle.serf_agent.specs.declared.outcome.EventOut.{EventOut}
 use Rattle.serf_agent.specs.declared.outcome.MergeFault.{MergeFault}
 use Rattle.serf_agent.specs.declared.outcome.MergeFault.TheVariants as merges
 use Rattle.serf_agent.specs.declared.outcome.Reason.{Reason}
 use Rattle.serf_agent.specs.declared.outcome.ReceiveFault.TheVariants.{SinkFault}
-use Rattle.serf_agent.specs.Calls.{MayEnd, MayNote, AsksSink, ended}
-use Rattle.serf_agent.specs.Devices.{device_after, device_noted}
-use Rattle.serf_agent.specs.Events.{admission, event_entered, event_observed, event_out, received_as}
+use Rattle.serf_agent.specs.Calls.{MayEnd, AsksSink, ended}
+use Rattle.serf_agent.specs.Devices.{FailsLine, device_after}
+use Rattle.serf_agent.specs.Events.{admission, event_entered, event_observed, event_out, received_as, told_event}
+use Rattle.serf_agent.specs.Faults.{merge_fault_of}
 use Rattle.serf_agent.specs.Ideal.{IdealAgent, with_snapshot}
-use Rattle.serf_agent.specs.Merging.{GoesOn, GoesWrong, Received, HasReceived}
+use Rattle.serf_agent.specs.Merging.{GoesOn, GoesWrong, HasHeard, Received, HasReceived}
 use Rattle.serf_agent.specs.Sound.{IsSound}
-use Rattle.serf_agent.specs.States.{Receives, Merges, events_of, delivered, handed_by, joined, receive_one, after_event}
-use Rattle.serf_agent.specs.Steps.{Steps}
-use Rattle.serf_agent.specs.View.{AgentState, view_of}
-use Rattle.serf_agent.proofs.SoundLaws.{admission-new, sound-event_entered, sound-event_observed, stopped-noted}
+use Rattle.serf_agent.specs.States.{EndsHearing, Receives, Merges, events_of, delivered, handed_by, hear, heard_by, joined, receive_one, after_event, told_least}
+use Rattle.serf_agent.specs.Steps.{EndsNote, FailsNote, Steps}
+use Rattle.serf_agent.specs.Told.{AreQuiet, MayNote, bytes_with, device_noted, noted_with}
+use Rattle.serf_agent.specs.View.{AgentState, ConcreteState, concrete_with, view_of}
+use Rattle.serf_agent.proofs.NoteLaws.{stopped-noted}
+use Rattle.serf_agent.proofs.SoundLaws.{admission-new, quiet-least, sound-event_entered, sound-event_observed, sound-told}
+use Rattle.serf_agent.proofs.StepLaws.{steps-failed}
+use Rattle.serf_agent.proofs.ViewLaws.{failed-view}
 
 -- nothing was received yet
 pub goes-start : (i : IdealAgent) (now : AgentState) → IsSound i → i.snapshot.stopped ≡ false → now.concrete ≡ view_of i → GoesOn i [] now.device [] now
@@ -76,13 +82,13 @@ goes-ignored i t what reason old new sound runs says state device =
     let e : TimedEntry EventBody = record { time = t; key = what } in
     goes-one i e old [] (event_observed t i) new (subst (λ (r : Option Reason). MayEnd i (received_as r i t what false) Kept) (sym says) refl) (delivered-is i e (Some reason) says) (after_event-is i e (Some reason) says) state (device ∙ sym (device-is i e old (Some reason) says)) (sound-event_observed t i sound) runs
 
-pub goes-entered : SnapshotLaws → (i : IdealAgent) (t : ℕ) (what : EventBody) (old : Device) (new : AgentState) → IsSound i → i.snapshot.stopped ≡ false → t < 2 ^ 64 - 1 → admission i t what ≡ None → MayNote kinds.Event t i.snapshot Kept
-    → new.concrete ≡ view_of (with_snapshot (noted kinds.Event t i.snapshot Kept) (event_entered t what i)) → new.device ≡ device_noted kinds.Event t i.snapshot old → GoesOn i (record { time = t; key = what } ∷ []) old (event_out t what false ∷ []) new
+pub goes-entered : SnapshotLaws → (i : IdealAgent) (t : ℕ) (what : EventBody) (old : Device) (new : AgentState) → IsSound i → i.snapshot.stopped ≡ false → t < 2 ^ 64 - 1 → admission i t what ≡ None → MayNote kinds.Event t (told_event i.config t what) i.snapshot Kept
+    → new.concrete ≡ view_of (with_snapshot (noted_with kinds.Event t (told_event i.config t what) i.snapshot Kept) (event_entered t what i)) → new.device ≡ device_noted kinds.Event t (told_event i.config t what) i.snapshot old → GoesOn i (record { time = t; key = what } ∷ []) old (event_out t what false ∷ []) new
 goes-entered snapshots i t what old new sound runs small says may state device =
     let e : TimedEntry EventBody = record { time = t; key = what } in
     let parts = admission-new i t what says in
-    goes-one i e old (event_out t what false ∷ []) (with_snapshot (noted kinds.Event t i.snapshot Kept) (event_entered t what i)) new (subst (λ (r : Option Reason). MayEnd i (received_as r i t what false) Kept) (sym says) may) (delivered-is i e None says) (after_event-is i e None says) state
-    (device ∙ sym (device-is i e old None says)) (sound-event_entered snapshots t what i sound runs small parts.0 parts.1) (stopped-noted kinds.Event t i.snapshot ∙ runs)
+    goes-one i e old (event_out t what false ∷ []) (with_snapshot (noted_with kinds.Event t (told_event i.config t what) i.snapshot Kept) (event_entered t what i)) new (subst (λ (r : Option Reason). MayEnd i (received_as r i t what false) Kept) (sym says) may) (delivered-is i e None says) (after_event-is i e None says) state
+    (device ∙ sym (device-is i e old None says)) (sound-event_entered snapshots t what i sound runs small parts.0 parts.1) (stopped-noted kinds.Event t (told_event i.config t what) i.snapshot ∙ runs)
 
 pub wrong-memory : (i : IdealAgent) (t : ℕ) (what : EventBody) (old : Device) (new : AgentState) → IsSound i → admission i t what ≡ None → new.concrete ≡ view_of i → new.device ≡ old → GoesWrong i (record { time = t; key = what } ∷ []) old [] new merges.OutOfMemory
 wrong-memory i t what old new sound says state device = λ rest. inr (refl, (merges.OutOfMemory, refl, (subst (λ (r : Option Reason). AsksSink (received_as r i t what false)) (sym says) tt, state, device, sound)))
@@ -131,13 +137,74 @@ has-all i all before after old new has = record {
   went = subst (λ (l : List (TimedEntry EventBody)). GoesOn i l old has.deliveries new) (sym (append-nil has.done) ∙ has.split) has.goes;
 }
 
+-- ---- a push/pull is heard of
+
+-- there is a line, and no memory for it
+asks-line : (line : Option (List ℕ)) (i : IdealAgent) (m : PushPull) (is_join : Bool) → line ≢ None → AsksSink (heard_by line i m is_join)
+asks-line None i m is_join some = absurd (some refl)
+asks-line (Some line) i m is_join some = tt
+
+pub heard-memory : (i : IdealAgent) (m : PushPull) (is_join : Bool) (old : Device) (new : AgentState) → IsSound i → told_least i.config m is_join ≢ None → new.concrete ≡ view_of i → new.device ≡ old → EndsHearing i (hear i m is_join) old new merges.OutOfMemory
+heard-memory i m is_join old new sound some state device = (asks-line (told_least i.config m is_join) i m is_join some, state, device, sound)
+
+-- its note failed
+pub heard-wrong : SnapshotLaws → (i : IdealAgent) (m : PushPull) (is_join : Bool) (old new : AgentState) (fault : NoteFault) → IsSound i → old.concrete ≡ view_of i → told_least i.config m is_join ≢ None → EndsNote kinds.Event 0 (told_least i.config m is_join) old new fault
+    → EndsHearing i (hear i m is_join) old.device new (merge_fault_of fault)
+heard-wrong snapshots i m is_join old new notes.Stopped sound is some ends = absurd ends
+heard-wrong snapshots i m is_join old new notes.OutOfMemory sound is some ends = heard-memory i m is_join old.device new sound some (ap (λ (a : AgentState). a.concrete) ends ∙ is) (ap (λ (a : AgentState). a.device) ends)
+heard-wrong snapshots i m is_join old new notes.SinkFault sound is some ends = by (told_least i.config m is_join) some ends
+  where
+    by : (line : Option (List ℕ)) → line ≢ None → FailsNote kinds.Event 0 line old new → Steps i (heard_by line i m is_join) (Err merges.SinkFault) old.device new
+    by None some e = absurd (some refl)
+    by (Some line) some e =
+        let durable = new.concrete.snapshot.durable in
+        let may = subst (λ (s : ConcreteState). MayNote kinds.Event 0 (Some line) s.snapshot (Failed durable)) is e.allowed in
+        let device = subst (λ (s : ConcreteState). FailsLine old.device new.device (bytes_with kinds.Event 0 (Some line) s.snapshot)) is e.device in
+        steps-failed snapshots i kinds.Event 0 (Some line) _ _ (Err merges.SinkFault) old.device new durable sound may refl (failed-view i old.concrete new.concrete kinds.Event 0 durable is e.failed) device
+
+-- without a line nothing is noted
+none-noted : (s : SnapshotView) → noted_with kinds.Event 0 None s Kept ≡ s
+none-noted s = elim (cases_Bool (nat_le 0 s.event_clock)) [ inl low ↦ rw low refl | inr high ↦ absurd (let below : s.event_clock < 0 = leb-false _ _ high in omega arith) ]
+
+none-device : (s : SnapshotView) (d : Device) → device_noted kinds.Event 0 None s d ≡ d
+none-device s d = elim (cases_Bool (nat_le 0 s.event_clock)) [ inl low ↦ rw low refl | inr high ↦ absurd (let below : s.event_clock < 0 = leb-false _ _ high in omega arith) ]
+
+-- its note is durable, and then the clocks are heard of
+pub heard-kept : SnapshotLaws → (i : IdealAgent) (m : PushPull) (is_join : Bool) (old : Device) (mid new : AgentState) → IsSound i → i.snapshot.stopped ≡ false → (let line = told_least i.config m is_join in MayNote kinds.Event 0 line i.snapshot Kept
+    → mid.concrete ≡ concrete_with (noted_with kinds.Event 0 line i.snapshot Kept) (view_of i)
+    → new.device ≡ device_noted kinds.Event 0 line i.snapshot old
+    → ((j : IdealAgent) → IsSound j → mid.concrete ≡ view_of j → (new.concrete ≡ view_of (joined m is_join j)) × IsSound (joined m is_join j))
+    → HasHeard i (hear i m is_join) old new)
+heard-kept snapshots i m is_join old mid new sound runs may noted device joins = by (told_least i.config m is_join) (quiet-least snapshots i.config m is_join) may noted device
+  where
+    by : (line : Option (List ℕ)) → AreQuiet line → MayNote kinds.Event 0 line i.snapshot Kept → mid.concrete ≡ concrete_with (noted_with kinds.Event 0 line i.snapshot Kept) (view_of i) → new.device ≡ device_noted kinds.Event 0 line i.snapshot old → HasHeard i (heard_by line i m is_join) old new
+    by None quiet may noted device =
+        let j = joins i sound (noted ∙ ap (λ (s : SnapshotView). concrete_with s (view_of i)) (none-noted i.snapshot)) in
+        record { allowed = refl; state = j.0; sound = j.1; device = device ∙ none-device i.snapshot old }
+    by (Some line) quiet may noted device =
+        let j = joins (with_snapshot (noted_with kinds.Event 0 (Some line) i.snapshot Kept) i) (sound-told snapshots line i sound runs quiet) noted in
+        record { allowed = may; state = j.0; sound = j.1; device = device }
+
 -- ---- a whole push/pull
 
-pub merges-all : (i : IdealAgent) (m : PushPull) (is_join : Bool) (before after : List EventOut) (old : Device) (new : AgentState) (done : Unit {0}) → Received (joined m is_join i) (events_of m.slots) before after old new (Ok done) → Merges i m is_join before after old new None
-merges-all i m is_join before after old new done r = record { deliveries = r.deliveries; out = r.out; receives = goes-all (joined m is_join i) (events_of m.slots) old r.deliveries new r.went }
+-- it was heard of over this device, and then its events were received
+pub merges-all : (i : IdealAgent) (m : PushPull) (is_join : Bool) (before after : List EventOut) (old : Device) (mid new : AgentState) (done : Unit {0}) → HasHeard i (hear i m is_join) old mid → Received (ended i (hear i m is_join) Kept).agent (events_of m.slots) before after mid.device new (Ok done)
+    → Merges i m is_join before after old new None
+merges-all i m is_join before after old mid new done h r =
+    let agent = (ended i (hear i m is_join) Kept).agent in
+    let all = goes-all agent (events_of m.slots) mid.device r.deliveries new r.went in
+    record { deliveries = r.deliveries; out = r.out; receives = inl (h.allowed, subst (λ (d : Device). Receives agent (events_of m.slots) d r.deliveries new None) h.device all) }
 
-pub merges-wrong : (i : IdealAgent) (m : PushPull) (is_join : Bool) (before after : List EventOut) (old : Device) (new : AgentState) (fault : MergeFault) → Received (joined m is_join i) (events_of m.slots) before after old new (Err fault) → Merges i m is_join before after old new (Some fault)
-merges-wrong i m is_join before after old new fault r = record { deliveries = r.deliveries; out = r.out; receives = wrong-all (joined m is_join i) (events_of m.slots) old r.deliveries new fault r.went }
+pub merges-wrong : (i : IdealAgent) (m : PushPull) (is_join : Bool) (before after : List EventOut) (old : Device) (mid new : AgentState) (fault : MergeFault) → HasHeard i (hear i m is_join) old mid → Received (ended i (hear i m is_join) Kept).agent (events_of m.slots) before after mid.device new (Err fault)
+    → Merges i m is_join before after old new (Some fault)
+merges-wrong i m is_join before after old mid new fault h r =
+    let agent = (ended i (hear i m is_join) Kept).agent in
+    let wrong = wrong-all agent (events_of m.slots) mid.device r.deliveries new fault r.went in
+    record { deliveries = r.deliveries; out = r.out; receives = inl (h.allowed, subst (λ (d : Device). Receives agent (events_of m.slots) d r.deliveries new (Some fault)) h.device wrong) }
+
+-- nothing was heard of
+pub merges-none : (i : IdealAgent) (m : PushPull) (is_join : Bool) (before after : List EventOut) (old : Device) (new : AgentState) (fault : MergeFault) → after ≡ before → EndsHearing i (hear i m is_join) old new fault → Merges i m is_join before after old new (Some fault)
+merges-none i m is_join before after old new fault same ends = record { deliveries = []; out = same ∙ sym (append-nil before); receives = inr (refl, (fault, refl, ends)) }
 
 pub same-push_pull : (a b : PushPull) → push_pull a ≡ push_pull b → a ≡ b
 same-push_pull a b is = cc

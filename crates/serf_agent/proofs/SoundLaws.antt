@@ -1,18 +1,27 @@
 -- Each change of a sound agent leaves a sound agent.
-use Rattle.serf_agent.proofs.Names.{◌≡◌, ◌≢◌, ℕ, ◌+◌, ◌-◌, ◌^◌, ◌<◌, ◌≤◌, ◌==◌, ◌&&◌, nat_lt, nat_le, nat_eq, max, not, cond, Bool, true, false, List, [], ◌∷◌, ◌++◌, Option, Some, None, MatchBool, refl, sym, subst, arith, inl, inr, All, AllPairs, cases_Bool, leb-true, leb-false, and_from, eq-eqb, All-nil, All-push, All-weaker, All-filter, AllPairs-filter, all_pairs_push, bytes_eq-Decides, EventBody, PushPull, Query, QueryResponse, same_texts, same_id, ClockKind, clock_line, last_clock, Device, SnapshotView, Writing, Kept, Failed, last_line, noted, written, compacted, KeepsPart, KeepsEither, compaction_of, MayWrite, MayReplace, opened, ltb-false}
+use Rattle.serf_agent.proofs.Names.{◌≡◌, ◌≢◌, ℕ, ◌+◌, ◌-◌, ◌^◌, ◌<◌, ◌≤◌, ◌==◌, ◌&&◌, nat_lt, nat_le, nat_eq, max, not, cond, Bool, true, false, List, [], ◌∷◌, ◌++◌, Option, Some, None, MatchBool, refl, sym, subst, arith, inl, inr, All, AllPairs, cases_Bool, leb-true, leb-false, and_from, eq-eqb, All-nil, All-push, All-weaker, All-filter, AllPairs-filter, all_pairs_push, bytes_eq-Decides, EventBody, TimedEntry, PushPull, Query, QueryResponse, same_texts, same_id, ClockKind, clock_line, last_clock, Device, SnapshotView, Writing, Kept, Failed, last_line, noted, written, KeepsPart, MayWrite, opened, ltb-false}
 use Rattle.serf_snap.specs.declared.kind.ClockKind.TheVariants as kinds
+use Rattle.serf_snap.specs.KeptNotes.{MayReplaceBy, SaysNoClock, kept_noted, text_replaced}
+use Rattle.serf_snap.specs.Notes.{IsSnapshotSound}
+use Rattle.std.specs.Prelude.{◌⊎◌, Contains}
+use Rattle.serf_snap.specs.EventLines.{least_in, least_line, query_line}
+use Rattle.serf_agent.specs.KeptLines.{held_from, least_told, lines_told, stored_lines}
+use Rattle.serf_agent.specs.KeptLaws.{KeptRestartLaws}
+use Rattle.serf_agent.specs.KeptTexts.{kept_events, kept_queries, line_of_event, whatever}
 use Rattle.serf_agent.specs.Snapshots.{SnapshotLaws}
-use Rattle.serf_agent.specs.Calls.{MayNote}
 use Rattle.serf_agent.specs.Config.{is_sound}
 use Rattle.serf_agent.specs.declared.config.Config.{Config}
 use Rattle.serf_agent.specs.declared.open_query.OpenQuery.{OpenQuery}
-use Rattle.serf_agent.specs.Events.{admission, event_observed, event_entered, texts_len}
-use Rattle.serf_agent.specs.Queries.{query_admission, query_observed, query_entered, query_asked, opened_query, is_due, asked_at, with_asked_at, close_due, counted, is_ack, answer_ignore_reason, ack_ignore_reason, response_ignore_reason, has_acked, has_responded}
-use Rattle.serf_agent.specs.Ideal.{IdealAgent, with_config, with_snapshot, with_asked}
-use Rattle.serf_agent.specs.Restart.{restarted, IsInText, unopened}
+use Rattle.serf_agent.specs.Events.{admission, event_observed, event_entered, texts_len, told_event}
+use Rattle.serf_agent.specs.Queries.{query_admission, query_observed, query_entered, query_asked, opened_query, is_due, asked_at, with_asked_at, close_due, counted, is_ack, answer_ignore_reason, ack_ignore_reason, response_ignore_reason, has_acked, has_responded, told_query}
+use Rattle.serf_agent.specs.Ideal.{IdealAgent, Past, with_config, with_snapshot, with_asked}
+use Rattle.serf_agent.specs.Restart.{HasPast, restarted, restarted_by, unopened}
 use Rattle.serf_agent.specs.Sound.{IsSound, IsOpenQuerySound}
-use Rattle.serf_agent.specs.States.{joined}
-use Rattle.serf_agent.specs.Tracks.{track_reason, IsTrackSound}
+use Rattle.serf_agent.specs.Calls.{ended}
+use Rattle.serf_agent.specs.States.{hear, heard_by, joined, told_least, told_lines}
+use Rattle.serf_agent.specs.Told.{AreQuiet, MayNote, bytes_with, noted_with, text_with}
+use Rattle.serf_agent.specs.View.{ConcreteState, view_of}
+use Rattle.serf_agent.specs.Tracks.{ConcreteTrack, track_reason, IsTrackSound}
 use Rattle.serf_agent.proofs.TrackLaws.{track-entered, track-observed, track-raised, track-reopened, unknown-fresh, later-fresh, no-reason, none-from}
 use Rattle.serf_agent.specs.declared.outcome.Reason.{Reason}
 use Rattle.serf_agent.specs.declared.outcome.Reason.TheVariants.{OtherId, Closed, AckNotAsked, AckTwice, ResponseTwice}
@@ -21,51 +30,92 @@ use Rattle.serf_agent.proofs.OpenQueries.{set_value-keys, set_value-values, set_
 
 -- ---- what a note does to the last lines
 
-pub event-noted : (t : ℕ) (s : SnapshotView) → (noted kinds.Event t s Kept).event_clock ≡ max s.event_clock t
-event-noted t s = elim (cases_Bool (nat_le t s.event_clock)) [
+pub event-noted : (t : ℕ) (line : Option (List ℕ)) (s : SnapshotView) → (noted_with kinds.Event t line s Kept).event_clock ≡ max s.event_clock t
+event-noted t None s = elim (cases_Bool (nat_le t s.event_clock)) [
   | inl low ↦ rw low (let h : t ≤ s.event_clock = leb-true _ _ low in omega arith)
   | inr high ↦ rw high (let h : s.event_clock < t = leb-false _ _ high in omega arith)
 ]
+event-noted t (Some line) s = refl
 
-query-noted_event : (t : ℕ) (s : SnapshotView) → (noted kinds.Event t s Kept).query_clock ≡ s.query_clock
-query-noted_event t s = elim (cases_Bool (nat_le t s.event_clock)) [ inl low ↦ rw low refl | inr high ↦ rw high refl ]
+query-noted_event : (t : ℕ) (line : Option (List ℕ)) (s : SnapshotView) → (noted_with kinds.Event t line s Kept).query_clock ≡ s.query_clock
+query-noted_event t None s = elim (cases_Bool (nat_le t s.event_clock)) [ inl low ↦ rw low refl | inr high ↦ rw high refl ]
+query-noted_event t (Some line) s = refl
 
-pub query-noted : (t : ℕ) (s : SnapshotView) → (noted kinds.Query t s Kept).query_clock ≡ max s.query_clock t
-query-noted t s = elim (cases_Bool (nat_le t s.query_clock)) [
+pub query-noted : (t : ℕ) (line : Option (List ℕ)) (s : SnapshotView) → (noted_with kinds.Query t line s Kept).query_clock ≡ max s.query_clock t
+query-noted t None s = elim (cases_Bool (nat_le t s.query_clock)) [
   | inl low ↦ rw low (let h : t ≤ s.query_clock = leb-true _ _ low in omega arith)
   | inr high ↦ rw high (let h : s.query_clock < t = leb-false _ _ high in omega arith)
 ]
+query-noted t (Some line) s = refl
 
-event-noted_query : (t : ℕ) (s : SnapshotView) → (noted kinds.Query t s Kept).event_clock ≡ s.event_clock
-event-noted_query t s = elim (cases_Bool (nat_le t s.query_clock)) [ inl low ↦ rw low refl | inr high ↦ rw high refl ]
+pub event-noted_query : (t : ℕ) (line : Option (List ℕ)) (s : SnapshotView) → (noted_with kinds.Query t line s Kept).event_clock ≡ s.event_clock
+event-noted_query t None s = elim (cases_Bool (nat_le t s.query_clock)) [ inl low ↦ rw low refl | inr high ↦ rw high refl ]
+event-noted_query t (Some line) s = refl
 
-event-noted_member : (t : ℕ) (s : SnapshotView) → (noted kinds.Member t s Kept).event_clock ≡ s.event_clock
+pub event-noted_member : (t : ℕ) (s : SnapshotView) → (noted kinds.Member t s Kept).event_clock ≡ s.event_clock
 event-noted_member t s = elim (cases_Bool (nat_le t s.member_clock)) [ inl low ↦ rw low refl | inr high ↦ rw high refl ]
 
-query-noted_member : (t : ℕ) (s : SnapshotView) → (noted kinds.Member t s Kept).query_clock ≡ s.query_clock
+pub query-noted_member : (t : ℕ) (s : SnapshotView) → (noted kinds.Member t s Kept).query_clock ≡ s.query_clock
 query-noted_member t s = elim (cases_Bool (nat_le t s.member_clock)) [ inl low ↦ rw low refl | inr high ↦ rw high refl ]
 
-pub stopped-noted : (kind : ClockKind) (t : ℕ) (s : SnapshotView) → (noted kind t s Kept).stopped ≡ s.stopped
-stopped-noted kind t s = elim (cases_Bool (nat_le t (last_line kind s))) [ inl low ↦ rw low refl | inr high ↦ rw high refl ]
+-- what is durable has the last lines after a note whose own line says no clock
+sound-noted : SnapshotLaws → (kind : ClockKind) (s : SnapshotView) (t : ℕ) (line : Option (List ℕ)) → IsSnapshotSound s → s.stopped ≡ false → t < 2 ^ 64 - 1 → AreQuiet line → IsSnapshotSound (noted_with kind t line s Kept)
+sound-noted snapshots kind s t None sound runs small quiet = snapshots.noted kind s t sound runs small
+sound-noted snapshots kind s t (Some line) sound runs small quiet = snapshots.kept_noted kind s t line sound runs small quiet
+
+-- the lines that an agent writes of its own say no clock
+quiet-if : (b : Bool) (line : List ℕ) → SaysNoClock line → AreQuiet (cond b (Some line) None)
+quiet-if true line quiet = quiet
+quiet-if false line quiet = tt
+
+pub quiet-event : SnapshotLaws → (config : Config) (t : ℕ) (what : EventBody) → AreQuiet (told_event config t what)
+quiet-event snapshots config t what = quiet-if config.keep_events (line_of_event t what) (snapshots.event_quiet t what.name what.payload)
+
+pub quiet-query : SnapshotLaws → (config : Config) (t id : ℕ) → AreQuiet (told_query config t id)
+quiet-query snapshots config t id = quiet-if config.keep_events (query_line t id) (snapshots.query_quiet t id)
+
+pub quiet-least : SnapshotLaws → (config : Config) (m : PushPull) (is_join : Bool) → AreQuiet (told_least config m is_join)
+quiet-least snapshots config m is_join = quiet-if (config.keep_events && (is_join && config.ignore_old)) (least_line kinds.Event m.event_clock) (snapshots.least_quiet kinds.Event m.event_clock)
+
+told-quiet : {K : Type 0} (line : ℕ → K → List ℕ) → SnapshotLaws → ((t : ℕ) (what : K) → SaysNoClock (line t what)) → (es : List (TimedEntry K)) → SaysNoClock (lines_told line es)
+told-quiet line snapshots says [] = record { whole = refl; clocks = none }
+  where
+    none : (kind : ClockKind) → last_clock kind [] ≡ 0
+    none kind = refl
+told-quiet line snapshots says (e ∷ es) = snapshots.both_quiet (line e.time e.key) (lines_told line es) (says e.time e.key) (told-quiet line snapshots says es)
+
+stored-quiet : {K : Type 0} (kind : ClockKind) (line : ℕ → K → List ℕ) → SnapshotLaws → ((t : ℕ) (what : K) → SaysNoClock (line t what)) → (n last : ℕ) (track : ConcreteTrack K) → SaysNoClock (stored_lines kind line n last track)
+stored-quiet kind line snapshots says n last track =
+    let least : ℕ = least_told n last track.minimum in
+    snapshots.both_quiet (least_line kind least) (lines_told line (held_from least track.slots)) (snapshots.least_quiet kind least) (told-quiet line snapshots says (held_from least track.slots))
+
+pub quiet-lines : SnapshotLaws → (a : ConcreteState) → AreQuiet (told_lines a)
+quiet-lines snapshots a =
+    let events : List ℕ = stored_lines kinds.Event line_of_event a.config.event_buffer a.snapshot.event_clock a.events in
+    let queries : List ℕ = stored_lines kinds.Query query_line a.config.query_buffer a.snapshot.query_clock a.queries in
+    quiet-if a.config.keep_events (events ++ queries) (snapshots.both_quiet events queries
+    (stored-quiet kinds.Event line_of_event snapshots (λ t what. snapshots.event_quiet t what.name what.payload) a.config.event_buffer a.snapshot.event_clock a.events)
+    (stored-quiet kinds.Query query_line snapshots snapshots.query_quiet a.config.query_buffer a.snapshot.query_clock a.queries))
 
 -- ---- what a sink that fails at a note leaves
 
-may-part : (kind : ClockKind) (s : SnapshotView) (t : ℕ) (durable : Option (List ℕ)) → MayNote kind t s (Failed durable) → KeepsPart s.durable (clock_line kind t) durable
-may-part kind s t durable may = by (nat_le t (last_line kind s)) may
+pub may-part : (kind : ClockKind) (s : SnapshotView) (t : ℕ) (line durable : Option (List ℕ)) → MayNote kind t line s (Failed durable) → KeepsPart s.durable (bytes_with kind t line s) durable
+may-part kind s t None durable may = by (nat_le t (last_line kind s)) may
   where
     by : (b : Bool) → MatchBool b (Failed durable ≡ Kept) (MayWrite s (clock_line kind t) (Failed durable)) → KeepsPart s.durable (clock_line kind t) durable
     by true kept_is = absurd (let k : Failed durable ≡ Kept = kept_is in cc)
     by false m = m.0
+may-part kind s t (Some line) durable may = may.0
 
 -- the agent stopped by a failed note
-pub sound-note_failed : SnapshotLaws → (kind : ClockKind) (t : ℕ) (durable : Option (List ℕ)) (i : IdealAgent) → IsSound i → MayNote kind t i.snapshot (Failed durable) → IsSound (with_snapshot (written kind t i.snapshot (Failed durable)) i)
-sound-note_failed snapshots kind t durable i s may = record {
+pub sound-note_failed : SnapshotLaws → (kind : ClockKind) (t : ℕ) (line durable : Option (List ℕ)) (i : IdealAgent) → IsSound i → MayNote kind t line i.snapshot (Failed durable) → IsSound (with_snapshot (written kind t i.snapshot (Failed durable)) i)
+sound-note_failed snapshots kind t line durable i s may = record {
   config = s.config;
   member_clock = s.member_clock;
   events = s.events;
   queries = s.queries;
   short = s.short;
-  snapshot = snapshots.note_failed kind i.snapshot t (clock_line kind t) durable s.snapshot (may-part kind i.snapshot t durable may);
+  snapshot = snapshots.note_failed kind i.snapshot t (bytes_with kind t line i.snapshot) durable s.snapshot (may-part kind i.snapshot t line durable may);
   asked_below = s.asked_below;
   asked_distinct = s.asked_distinct;
   asked_sound = s.asked_sound;
@@ -96,18 +146,20 @@ admission-new i t what new =
     (ltb-false _ _ parts.0, unknown-fresh same_texts same_texts-refl i.events.history t what (no-reason same_texts i.config.event_buffer i.config.per_time i.life i.events t what parts.1))
 
 pub sound-event_entered : SnapshotLaws → (t : ℕ) (what : EventBody) (i : IdealAgent) → IsSound i → i.snapshot.stopped ≡ false → t < 2 ^ 64 - 1 → texts_len what ≤ 9216 → All (λ p. p.entry ≢ record { time = t; key = what }) i.events.history
-    → IsSound (with_snapshot (noted kinds.Event t i.snapshot Kept) (event_entered t what i))
-sound-event_entered snapshots t what i s runs small short fresh = record {
-  config = s.config;
-  member_clock = s.member_clock;
-  events = track-entered i.events i.life i.snapshot.event_clock (noted kinds.Event t i.snapshot Kept).event_clock t what s.events (omega (arith, event-noted t i.snapshot)) (omega (arith, event-noted t i.snapshot)) fresh;
-  queries = subst (λ (n : ℕ). IsTrackSound i.queries i.life n) (sym (query-noted_event t i.snapshot)) s.queries;
-  short = All-push (λ p. texts_len p.entry.key ≤ 9216) i.events.history (record { life = i.life; entry = record { time = t; key = what } }) s.short short;
-  snapshot = snapshots.noted kinds.Event i.snapshot t s.snapshot runs small;
-  asked_below = s.asked_below;
-  asked_distinct = s.asked_distinct;
-  asked_sound = s.asked_sound;
-}
+    → IsSound (with_snapshot (noted_with kinds.Event t (told_event i.config t what) i.snapshot Kept) (event_entered t what i))
+sound-event_entered snapshots t what i s runs small short fresh =
+    let line : Option (List ℕ) = told_event i.config t what in
+    record {
+      config = s.config;
+      member_clock = s.member_clock;
+      events = track-entered i.events i.life i.snapshot.event_clock (noted_with kinds.Event t line i.snapshot Kept).event_clock t what s.events (omega (arith, event-noted t line i.snapshot)) (omega (arith, event-noted t line i.snapshot)) fresh;
+      queries = subst (λ (n : ℕ). IsTrackSound i.queries i.life n) (sym (query-noted_event t line i.snapshot)) s.queries;
+      short = All-push (λ p. texts_len p.entry.key ≤ 9216) i.events.history (record { life = i.life; entry = record { time = t; key = what } }) s.short short;
+      snapshot = sound-noted snapshots kinds.Event i.snapshot t line s.snapshot runs small (quiet-event snapshots i.config t what);
+      asked_below = s.asked_below;
+      asked_distinct = s.asked_distinct;
+      asked_sound = s.asked_sound;
+    }
 
 -- ---- queries
 
@@ -128,25 +180,27 @@ pub query_admission-new : (i : IdealAgent) (t id : ℕ) → query_admission i t 
 query_admission-new i t id new = unknown-fresh same_id (λ x. eq-eqb x x refl) i.queries.history t id (no-reason same_id i.config.query_buffer i.config.per_time i.life i.queries t id new)
 
 pub sound-query_entered : SnapshotLaws → (t id : ℕ) (i : IdealAgent) → IsSound i → i.snapshot.stopped ≡ false → t < 2 ^ 64 - 1 → All (λ p. p.entry ≢ record { time = t; key = id }) i.queries.history
-    → IsSound (with_snapshot (noted kinds.Query t i.snapshot Kept) (query_entered t id i))
-sound-query_entered snapshots t id i s runs small fresh = record {
-  config = s.config;
-  member_clock = s.member_clock;
-  events = subst (λ (n : ℕ). IsTrackSound i.events i.life n) (sym (event-noted_query t i.snapshot)) s.events;
-  queries = track-entered i.queries i.life i.snapshot.query_clock (noted kinds.Query t i.snapshot Kept).query_clock t id s.queries (omega (arith, query-noted t i.snapshot)) (omega (arith, query-noted t i.snapshot)) fresh;
-  short = s.short;
-  snapshot = snapshots.noted kinds.Query i.snapshot t s.snapshot runs small;
-  asked_below = All-weaker (λ q. q.0 < i.queries.clock) (λ q. q.0 < max i.queries.clock (t + 1)) (λ q h. omega arith) i.asked s.asked_below;
-  asked_distinct = s.asked_distinct;
-  asked_sound = s.asked_sound;
-}
+    → IsSound (with_snapshot (noted_with kinds.Query t (told_query i.config t id) i.snapshot Kept) (query_entered t id i))
+sound-query_entered snapshots t id i s runs small fresh =
+    let line : Option (List ℕ) = told_query i.config t id in
+    record {
+      config = s.config;
+      member_clock = s.member_clock;
+      events = subst (λ (n : ℕ). IsTrackSound i.events i.life n) (sym (event-noted_query t line i.snapshot)) s.events;
+      queries = track-entered i.queries i.life i.snapshot.query_clock (noted_with kinds.Query t line i.snapshot Kept).query_clock t id s.queries (omega (arith, query-noted t line i.snapshot)) (omega (arith, query-noted t line i.snapshot)) fresh;
+      short = s.short;
+      snapshot = sound-noted snapshots kinds.Query i.snapshot t line s.snapshot runs small (quiet-query snapshots i.config t id);
+      asked_below = All-weaker (λ q. q.0 < i.queries.clock) (λ q. q.0 < max i.queries.clock (t + 1)) (λ q h. omega arith) i.asked s.asked_below;
+      asked_distinct = s.asked_distinct;
+      asked_sound = s.asked_sound;
+    }
 
 no-pairs : {X : Type 0} (R : X → X → Type 0) → AllPairs R []
 no-pairs R i j d lt within = absurd (omega arith)
 
 -- a query of this agent's own enters at its clock's time, and is open
 pub sound-query_asked : SnapshotLaws → (now : ℕ) (q : Query) (i : IdealAgent) → IsSound i → i.snapshot.stopped ≡ false → q.time ≡ i.queries.clock → q.time < 2 ^ 64 - 1
-    → IsSound (with_snapshot (noted kinds.Query q.time i.snapshot Kept) (query_asked now q i))
+    → IsSound (with_snapshot (noted_with kinds.Query q.time (told_query i.config q.time q.id) i.snapshot Kept) (query_asked now q i))
 sound-query_asked snapshots now q i s runs at small =
     let lower : All (λ p. p.entry.time < q.time) i.queries.history = subst (λ (t : ℕ). All (λ p. p.entry.time < t) i.queries.history) (sym at) s.queries.below_clock in
     let e = sound-query_entered snapshots q.time q.id i s runs small (later-fresh i.queries.history q.time q.id lower) in
@@ -182,6 +236,27 @@ sound-joined m is_join i s small = record {
     by true = track-raised i.events i.life i.snapshot.event_clock m.event_clock m.event_clock s.events (omega arith)
     by false = track-raised i.events i.life i.snapshot.event_clock m.event_clock 0 s.events (omega arith)
 
+-- a line that says no clock and enters nothing
+pub sound-told : SnapshotLaws → (line : List ℕ) (i : IdealAgent) → IsSound i → i.snapshot.stopped ≡ false → SaysNoClock line → IsSound (with_snapshot (kept_noted kinds.Event 0 line i.snapshot Kept) i)
+sound-told snapshots line i s runs quiet = let last : i.snapshot.event_clock ≡ max i.snapshot.event_clock 0 = omega arith in record {
+  config = s.config;
+  member_clock = s.member_clock;
+  events = subst (λ (n : ℕ). IsTrackSound i.events i.life n) last s.events;
+  queries = s.queries;
+  short = s.short;
+  snapshot = snapshots.kept_noted kinds.Event i.snapshot 0 line s.snapshot runs (omega arith) quiet;
+  asked_below = s.asked_below;
+  asked_distinct = s.asked_distinct;
+  asked_sound = s.asked_sound;
+}
+
+pub sound-heard : SnapshotLaws → (m : PushPull) (is_join : Bool) (i : IdealAgent) → IsSound i → i.snapshot.stopped ≡ false → m.member_clock ≤ 2 ^ 64 - 1 → IsSound (ended i (hear i m is_join) Kept).agent
+sound-heard snapshots m is_join i s runs small = by (told_least i.config m is_join) (quiet-least snapshots i.config m is_join)
+  where
+    by : (line : Option (List ℕ)) → AreQuiet line → IsSound (ended i (heard_by line i m is_join) Kept).agent
+    by None quiet = sound-joined m is_join i s small
+    by (Some line) quiet = sound-told snapshots line (joined m is_join i) (sound-joined m is_join i s small) runs quiet
+
 -- ---- the member clock's line, and a compaction
 
 pub sound-saved : SnapshotLaws → (t : ℕ) (i : IdealAgent) → IsSound i → i.snapshot.stopped ≡ false → t < 2 ^ 64 - 1 → IsSound (with_snapshot (noted kinds.Member t i.snapshot Kept) i)
@@ -197,15 +272,32 @@ sound-saved snapshots t i s runs small = record {
   asked_sound = s.asked_sound;
 }
 
-may-either : (s : SnapshotView) (durable : Option (List ℕ)) → MayReplace s (Failed durable) → KeepsEither s.durable (compaction_of s) durable
-may-either s durable may = may.0
+-- what is durable has the last lines after a compaction whose lines say no clock
+sound-text : SnapshotLaws → (s : SnapshotView) (lines : Option (List ℕ)) (w : Writing) → IsSnapshotSound s → AreQuiet lines → MayReplaceBy (text_with lines s) s w → IsSnapshotSound (text_replaced (text_with lines s) s w)
+sound-text snapshots s None Kept sound quiet may = snapshots.compacted s sound
+sound-text snapshots s None (Failed durable) sound quiet may = snapshots.compaction_failed s durable sound may.0
+sound-text snapshots s (Some lines) Kept sound quiet may = snapshots.kept_compacted s lines sound quiet
+sound-text snapshots s (Some lines) (Failed durable) sound quiet may = snapshots.kept_compaction_failed s lines durable sound quiet may.0
 
-pub sound-compact : SnapshotLaws → (w : Writing) (i : IdealAgent) → IsSound i → MayReplace i.snapshot w → IsSound (with_snapshot (compacted i.snapshot w) i)
-sound-compact snapshots w i s may = by w may
-  where
-    by : (w : Writing) → MayReplace i.snapshot w → IsSound (with_snapshot (compacted i.snapshot w) i)
-    by Kept may = record { config = s.config; member_clock = s.member_clock; events = s.events; queries = s.queries; short = s.short; snapshot = snapshots.compacted i.snapshot s.snapshot; asked_below = s.asked_below; asked_distinct = s.asked_distinct; asked_sound = s.asked_sound }
-    by (Failed durable) may = record { config = s.config; member_clock = s.member_clock; events = s.events; queries = s.queries; short = s.short; snapshot = snapshots.compaction_failed i.snapshot durable s.snapshot may.0; asked_below = s.asked_below; asked_distinct = s.asked_distinct; asked_sound = s.asked_sound }
+-- a compaction leaves the last lines
+last-text : (kind : ClockKind) (text : List ℕ) (s : SnapshotView) (w : Writing) → last_line kind (text_replaced text s w) ≡ last_line kind s
+last-text kind text s Kept = refl
+last-text kind text s (Failed durable) = refl
+
+pub sound-compact : SnapshotLaws → (w : Writing) (i : IdealAgent) → IsSound i → (let text = text_with (told_lines (view_of i)) i.snapshot in MayReplaceBy text i.snapshot w → IsSound (with_snapshot (text_replaced text i.snapshot w) i))
+sound-compact snapshots w i s may =
+    let text : List ℕ = text_with (told_lines (view_of i)) i.snapshot in
+    record {
+      config = s.config;
+      member_clock = s.member_clock;
+      events = subst (λ (n : ℕ). IsTrackSound i.events i.life n) (sym (last-text kinds.Event text i.snapshot w)) s.events;
+      queries = subst (λ (n : ℕ). IsTrackSound i.queries i.life n) (sym (last-text kinds.Query text i.snapshot w)) s.queries;
+      short = s.short;
+      snapshot = sound-text snapshots i.snapshot (told_lines (view_of i)) w s.snapshot (quiet-lines snapshots (view_of i)) may;
+      asked_below = s.asked_below;
+      asked_distinct = s.asked_distinct;
+      asked_sound = s.asked_sound;
+    }
 
 -- ---- a new life
 
@@ -223,18 +315,22 @@ sound-with_config config i s fits = record {
   asked_sound = s.asked_sound;
 }
 
-pub sound-restarted : SnapshotLaws → (i : IdealAgent) (text : List ℕ) (d : Device) → IsSound i → IsInText i text → (opened text d).member_clock < 2 ^ 64 - 1 → IsSound (restarted (opened text d) i)
-sound-restarted snapshots i text d s within small = record {
-  config = s.config;
-  member_clock = omega arith;
-  events = track-reopened i.events i.life i.snapshot.event_clock (opened text d).event_clock s.events within.events;
-  queries = track-reopened i.queries i.life i.snapshot.query_clock (opened text d).query_clock s.queries within.queries;
-  short = s.short;
-  snapshot = snapshots.opened text d;
-  asked_below = All-nil (λ q. q.0 < (opened text d).query_clock + 1);
-  asked_distinct = no-pairs (λ a b. a.0 ≢ b.0);
-  asked_sound = All-nil (λ q. IsOpenQuerySound q.1);
-}
+pub sound-restarted : SnapshotLaws → KeptRestartLaws → (i : IdealAgent) (text : List ℕ) (d : Device) → IsSound i → HasPast i.config i text → (opened text d).member_clock < 2 ^ 64 - 1 → IsSound (restarted text (opened text d) i)
+sound-restarted snapshots kept i text d s past small = by i.config.keep_events refl
+  where
+    by : (b : Bool) → i.config.keep_events ≡ b → IsSound (restarted_by b text (opened text d) i)
+    by true keeps = kept.sound i text d s past.times (past.kept keeps) small
+    by false keeps = record {
+      config = s.config;
+      member_clock = omega arith;
+      events = track-reopened i.events i.life i.snapshot.event_clock (opened text d).event_clock s.events past.times.events;
+      queries = track-reopened i.queries i.life i.snapshot.query_clock (opened text d).query_clock s.queries past.times.queries;
+      short = s.short;
+      snapshot = snapshots.opened text d;
+      asked_below = All-nil (λ q. q.0 < (opened text d).query_clock + 1);
+      asked_distinct = no-pairs (λ a b. a.0 ≢ b.0);
+      asked_sound = All-nil (λ q. IsOpenQuerySound q.1);
+    }
 
 -- an agent that has entered nothing
 pub sound-unopened : SnapshotLaws → (config : Config) (text : List ℕ) (d : Device) → is_sound config ≡ true → (opened text d).member_clock < 2 ^ 64 - 1 → IsSound (unopened config (opened text d))
@@ -260,8 +356,14 @@ sound-unopened snapshots config text d ok small = record {
       minimum = omega arith;
     }
 
-pub text-unopened : (config : Config) (s : SnapshotView) (text : List ℕ) → IsInText (unopened config s) text
-text-unopened config s text = record { events = All-nil (λ p. p.entry.time ≤ last_clock kinds.Event text); queries = All-nil (λ p. p.entry.time ≤ last_clock kinds.Query text) }
+pub past-unopened : (config : Config) (s : SnapshotView) (text : List ℕ) → HasPast config (unopened config s) text
+past-unopened config s text = record {
+  times = record { events = All-nil (λ p. p.entry.time ≤ last_clock kinds.Event text); queries = All-nil (λ p. p.entry.time ≤ last_clock kinds.Query text) };
+  kept = λ keeps. record {
+    events = All-nil (λ (p : Past EventBody). (p.entry.time < least_in kinds.Event text) ⊎ Contains (kept_events whatever text) p.entry);
+    queries = All-nil (λ (p : Past ℕ). (p.entry.time < least_in kinds.Query text) ⊎ Contains (kept_queries whatever text) p.entry);
+  };
+}
 
 -- ---- answers that are counted
 

@@ -1,5 +1,5 @@
 -- How a call of the ideal agent ends, by how the real one's ended.
-use Rattle.serf_agent.proofs.Names.{◌≡◌, ℕ, ◌-◌, ◌^◌, ◌<◌, ◌≤◌, nat_lt, nat_le, not, cond, length, Bool, false, List, Option, Some, None, Result, Ok, Err, refl, sym, subst, arith, EventBody, ClockKind, clock_line, Device, Kept, Failed, noted, written, WireFault, decoded, Message, Query, QueryResponse, UserEvent, or_parts, ltb-false, lt-leb}
+use Rattle.serf_agent.proofs.Names.{◌≡◌, ℕ, ◌-◌, ◌^◌, ◌<◌, ◌≤◌, nat_lt, nat_le, not, cond, length, Bool, false, List, Option, Some, None, Result, Ok, Err, refl, sym, subst, arith, EventBody, ClockKind, Device, Kept, Failed, written, WireFault, decoded, Message, Query, QueryResponse, UserEvent, or_parts, ltb-false, lt-leb}
 use Rattle.serf_wire.specs.Decoded.{event_in}
 use Rattle.serf_wire.specs.Message.{user_event, query, query_response, push_pull, foreign}
 use Rattle.serf_snap.specs.declared.kind.ClockKind.TheVariants as kinds
@@ -16,15 +16,16 @@ use Rattle.serf_agent.specs.declared.outcome.QueryParams.{QueryParams}
 use Rattle.serf_agent.specs.declared.outcome.Reason.{Reason}
 use Rattle.serf_agent.specs.declared.outcome.ReceiveFault.{ReceiveFault}
 use Rattle.serf_agent.specs.declared.outcome.ReceiveFault.TheVariants.{SinkFault, Stopped}
-use Rattle.serf_agent.specs.Calls.{Ends, Notes, Step, MayNote, answers}
-use Rattle.serf_agent.specs.Devices.{FailsLine, device_noted}
-use Rattle.serf_agent.specs.Events.{admission, event_observed, event_entered, event_out, event_packet, received_as, receive_event, fire_fault, fired_as, fire, texts_len, is_too_large, drawn}
+use Rattle.serf_agent.specs.Calls.{Ends, Notes, Step, answers}
+use Rattle.serf_agent.specs.Devices.{FailsLine}
+use Rattle.serf_agent.specs.Events.{admission, event_observed, event_entered, event_out, event_packet, received_as, receive_event, fire_fault, fired_as, fire, texts_len, told_event, is_too_large, drawn}
 use Rattle.serf_agent.specs.declared.open_query.OpenQuery.{OpenQuery}
 use Rattle.serf_agent.specs.Receive.{receive_read, receive_tagged}
-use Rattle.serf_agent.specs.Queries.{ack_if_passed, handed_if_passed, has_flag, no_broadcast_flag, query_admission, query_entered, query_observed, query_received_as, receive_query, answer_ignore_reason, asked_at, counted, counted_as, counts, fire_query, fired_query, is_ack, is_full, is_no_timeout, is_too_large_query, query_asked, query_at, query_fault, query_fired_as, receive_response, response_received_as, response_received_at, with_asked_at}
+use Rattle.serf_agent.specs.Queries.{ack_if_passed, handed_if_passed, has_flag, no_broadcast_flag, query_admission, query_entered, query_observed, query_received_as, receive_query, answer_ignore_reason, asked_at, counted, counted_as, counts, fire_query, fired_query, is_ack, is_full, is_no_timeout, is_too_large_query, query_asked, query_at, query_fault, query_fired_as, receive_response, response_received_as, response_received_at, told_query, with_asked_at}
 use Rattle.serf_agent.specs.Ideal.{IdealAgent, with_asked, with_snapshot}
 use Rattle.serf_agent.specs.Sound.{IsSound}
 use Rattle.serf_agent.specs.Steps.{Steps}
+use Rattle.serf_agent.specs.Told.{MayNote, bytes_with, device_noted, noted_with}
 use Rattle.serf_agent.proofs.ConfigLaws.{limit-sound}
 use Rattle.serf_agent.specs.View.{AgentState, view_of}
 use Rattle.serf_agent.proofs.SoundLaws.{admission-new, sound-event_observed, sound-event_entered, sound-note_failed, sound-query_observed, sound-query_entered, query_admission-new, sound-counted, sound-query_asked}
@@ -36,13 +37,13 @@ steps-ends i step result old new answers state sound device = record { writing =
 pub steps-answers : {R : Type 0} (i : IdealAgent) (answer result : R) (old : Device) (new : AgentState) → IsSound i → result ≡ answer → new.concrete ≡ view_of i → new.device ≡ old → Steps i (answers i answer) result old new
 steps-answers i answer result old new sound same state device = record { writing = Kept; allowed = refl; answers = same; state = state; sound = sound; device = device }
 
-pub steps-kept : {R : Type 0} (i : IdealAgent) (kind : ClockKind) (t : ℕ) (step : Step R) (fault result : R) (old : Device) (new : AgentState) → MayNote kind t i.snapshot Kept → result ≡ step.answer → new.concrete ≡ view_of (with_snapshot (noted kind t i.snapshot Kept) step.agent) → IsSound (with_snapshot (noted kind t i.snapshot Kept) step.agent)
-    → new.device ≡ device_noted kind t i.snapshot old → Steps i (Notes kind t step fault) result old new
-steps-kept i kind t step fault result old new may answers state sound device = record { writing = Kept; allowed = may; answers = answers; state = state; sound = sound; device = device }
+pub steps-kept : {R : Type 0} (i : IdealAgent) (kind : ClockKind) (t : ℕ) (line : Option (List ℕ)) (step : Step R) (fault result : R) (old : Device) (new : AgentState) → MayNote kind t line i.snapshot Kept → result ≡ step.answer → new.concrete ≡ view_of (with_snapshot (noted_with kind t line i.snapshot Kept) step.agent) → IsSound (with_snapshot (noted_with kind t line i.snapshot Kept) step.agent)
+    → new.device ≡ device_noted kind t line i.snapshot old → Steps i (Notes kind t line step fault) result old new
+steps-kept i kind t line step fault result old new may answers state sound device = record { writing = Kept; allowed = may; answers = answers; state = state; sound = sound; device = device }
 
-pub steps-failed : SnapshotLaws → {R : Type 0} (i : IdealAgent) (kind : ClockKind) (t : ℕ) (step : Step R) (fault result : R) (old : Device) (new : AgentState) (durable : Option (List ℕ)) → IsSound i → MayNote kind t i.snapshot (Failed durable) → result ≡ fault → new.concrete ≡ view_of (with_snapshot (written kind t i.snapshot (Failed durable)) i)
-    → FailsLine old new.device (clock_line kind t) → Steps i (Notes kind t step fault) result old new
-steps-failed snapshots i kind t step fault result old new durable sound may answers state device = record { writing = Failed durable; allowed = may; answers = answers; state = state; sound = sound-note_failed snapshots kind t durable i sound may; device = device }
+pub steps-failed : SnapshotLaws → {R : Type 0} (i : IdealAgent) (kind : ClockKind) (t : ℕ) (line : Option (List ℕ)) (step : Step R) (fault result : R) (old : Device) (new : AgentState) (durable : Option (List ℕ)) → IsSound i → MayNote kind t line i.snapshot (Failed durable) → result ≡ fault → new.concrete ≡ view_of (with_snapshot (written kind t i.snapshot (Failed durable)) i)
+    → FailsLine old new.device (bytes_with kind t line i.snapshot) → Steps i (Notes kind t line step fault) result old new
+steps-failed snapshots i kind t line step fault result old new durable sound may answers state device = record { writing = Failed durable; allowed = may; answers = answers; state = state; sound = sound-note_failed snapshots kind t line durable i sound may; device = device }
 
 -- ---- an event that comes
 
@@ -50,16 +51,16 @@ pub steps-event_ignored : (i : IdealAgent) (t : ℕ) (what : EventBody) (coalesc
 steps-event_ignored i t what flag reason old new sound says state device =
     subst (λ (r : Option Reason). Steps i (received_as r i t what flag) (Ok (outcomes.Ignored reason)) old new) (sym says) (steps-ends i _ _ old new refl state (sound-event_observed t i sound) device)
 
-pub steps-event_entered : SnapshotLaws → (i : IdealAgent) (t : ℕ) (what : EventBody) (flag : Bool) (result : Result Outcome ReceiveFault) (old : Device) (new : AgentState) → IsSound i → i.snapshot.stopped ≡ false → t < 2 ^ 64 - 1 → admission i t what ≡ None → MayNote kinds.Event t i.snapshot Kept
-    → result ≡ Ok (outcomes.Event (event_out t what flag)) → new.concrete ≡ view_of (with_snapshot (noted kinds.Event t i.snapshot Kept) (event_entered t what i)) → new.device ≡ device_noted kinds.Event t i.snapshot old → Steps i (receive_event i t what flag) result old new
+pub steps-event_entered : SnapshotLaws → (i : IdealAgent) (t : ℕ) (what : EventBody) (flag : Bool) (result : Result Outcome ReceiveFault) (old : Device) (new : AgentState) → IsSound i → i.snapshot.stopped ≡ false → t < 2 ^ 64 - 1 → admission i t what ≡ None → MayNote kinds.Event t (told_event i.config t what) i.snapshot Kept
+    → result ≡ Ok (outcomes.Event (event_out t what flag)) → new.concrete ≡ view_of (with_snapshot (noted_with kinds.Event t (told_event i.config t what) i.snapshot Kept) (event_entered t what i)) → new.device ≡ device_noted kinds.Event t (told_event i.config t what) i.snapshot old → Steps i (receive_event i t what flag) result old new
 steps-event_entered snapshots i t what flag result old new sound runs small says may answers state device =
     let parts = admission-new i t what says in
-    subst (λ (r : Option Reason). Steps i (received_as r i t what flag) result old new) (sym says) (steps-kept i kinds.Event t _ _ result old new may answers state (sound-event_entered snapshots t what i sound runs small parts.0 parts.1) device)
+    subst (λ (r : Option Reason). Steps i (received_as r i t what flag) result old new) (sym says) (steps-kept i kinds.Event t (told_event i.config t what) _ _ result old new may answers state (sound-event_entered snapshots t what i sound runs small parts.0 parts.1) device)
 
-pub steps-event_failed : SnapshotLaws → (i : IdealAgent) (t : ℕ) (what : EventBody) (flag : Bool) (durable : Option (List ℕ)) (result : Result Outcome ReceiveFault) (old : Device) (new : AgentState) → IsSound i → admission i t what ≡ None → MayNote kinds.Event t i.snapshot (Failed durable) → result ≡ Err SinkFault
-    → new.concrete ≡ view_of (with_snapshot (written kinds.Event t i.snapshot (Failed durable)) i) → FailsLine old new.device (clock_line kinds.Event t) → Steps i (receive_event i t what flag) result old new
+pub steps-event_failed : SnapshotLaws → (i : IdealAgent) (t : ℕ) (what : EventBody) (flag : Bool) (durable : Option (List ℕ)) (result : Result Outcome ReceiveFault) (old : Device) (new : AgentState) → IsSound i → admission i t what ≡ None → MayNote kinds.Event t (told_event i.config t what) i.snapshot (Failed durable) → result ≡ Err SinkFault
+    → new.concrete ≡ view_of (with_snapshot (written kinds.Event t i.snapshot (Failed durable)) i) → FailsLine old new.device (bytes_with kinds.Event t (told_event i.config t what) i.snapshot) → Steps i (receive_event i t what flag) result old new
 steps-event_failed snapshots i t what flag durable result old new sound says may answers state device =
-    subst (λ (r : Option Reason). Steps i (received_as r i t what flag) result old new) (sym says) (steps-failed snapshots i kinds.Event t _ _ result old new durable sound may answers state device)
+    subst (λ (r : Option Reason). Steps i (received_as r i t what flag) result old new) (sym says) (steps-failed snapshots i kinds.Event t (told_event i.config t what) _ _ result old new durable sound may answers state device)
 
 -- ---- an event that is fired
 
@@ -67,17 +68,17 @@ pub steps-fire_refused : (i : IdealAgent) (what : EventBody) (flag : Bool) (faul
 steps-fire_refused i what flag fault old new sound says state device =
     subst (λ (r : Option FireFault). Steps i (fired_as r i what flag) (Err fault) old new) (sym says) (steps-answers i (Err fault) (Err fault) old new sound refl state device)
 
-pub steps-fire_entered : SnapshotLaws → (i : IdealAgent) (what : EventBody) (flag : Bool) (result : Result Fired FireFault) (old : Device) (new : AgentState) → IsSound i → i.snapshot.stopped ≡ false → i.events.clock < 2 ^ 64 - 1 → texts_len what ≤ 9216 → fire_fault i what flag ≡ None → MayNote kinds.Event i.events.clock i.snapshot Kept
+pub steps-fire_entered : SnapshotLaws → (i : IdealAgent) (what : EventBody) (flag : Bool) (result : Result Fired FireFault) (old : Device) (new : AgentState) → IsSound i → i.snapshot.stopped ≡ false → i.events.clock < 2 ^ 64 - 1 → texts_len what ≤ 9216 → fire_fault i what flag ≡ None → MayNote kinds.Event i.events.clock (told_event i.config i.events.clock what) i.snapshot Kept
     → result ≡ Ok record { packet = event_packet i.events.clock what flag; handed = event_out i.events.clock what flag }
-    → new.concrete ≡ view_of (with_snapshot (noted kinds.Event i.events.clock i.snapshot Kept) (event_entered i.events.clock what i)) → new.device ≡ device_noted kinds.Event i.events.clock i.snapshot old → Steps i (fire i what flag) result old new
+    → new.concrete ≡ view_of (with_snapshot (noted_with kinds.Event i.events.clock (told_event i.config i.events.clock what) i.snapshot Kept) (event_entered i.events.clock what i)) → new.device ≡ device_noted kinds.Event i.events.clock (told_event i.config i.events.clock what) i.snapshot old → Steps i (fire i what flag) result old new
 steps-fire_entered snapshots i what flag result old new sound runs small short says may answers state device =
     subst (λ (r : Option FireFault). Steps i (fired_as r i what flag) result old new) (sym says)
-    (steps-kept i kinds.Event i.events.clock _ _ result old new may answers state (sound-event_entered snapshots i.events.clock what i sound runs small short (later-fresh i.events.history i.events.clock what sound.events.below_clock)) device)
+    (steps-kept i kinds.Event i.events.clock (told_event i.config i.events.clock what) _ _ result old new may answers state (sound-event_entered snapshots i.events.clock what i sound runs small short (later-fresh i.events.history i.events.clock what sound.events.below_clock)) device)
 
-pub steps-fire_failed : SnapshotLaws → (i : IdealAgent) (what : EventBody) (flag : Bool) (durable : Option (List ℕ)) (result : Result Fired FireFault) (old : Device) (new : AgentState) → IsSound i → fire_fault i what flag ≡ None → MayNote kinds.Event i.events.clock i.snapshot (Failed durable) → result ≡ Err fires.SinkFault
-    → new.concrete ≡ view_of (with_snapshot (written kinds.Event i.events.clock i.snapshot (Failed durable)) i) → FailsLine old new.device (clock_line kinds.Event i.events.clock) → Steps i (fire i what flag) result old new
+pub steps-fire_failed : SnapshotLaws → (i : IdealAgent) (what : EventBody) (flag : Bool) (durable : Option (List ℕ)) (result : Result Fired FireFault) (old : Device) (new : AgentState) → IsSound i → fire_fault i what flag ≡ None → MayNote kinds.Event i.events.clock (told_event i.config i.events.clock what) i.snapshot (Failed durable) → result ≡ Err fires.SinkFault
+    → new.concrete ≡ view_of (with_snapshot (written kinds.Event i.events.clock i.snapshot (Failed durable)) i) → FailsLine old new.device (bytes_with kinds.Event i.events.clock (told_event i.config i.events.clock what) i.snapshot) → Steps i (fire i what flag) result old new
 steps-fire_failed snapshots i what flag durable result old new sound says may answers state device =
-    subst (λ (r : Option FireFault). Steps i (fired_as r i what flag) result old new) (sym says) (steps-failed snapshots i kinds.Event i.events.clock _ _ result old new durable sound may answers state device)
+    subst (λ (r : Option FireFault). Steps i (fired_as r i what flag) result old new) (sym says) (steps-failed snapshots i kinds.Event i.events.clock (told_event i.config i.events.clock what) _ _ result old new durable sound may answers state device)
 
 -- an agent that runs fires what is small enough, while its clock has a time
 pub fire-allowed : (i : IdealAgent) (what : EventBody) (flag : Bool) → i.snapshot.stopped ≡ false → is_too_large i.config.event_limit (drawn i.events.clock) what flag ≡ false → i.events.clock < 2 ^ 64 - 1 → fire_fault i what flag ≡ None
@@ -97,17 +98,17 @@ pub steps-query_ignored : (tags : Bool) (i : IdealAgent) (now : ℕ) (q : Query)
 steps-query_ignored tags i now q reason old new sound says state device =
     subst (λ (r : Option Reason). Steps i (query_received_as tags r i now q) (Ok (outcomes.Ignored reason)) old new) (sym says) (steps-ends i _ _ old new refl state (sound-query_observed q.time i sound) device)
 
-pub steps-query_entered : SnapshotLaws → (tags : Bool) (i : IdealAgent) (now : ℕ) (q : Query) (result : Result Outcome ReceiveFault) (old : Device) (new : AgentState) → IsSound i → i.snapshot.stopped ≡ false → q.time < 2 ^ 64 - 1 → query_admission i q.time q.id ≡ None → MayNote kinds.Query q.time i.snapshot Kept
+pub steps-query_entered : SnapshotLaws → (tags : Bool) (i : IdealAgent) (now : ℕ) (q : Query) (result : Result Outcome ReceiveFault) (old : Device) (new : AgentState) → IsSound i → i.snapshot.stopped ≡ false → q.time < 2 ^ 64 - 1 → query_admission i q.time q.id ≡ None → MayNote kinds.Query q.time (told_query i.config q.time q.id) i.snapshot Kept
     → result ≡ Ok (outcomes.Query (handed_if_passed tags i.config now q) (ack_if_passed tags i.config.name q) (not (has_flag no_broadcast_flag q.flags)))
-    → new.concrete ≡ view_of (with_snapshot (noted kinds.Query q.time i.snapshot Kept) (query_entered q.time q.id i)) → new.device ≡ device_noted kinds.Query q.time i.snapshot old → Steps i (receive_query tags i now q) result old new
+    → new.concrete ≡ view_of (with_snapshot (noted_with kinds.Query q.time (told_query i.config q.time q.id) i.snapshot Kept) (query_entered q.time q.id i)) → new.device ≡ device_noted kinds.Query q.time (told_query i.config q.time q.id) i.snapshot old → Steps i (receive_query tags i now q) result old new
 steps-query_entered snapshots tags i now q result old new sound runs small says may answers state device =
     subst (λ (r : Option Reason). Steps i (query_received_as tags r i now q) result old new) (sym says)
-    (steps-kept i kinds.Query q.time _ _ result old new may answers state (sound-query_entered snapshots q.time q.id i sound runs small (query_admission-new i q.time q.id says)) device)
+    (steps-kept i kinds.Query q.time (told_query i.config q.time q.id) _ _ result old new may answers state (sound-query_entered snapshots q.time q.id i sound runs small (query_admission-new i q.time q.id says)) device)
 
-pub steps-query_failed : SnapshotLaws → (tags : Bool) (i : IdealAgent) (now : ℕ) (q : Query) (durable : Option (List ℕ)) (result : Result Outcome ReceiveFault) (old : Device) (new : AgentState) → IsSound i → query_admission i q.time q.id ≡ None → MayNote kinds.Query q.time i.snapshot (Failed durable) → result ≡ Err SinkFault
-    → new.concrete ≡ view_of (with_snapshot (written kinds.Query q.time i.snapshot (Failed durable)) i) → FailsLine old new.device (clock_line kinds.Query q.time) → Steps i (receive_query tags i now q) result old new
+pub steps-query_failed : SnapshotLaws → (tags : Bool) (i : IdealAgent) (now : ℕ) (q : Query) (durable : Option (List ℕ)) (result : Result Outcome ReceiveFault) (old : Device) (new : AgentState) → IsSound i → query_admission i q.time q.id ≡ None → MayNote kinds.Query q.time (told_query i.config q.time q.id) i.snapshot (Failed durable) → result ≡ Err SinkFault
+    → new.concrete ≡ view_of (with_snapshot (written kinds.Query q.time i.snapshot (Failed durable)) i) → FailsLine old new.device (bytes_with kinds.Query q.time (told_query i.config q.time q.id) i.snapshot) → Steps i (receive_query tags i now q) result old new
 steps-query_failed snapshots tags i now q durable result old new sound says may answers state device =
-    subst (λ (r : Option Reason). Steps i (query_received_as tags r i now q) result old new) (sym says) (steps-failed snapshots i kinds.Query q.time _ _ result old new durable sound may answers state device)
+    subst (λ (r : Option Reason). Steps i (query_received_as tags r i now q) result old new) (sym says) (steps-failed snapshots i kinds.Query q.time (told_query i.config q.time q.id) _ _ result old new durable sound may answers state device)
 
 -- ---- an answer that comes
 
@@ -140,15 +141,15 @@ pub query-allowed : (i : IdealAgent) (id : ℕ) (name payload : List ℕ) (param
     → query_fault i id name payload params ≡ None
 query-allowed i id name payload params runs small some time = let low : nat_le (2 ^ 64 - 1) i.queries.clock ≡ false = lt-leb _ _ time in rw (runs, small, some, low) refl
 
-pub steps-query_asked : SnapshotLaws → (i : IdealAgent) (now id : ℕ) (name payload : List ℕ) (params : QueryParams) (result : Result FiredQuery QueryFault) (old : Device) (new : AgentState) → IsSound i → i.snapshot.stopped ≡ false → i.queries.clock < 2 ^ 64 - 1 → query_fault i id name payload params ≡ None → MayNote kinds.Query i.queries.clock i.snapshot Kept
+pub steps-query_asked : SnapshotLaws → (i : IdealAgent) (now id : ℕ) (name payload : List ℕ) (params : QueryParams) (result : Result FiredQuery QueryFault) (old : Device) (new : AgentState) → IsSound i → i.snapshot.stopped ≡ false → i.queries.clock < 2 ^ 64 - 1 → query_fault i id name payload params ≡ None → MayNote kinds.Query i.queries.clock (told_query i.config i.queries.clock id) i.snapshot Kept
     → result ≡ Ok (fired_query i.config now (query_at i.queries.clock i.config.name id name payload params))
-    → new.concrete ≡ view_of (with_snapshot (noted kinds.Query i.queries.clock i.snapshot Kept) (query_asked now (query_at i.queries.clock i.config.name id name payload params) i)) → new.device ≡ device_noted kinds.Query i.queries.clock i.snapshot old → Steps i (fire_query i now id name payload params) result old new
+    → new.concrete ≡ view_of (with_snapshot (noted_with kinds.Query i.queries.clock (told_query i.config i.queries.clock id) i.snapshot Kept) (query_asked now (query_at i.queries.clock i.config.name id name payload params) i)) → new.device ≡ device_noted kinds.Query i.queries.clock (told_query i.config i.queries.clock id) i.snapshot old → Steps i (fire_query i now id name payload params) result old new
 steps-query_asked snapshots i now id name payload params result old new sound runs small says may answers state device =
     let q = query_at i.queries.clock i.config.name id name payload params in
-    subst (λ (r : Option QueryFault). Steps i (query_fired_as r i now q) result old new) (sym says) (steps-kept i kinds.Query i.queries.clock _ _ result old new may answers state (sound-query_asked snapshots now q i sound runs refl small) device)
+    subst (λ (r : Option QueryFault). Steps i (query_fired_as r i now q) result old new) (sym says) (steps-kept i kinds.Query i.queries.clock (told_query i.config i.queries.clock id) _ _ result old new may answers state (sound-query_asked snapshots now q i sound runs refl small) device)
 
-pub steps-query_fire_failed : SnapshotLaws → (i : IdealAgent) (now id : ℕ) (name payload : List ℕ) (params : QueryParams) (durable : Option (List ℕ)) (result : Result FiredQuery QueryFault) (old : Device) (new : AgentState) → IsSound i → query_fault i id name payload params ≡ None → MayNote kinds.Query i.queries.clock i.snapshot (Failed durable) → result ≡ Err asks_faults.SinkFault
-    → new.concrete ≡ view_of (with_snapshot (written kinds.Query i.queries.clock i.snapshot (Failed durable)) i) → FailsLine old new.device (clock_line kinds.Query i.queries.clock) → Steps i (fire_query i now id name payload params) result old new
+pub steps-query_fire_failed : SnapshotLaws → (i : IdealAgent) (now id : ℕ) (name payload : List ℕ) (params : QueryParams) (durable : Option (List ℕ)) (result : Result FiredQuery QueryFault) (old : Device) (new : AgentState) → IsSound i → query_fault i id name payload params ≡ None → MayNote kinds.Query i.queries.clock (told_query i.config i.queries.clock id) i.snapshot (Failed durable) → result ≡ Err asks_faults.SinkFault
+    → new.concrete ≡ view_of (with_snapshot (written kinds.Query i.queries.clock i.snapshot (Failed durable)) i) → FailsLine old new.device (bytes_with kinds.Query i.queries.clock (told_query i.config i.queries.clock id) i.snapshot) → Steps i (fire_query i now id name payload params) result old new
 steps-query_fire_failed snapshots i now id name payload params durable result old new sound says may answers state device =
     let q = query_at i.queries.clock i.config.name id name payload params in
-    subst (λ (r : Option QueryFault). Steps i (query_fired_as r i now q) result old new) (sym says) (steps-failed snapshots i kinds.Query i.queries.clock _ _ result old new durable sound may answers state device)
+    subst (λ (r : Option QueryFault). Steps i (query_fired_as r i now q) result old new) (sym says) (steps-failed snapshots i kinds.Query i.queries.clock (told_query i.config i.queries.clock id) _ _ result old new durable sound may answers state device)

@@ -13,7 +13,7 @@ use Rattle.serf_agent.specs.Ideal.{IdealAgent, Past, with_snapshot}
 use Rattle.serf_agent.specs.KeptRestart.{HasKept}
 use Rattle.serf_agent.specs.KeptTexts.{KeptEventLaws, KeptQueryLaws, event_entry, kept_events, kept_queries, query_entry, whatever}
 use Rattle.serf_agent.specs.Queries.{query_entered}
-use Rattle.serf_agent.specs.Restart.{restarted}
+use Rattle.serf_agent.specs.Restart.{restarted, restarted_by}
 use Rattle.serf_agent.specs.Sound.{IsSound}
 use Rattle.serf_agent.specs.Unkept.{HasSaid, IsSaid, IsSaidSound, UnkeptLaws}
 use Rattle.serf_agent.proofs.KeptRestartLaws.{sealed-kept}
@@ -120,15 +120,16 @@ enters_query laws t id i had sound runs from small durable = by (nat_le t i.snap
 
 -- ---- openings and compactions
 
-restarts : BelowUnkept → (i : IdealAgent) (text : List ℕ) (d : Device) → HasKept i text → HasSaid (restarted (opened text d) i) (sealed text)
-restarts laws i text d had = record {
-  kept = record {
-    events = sealed-kept kinds.Event kept_events i.events.history text (laws.least_sealed kinds.Event text) (ap (map event_entry) (laws.events_sealed whatever text)) had.events;
-    queries = sealed-kept kinds.Query kept_queries i.queries.history text (laws.least_sealed kinds.Query text) (ap (map query_entry) (laws.queries_sealed whatever text)) had.queries;
-  };
-  events = inl (omega arith);
-  queries = inl (omega arith);
-}
+restarts : BelowUnkept → (i : IdealAgent) (text : List ℕ) (d : Device) → i.config.keep_events ≡ false → HasKept i text → HasSaid (restarted text (opened text d) i) (sealed text)
+restarts laws i text d keeps had =
+    subst (λ (b : Bool). HasSaid (restarted_by b text (opened text d) i) (sealed text)) (sym keeps) (record {
+      kept = record {
+        events = sealed-kept kinds.Event kept_events i.events.history text (laws.least_sealed kinds.Event text) (ap (map event_entry) (laws.events_sealed whatever text)) had.events;
+        queries = sealed-kept kinds.Query kept_queries i.queries.history text (laws.least_sealed kinds.Query text) (ap (map query_entry) (laws.queries_sealed whatever text)) had.queries;
+      };
+      events = inl (omega arith);
+      queries = inl (omega arith);
+    })
 
 least-some : (k : ClockKind) (ls : List (List ℕ)) → 1 ≤ least_of_lines k ls
 least-some k [] = omega arith

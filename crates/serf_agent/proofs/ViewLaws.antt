@@ -1,14 +1,18 @@
 -- What an agent stores of the ideal agent, after each change.
-use Rattle.serf_agent.proofs.Names.{◌≡◌, ℕ, ◌+◌, List, [], Option, sym, ◌∙◌, ap, observed, EventBody, slots_of, ClockKind, Device, SnapshotView, Failed, written, opened}
+use Rattle.serf_agent.proofs.Names.{◌≡◌, ℕ, ◌+◌, Bool, true, false, List, [], Option, sym, ◌∙◌, ap, observed, EventBody, same_id, same_texts, slots_of, ClockKind, Device, SnapshotView, Failed, written, opened}
+use Rattle.serf_snap.specs.declared.kind.ClockKind.TheVariants as kinds
+use Rattle.serf_snap.specs.EventLines.{least_in}
 use Rattle.serf_agent.specs.declared.config.Config.{Config}
 use Rattle.serf_agent.specs.declared.open_query.OpenQuery.{OpenQuery}
 use Rattle.serf_agent.specs.Events.{event_observed}
 use Rattle.serf_agent.specs.Ideal.{IdealAgent, with_snapshot}
-use Rattle.serf_agent.specs.Inside.{first_concrete}
+use Rattle.serf_agent.specs.Inside.{first_concrete, first_track}
+use Rattle.serf_agent.specs.KeptLaws.{KeptRestartLaws}
+use Rattle.serf_agent.specs.KeptRestart.{events_reached, queries_reached, restarted_kept}
 use Rattle.serf_agent.specs.Queries.{query_observed}
-use Rattle.serf_agent.specs.Restart.{restarted}
+use Rattle.serf_agent.specs.Restart.{restarted, restarted_by}
 use Rattle.serf_agent.specs.Sound.{IsSound}
-use Rattle.serf_agent.specs.Tracks.{ConcreteTrack}
+use Rattle.serf_agent.specs.Tracks.{ConcreteTrack, view_of_track}
 use Rattle.serf_agent.specs.View.{ConcreteState, view_of, concrete_with}
 use Rattle.serf_agent.proofs.TrackLaws.{of_life-none, view-observed}
 
@@ -17,20 +21,28 @@ pub concrete-eq : (new : ConcreteState) (config : Config) (member_clock : ℕ) (
     → new ≡ record { config = config; member_clock = member_clock; events = events; queries = queries; snapshot = snapshot; asked = asked }
 concrete-eq new config member_clock events queries snapshot asked h1 h2 h3 h4 h5 h6 = λ k. record { config = h1 k; member_clock = h2 k; events = h3 k; queries = h4 k; snapshot = h5 k; asked = h6 k }
 
--- an agent that has entered nothing in this life is the view of one that was restarted with its settings
-pub first-view : (i : IdealAgent) (text : List ℕ) (d : Device) → IsSound i → first_concrete i.config (opened text d) ≡ view_of (restarted (opened text d) i)
-first-view i text d sound =
+-- what is stored at an opening is stored of an agent that was restarted with its settings
+pub first-view : KeptRestartLaws → (i : IdealAgent) (text : List ℕ) (d : Device) → IsSound i → first_concrete i.config text (opened text d) ≡ view_of (restarted text (opened text d) i)
+first-view kept i text d sound =
     let s = opened text d in
-    let events = sym (of_life-none i.life i.events.history sound.events.lives) in
-    let queries = sym (of_life-none i.life i.queries.history sound.queries.lives) in
     λ k. record {
       config = i.config;
       member_clock = s.member_clock + 1;
-      events = record { clock = s.event_clock + 1; minimum = s.event_clock + 1; slots = slots_of i.config.event_buffer (events k) };
-      queries = record { clock = s.query_clock + 1; minimum = s.query_clock + 1; slots = slots_of i.config.query_buffer (queries k) };
+      events = first-events i.config.keep_events k;
+      queries = first-queries i.config.keep_events k;
       snapshot = s;
       asked = [];
     }
+  where
+    first-events : (b : Bool) → first_track b same_texts i.config.event_buffer i.config.per_time (opened text d).event_clock (least_in kinds.Event text) (events_reached i.config (opened text d).event_clock text)
+        ≡ view_of_track i.config.event_buffer (i.life + 1) (restarted_by b text (opened text d) i).events
+    first-events true = λ k. record { clock = (restarted_kept text (opened text d) i).events.clock; minimum = (restarted_kept text (opened text d) i).events.minimum; slots = slots_of i.config.event_buffer (sym (kept.events_view i text (opened text d) sound) k) }
+    first-events false = λ k. record { clock = (opened text d).event_clock + 1; minimum = (opened text d).event_clock + 1; slots = slots_of i.config.event_buffer (sym (of_life-none i.life i.events.history sound.events.lives) k) }
+
+    first-queries : (b : Bool) → first_track b same_id i.config.query_buffer i.config.per_time (opened text d).query_clock (least_in kinds.Query text) (queries_reached i.config (opened text d).query_clock text)
+        ≡ view_of_track i.config.query_buffer (i.life + 1) (restarted_by b text (opened text d) i).queries
+    first-queries true = λ k. record { clock = (restarted_kept text (opened text d) i).queries.clock; minimum = (restarted_kept text (opened text d) i).queries.minimum; slots = slots_of i.config.query_buffer (sym (kept.queries_view i text (opened text d) sound) k) }
+    first-queries false = λ k. record { clock = (opened text d).query_clock + 1; minimum = (opened text d).query_clock + 1; slots = slots_of i.config.query_buffer (sym (of_life-none i.life i.queries.history sound.queries.lives) k) }
 
 -- an event's time was observed
 pub event_observed-view : (i : IdealAgent) (old : ConcreteState) (new : ConcreteTrack EventBody) (t : ℕ) → old ≡ view_of i → new.clock ≡ observed old.events.clock t → new.minimum ≡ old.events.minimum → new.slots ≡ old.events.slots

@@ -37,4 +37,5 @@ default_config name = record {
   responders = default_responders;
   per_time = default_per_time;
   ignore_old = false;
+  keep_events = false;
 }

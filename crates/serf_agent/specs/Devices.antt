@@ -1,20 +1,14 @@
 -- What a call does to the device that keeps the agent's clock lines, whatever the device shows of its bytes
 -- (`snapshot.go`, `appendLine`; Serf flushes at intervals, here each line is flushed by itself).
-use Rattle.std.specs.Prelude.{◌≡◌, ℕ, nat_le, if◌then◌else◌, List}
+use Rattle.std.specs.Prelude.{◌≡◌, ℕ, List}
 use Rattle.std.specs.Option.{option_map}
-use Rattle.serf_snap.specs.declared.kind.ClockKind.{ClockKind}
-use Rattle.serf_snap.specs.Clocks.{clock_line}
-use Rattle.serf_snap.specs.Device.{Device, Fails, FailsReplace, appended, flushed, replace_called, replace_decremented, replaced}
-use Rattle.serf_snap.specs.Notes.{SnapshotView, Writing, Kept, Failed, HasTriedNote, compaction_of, last_line, note_decremented}
+use Rattle.serf_snap.specs.Device.{Device, Fails, FailsReplace, replace_called, replace_decremented, replaced}
+use Rattle.serf_snap.specs.Notes.{Writing, Kept, Failed, HasTriedNote, note_decremented}
 use Rattle.serf_agent.specs.Calls.{Call, Ends, Notes, Replaces}
 use Rattle.serf_agent.specs.Ideal.{IdealAgent}
+use Rattle.serf_agent.specs.Told.{bytes_with, device_noted, text_with}
 
--- The device once a time is noted: its line is appended and flushed, and nothing else is; where the last line of the kind
--- says this time or a later one, the device isn't called.
-abbrev pub device_noted : ClockKind → ℕ → SnapshotView → Device → Device
-device_noted kind t s d = if nat_le t (last_line kind s) then d else flushed (appended (clock_line kind t) d)
-
--- the device failed when a line was appended and flushed, each once at most
+-- the device failed when bytes were appended and flushed, each once at most
 pub record FailsLine (old new : Device) (line : List ℕ) : Type 0 where
   pub fails : Fails old new line
   pub called : HasTriedNote old.calls new.calls
@@ -29,14 +23,14 @@ pub record FailsText (old new : Device) (text : List ℕ) : Type 0 where
 -- the device after a call in which it didn't fail: a call that ends at once leaves it as it was
 abbrev pub device_after : {R : Type 0} → IdealAgent → Call R → Device → Device
 device_after i (Ends step) d = d
-device_after i (Notes kind t step fault) d = device_noted kind t i.snapshot d
-device_after i (Replaces step fault) d = replaced (compaction_of i.snapshot) d
+device_after i (Notes kind t line step fault) d = device_noted kind t line i.snapshot d
+device_after i (Replaces lines step fault) d = replaced (text_with lines i.snapshot) d
 
 -- the device failed in a call
 abbrev pub FailsIn : {R : Type 0} → IdealAgent → Call R → Device → Device → Type 0
 FailsIn i (Ends step) old new = ⊥
-FailsIn i (Notes kind t step fault) old new = FailsLine old new (clock_line kind t)
-FailsIn i (Replaces step fault) old new = FailsText old new (compaction_of i.snapshot)
+FailsIn i (Notes kind t line step fault) old new = FailsLine old new (bytes_with kind t line i.snapshot)
+FailsIn i (Replaces lines step fault) old new = FailsText old new (text_with lines i.snapshot)
 
 -- what a call leaves of the device, where the sink does this with the line or the new text
 abbrev pub LeavesDevice : {R : Type 0} → IdealAgent → Call R → Writing → Device → Device → Type 0

@@ -8,6 +8,7 @@ use Rattle.serf_wire.specs.Message.{user_event}
 use Rattle.serf_window.specs.Texts.{same_texts}
 use Rattle.serf_snap.specs.declared.kind.ClockKind.TheVariants as kinds
 use Rattle.serf_agent.specs.Config.{longest_texts}
+use Rattle.serf_agent.specs.declared.config.Config.{Config}
 use Rattle.serf_agent.specs.declared.outcome.EventOut.{EventOut}
 use Rattle.serf_agent.specs.declared.outcome.Fired.{Fired}
 use Rattle.serf_agent.specs.declared.outcome.FireFault.{FireFault}
@@ -19,6 +20,7 @@ use Rattle.serf_agent.specs.declared.outcome.Reason.TheVariants.{Oversize}
 use Rattle.serf_agent.specs.declared.outcome.ReceiveFault.{ReceiveFault}
 use Rattle.serf_agent.specs.declared.outcome.ReceiveFault.TheVariants.{SinkFault}
 use Rattle.serf_agent.specs.Ideal.{IdealAgent, with_events}
+use Rattle.serf_agent.specs.KeptTexts.{line_of_event}
 use Rattle.serf_agent.specs.Tracks.{track_reason, track_observed, track_entered}
 use Rattle.serf_agent.specs.Calls.{Call, Ends, Notes, answers}
 
@@ -45,10 +47,14 @@ event_entered t what i = with_events (track_entered i.life t what i.events) i
 abbrev pub event_out : ℕ → EventBody → Bool → EventOut
 event_out t what coalesce = record { time = t; name = what.name; payload = what.payload; coalesce = coalesce }
 
+-- the line of its own that an event has beside its clock line, where the settings keep events
+abbrev pub told_event : Config → ℕ → EventBody → Option (List ℕ)
+told_event config t what = if config.keep_events then Some (line_of_event t what) else None
+
 -- An event that comes: where it is new its line is written, and then it enters and is handed out.
 abbrev pub received_as : Option Reason → IdealAgent → ℕ → EventBody → Bool → Call (Result Outcome ReceiveFault)
 received_as (Some reason) i t what coalesce = Ends record { agent = event_observed t i; answer = Ok (Ignored reason) }
-received_as None i t what coalesce = Notes kinds.Event t (record { agent = event_entered t what i; answer = Ok (Event (event_out t what coalesce)) }) (Err SinkFault)
+received_as None i t what coalesce = Notes kinds.Event t (told_event i.config t what) (record { agent = event_entered t what i; answer = Ok (Event (event_out t what coalesce)) }) (Err SinkFault)
 
 abbrev pub receive_event : IdealAgent → ℕ → EventBody → Bool → Call (Result Outcome ReceiveFault)
 receive_event i t what coalesce = received_as (admission i t what) i t what coalesce
@@ -77,7 +83,7 @@ fire_fault i what coalesce =
 abbrev pub fired_as : Option FireFault → IdealAgent → EventBody → Bool → Call (Result Fired FireFault)
 fired_as (Some fault) i what coalesce = answers i (Err fault)
 fired_as None i what coalesce =
-    Notes kinds.Event i.events.clock (record {
+    Notes kinds.Event i.events.clock (told_event i.config i.events.clock what) (record {
       agent = event_entered i.events.clock what i;
       answer = Ok record { packet = event_packet i.events.clock what coalesce; handed = event_out i.events.clock what coalesce };
     }) (Err faults.SinkFault)

@@ -1,11 +1,17 @@
 -- How an agent keeps what it stores: private to the crate.
-use Rattle.std.specs.Prelude.{◌≡◌, ℕ, ◌+◌, ◌<◌, true, List, [], length, All, Some, slice_get}
+use Rattle.std.specs.Prelude.{◌≡◌, ℕ, ◌+◌, ◌-◌, ◌<◌, max, Bool, true, if◌then◌else◌, List, [], length, All, Some, slice_get}
 use Rattle.indexmap.specs.IndexMap.{set_value_at}
 use Rattle.serf_wire.specs.declared.texts.EventBody.{EventBody}
-use Rattle.serf_window.specs.Window.{WindowOf, slots_of}
+use Rattle.serf_window.specs.Queries.{same_id}
+use Rattle.serf_window.specs.Texts.{same_texts}
+use Rattle.serf_window.specs.Window.{TimedEntry, WindowOf, slots_of}
+use Rattle.serf_snap.specs.declared.kind.ClockKind.TheVariants as kinds
+use Rattle.serf_snap.specs.EventLines.{least_in}
 use Rattle.serf_agent.specs.declared.config.Config.{Config}
 use Rattle.serf_agent.specs.declared.open_query.OpenQuery.{OpenQuery}
 use Rattle.serf_agent.specs.Config.{is_sound}
+use Rattle.serf_agent.specs.Keeping.{opened_clock, taken_back}
+use Rattle.serf_agent.specs.KeptRestart.{events_reached, queries_reached}
 use Rattle.serf_agent.specs.Queries.{is_due}
 use Rattle.serf_snap.specs.Notes.{SnapshotView}
 use Rattle.serf_agent.specs.Tracks.{ConcreteTrack}
@@ -29,14 +35,28 @@ pub record IsBuilt (config : Config) (events : TrackState EventBody) (queries : 
   pub query_per_time : queries.window.per_time ≡ config.per_time
   pub asked_below : All (λ q. q.0 < queries.clock) asked
 
--- what an agent stores that has entered nothing in this life, after the last lines of a snapshot
-abbrev pub first_concrete : Config → SnapshotView → ConcreteState
-first_concrete config s =
+-- A track at an opening, where a text has this last clock, this least time and these entries of its kind: what the buffer takes
+-- back where the settings keep events, and else nothing.
+abbrev pub first_track : {K : Type 0} → Bool → (K → K → Bool) → ℕ → ℕ → ℕ → ℕ → List (TimedEntry K) → ConcreteTrack K
+first_track keeps same n k last least kept =
+    if keeps then (let back = taken_back same n k last least kept in
+    record { clock = opened_clock last least; minimum = max back.minimum (opened_clock last least - n); slots = slots_of n back.entries })
+    else record { clock = last + 1; minimum = last + 1; slots = slots_of n [] }
+
+abbrev pub first_events : Config → List ℕ → ℕ → ConcreteTrack EventBody
+first_events config text last = first_track config.keep_events same_texts config.event_buffer config.per_time last (least_in kinds.Event text) (events_reached config last text)
+
+abbrev pub first_queries : Config → List ℕ → ℕ → ConcreteTrack ℕ
+first_queries config text last = first_track config.keep_events same_id config.query_buffer config.per_time last (least_in kinds.Query text) (queries_reached config last text)
+
+-- what an agent stores at an opening on a text, after the last lines of its snapshot
+abbrev pub first_concrete : Config → List ℕ → SnapshotView → ConcreteState
+first_concrete config text s =
     record {
       config = config;
       member_clock = s.member_clock + 1;
-      events = record { clock = s.event_clock + 1; minimum = s.event_clock + 1; slots = slots_of config.event_buffer [] };
-      queries = record { clock = s.query_clock + 1; minimum = s.query_clock + 1; slots = slots_of config.query_buffer [] };
+      events = first_events config text s.event_clock;
+      queries = first_queries config text s.query_clock;
       snapshot = s;
       asked = [];
     }

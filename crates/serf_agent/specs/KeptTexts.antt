@@ -1,6 +1,7 @@
 -- The kept entries of a text, as an opening takes them, and what a text has to have of what was handed out.
-use Rattle.std.specs.Prelude.{◌≡◌, ◌+◌, ◌-◌, ◌^◌, ◌<◌, ◌≤◌, ◌⊎◌, ℕ, true, List, [], ◌∷◌, ◌++◌, length, max, map, slice_index, All, Contains}
+use Rattle.std.specs.Prelude.{◌≡◌, ◌+◌, ◌-◌, ◌^◌, ◌<◌, ◌≤◌, ◌⊎◌, ℕ, true, List, [], ◌∷◌, ◌++◌, length, max, map, All, Contains}
 use Rattle.serf_lamport.specs.Clock.{greatest_clock}
+use Rattle.serf_wire.specs.Bytes.{HasBytes}
 use Rattle.serf_wire.specs.declared.texts.EventBody.{EventBody}
 use Rattle.serf_window.specs.Texts.{event_of}
 use Rattle.serf_window.specs.Window.{TimedEntry}
@@ -41,17 +42,12 @@ kept_queries w text = map query_entry (queries_in w text)
 abbrev pub AreKept : {K : Type 0} → ClockKind → (Wanted → List ℕ → List (TimedEntry K)) → List (Past K) → List ℕ → Type 0
 AreKept kind read history text = All (λ p. (p.entry.time < least_in kind text) ⊎ Contains (read whatever text) p.entry) history
 
--- each is a byte
-abbrev pub AreBytes : List ℕ → Type 0
-AreBytes xs = (i : ℕ) → slice_index xs i < 256
-
 -- An event's line, the texts that it can tell, and those that are short enough to be taken back; and so of queries.
 abbrev pub line_of_event : ℕ → EventBody → List ℕ
 line_of_event t what = event_line t what.name what.payload
 
-pub record IsTold (what : EventBody) : Type 0 where
-  pub name : AreBytes what.name
-  pub payload : AreBytes what.payload
+abbrev pub IsTold : EventBody → Type 0
+IsTold what = HasBytes what
 
 abbrev pub IsShort : ℕ → EventBody → Type 0
 IsShort longest what = length what.name + length what.payload ≤ longest

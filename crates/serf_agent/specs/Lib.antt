@@ -3,6 +3,7 @@ pub mod Handed
 pub mod Faults
 pub mod Ideal
 pub mod Tracks
+pub mod Told
 pub mod Calls
 pub mod View
 pub mod Sound
@@ -27,6 +28,10 @@ pub mod Snapshots
 pub mod Keeping
 pub mod KeptTexts
 pub mod KeptRestart
+pub mod KeptLaws
 pub mod KeptSteps
 pub mod KeptLines
 pub mod Unkept
+pub mod KeptLives
+pub mod Kept
+pub mod Taking

@@ -21,15 +21,16 @@ use Rattle.serf_agent.specs.declared.outcome.QueryParams.{QueryParams}
 use Rattle.serf_agent.specs.declared.outcome.Outcome.{Outcome}
 use Rattle.serf_agent.specs.declared.outcome.Outcome.TheVariants as outcomes
 use Rattle.serf_agent.specs.declared.outcome.ReceiveFault.{ReceiveFault}
-use Rattle.serf_agent.specs.Calls.{MayEnd, ended}
+use Rattle.serf_agent.specs.Calls.{AsksSink, MayEnd, ended}
 use Rattle.serf_agent.specs.Config.{is_sound}
 use Rattle.serf_agent.specs.Events.{fire}
 use Rattle.serf_agent.specs.Handed.{Handed}
 use Rattle.serf_agent.specs.Ideal.{IdealAgent, with_config}
+use Rattle.serf_agent.specs.KeptRestart.{HasKept}
 use Rattle.serf_agent.specs.Queries.{close_due, fire_query}
 use Rattle.serf_agent.specs.Receive.{receive_tagged}
 use Rattle.serf_agent.specs.Restart.{restarted, unopened}
-use Rattle.serf_agent.specs.States.{compact, handed_by, joined, receive_one, save}
+use Rattle.serf_agent.specs.States.{compact, handed_by, hear, receive_one, save}
 
 -- What is asked of an agent, and what its sink does with the line or the new text. A push/pull is heard of, and then its
 -- events are taken one by one. A packet comes with what the host says of tag filters. A life begins with an opening,
@@ -38,7 +39,7 @@ pub data Act : Type 0 where
   Fires : EventBody → Bool → Writing → Act
   Asks : ℕ → ℕ → List ℕ → List ℕ → QueryParams → Writing → Act
   Gets : Bool → ℕ → List ℕ → Writing → Act
-  Hears : PushPull → Bool → Act
+  Hears : PushPull → Bool → Writing → Act
   Takes : TimedEntry EventBody → Writing → Act
   Saves : Writing → Act
   Compacts : Writing → Act
@@ -50,12 +51,12 @@ abbrev pub after : IdealAgent → Act → IdealAgent
 after i (Fires what coalesce w) = (ended i (fire i what coalesce) w).agent
 after i (Asks now id name payload params w) = (ended i (fire_query i now id name payload params) w).agent
 after i (Gets tags now packet w) = (ended i (receive_tagged tags i now packet) w).agent
-after i (Hears m is_join) = joined m is_join i
+after i (Hears m is_join w) = (ended i (hear i m is_join) w).agent
 after i (Takes e w) = (ended i (receive_one i e) w).agent
 after i (Saves w) = (ended i (save i) w).agent
 after i (Compacts w) = (ended i (compact i) w).agent
 after i (Closes now) = (close_due i now).agent
-after i (Opens config text d) = restarted (opened text d) (with_config config i)
+after i (Opens config text d) = restarted text (opened text d) (with_config config i)
 
 -- A text has what was flushed: of events and of queries the last line that is durable, or a later one. Whatever stands
 -- after the flushed lines, a torn one too, changes nothing of that.
@@ -63,19 +64,20 @@ pub record HasFlushed (i : IdealAgent) (text : List ℕ) : Type 0 where
   pub events : i.snapshot.event_clock ≤ last_clock kinds.Event text
   pub queries : i.snapshot.query_clock ≤ last_clock kinds.Query text
 
--- What may come to pass: the sink does what a sink may do; a push/pull brings clocks that a packet can spell, and its events
--- are taken by an agent that isn't stopped, at times that are times; and a new life opens on a text that has what was
--- flushed, with settings that an agent can have, whatever they were before.
+-- What may come to pass: the sink does what a sink may do; a push/pull brings clocks that a packet can spell, where a line of it
+-- is written the agent isn't stopped, and its events are taken by an agent that isn't stopped, at times that are times; and a new
+-- life opens on a text that has what was flushed, with settings that an agent can have, whatever they were before. Where these
+-- keep events the text has all that was entered.
 abbrev pub MayAct : IdealAgent → Act → Type 0
 MayAct i (Fires what coalesce w) = MayEnd i (fire i what coalesce) w
 MayAct i (Asks now id name payload params w) = MayEnd i (fire_query i now id name payload params) w
 MayAct i (Gets tags now packet w) = MayEnd i (receive_tagged tags i now packet) w
-MayAct i (Hears m is_join) = m.member_clock ≤ greatest_clock
+MayAct i (Hears m is_join w) = MayEnd i (hear i m is_join) w × (m.member_clock ≤ greatest_clock) × (AsksSink (hear i m is_join) → i.snapshot.stopped ≡ false)
 MayAct i (Takes e w) = (i.snapshot.stopped ≡ false) × (e.time < greatest_clock) × MayEnd i (receive_one i e) w
 MayAct i (Saves w) = MayEnd i (save i) w
 MayAct i (Compacts w) = MayEnd i (compact i) w
 MayAct i (Closes now) = Unit {0}
-MayAct i (Opens config text d) = HasFlushed i text × (is_sound config ≡ true)
+MayAct i (Opens config text d) = HasFlushed i text × (is_sound config ≡ true) × (config.keep_events ≡ true → HasKept i text)
 
 -- What is handed out
 
@@ -132,7 +134,7 @@ MayLive i (a ∷ rest) = MayAct i a × MayLive (after i a) rest
 
 -- the first life of an agent, with these settings, on any text: it has handed out nothing
 abbrev pub first_life : Config → List ℕ → Device → Lived
-first_life config text d = record { agent = restarted (opened text d) (unopened config (opened text d)); events = []; queries = [] }
+first_life config text d = record { agent = restarted text (opened text d) (unopened config (opened text d)); events = []; queries = [] }
 
 -- What is promised
 

@@ -1,14 +1,28 @@
--- How a part of a push/pull's events was received, whatever follows it: private to the crate.
+-- How a push/pull was heard of, and how a part of its events was received, whatever follows it: private to the crate.
 use Rattle.std.specs.Prelude.{◌≡◌, false, List, ◌++◌, Option, Some, Result, Ok, Err}
 use Rattle.serf_wire.specs.declared.texts.EventBody.{EventBody}
 use Rattle.serf_window.specs.Window.{TimedEntry}
 use Rattle.serf_snap.specs.Device.{Device}
+use Rattle.serf_snap.specs.Notes.{Kept}
 use Rattle.serf_agent.specs.declared.outcome.EventOut.{EventOut}
 use Rattle.serf_agent.specs.declared.outcome.MergeFault.{MergeFault}
+use Rattle.serf_agent.specs.Calls.{Call, MayEnd, ended}
+use Rattle.serf_agent.specs.Devices.{device_after}
 use Rattle.serf_agent.specs.Ideal.{IdealAgent}
 use Rattle.serf_agent.specs.Sound.{IsSound}
-use Rattle.serf_agent.specs.States.{Receives}
+use Rattle.serf_agent.specs.States.{EndsHearing, Receives}
 use Rattle.serf_agent.specs.View.{AgentState, view_of}
+
+-- a call that hears of a push/pull was done, and its line is durable, if it has one
+pub record HasHeard (i : IdealAgent) (call : Call (Result (Unit {0}) MergeFault)) (old : Device) (new : AgentState) : Type 0 where
+  pub allowed : MayEnd i call Kept
+  pub state : new.concrete ≡ view_of (ended i call Kept).agent
+  pub sound : IsSound (ended i call Kept).agent
+  pub device : new.device ≡ device_after i call old
+
+abbrev pub Heard : IdealAgent → Call (Result (Unit {0}) MergeFault) → Device → AgentState → Result (Unit {0}) MergeFault → Type 0
+Heard i call old new (Ok done) = HasHeard i call old new
+Heard i call old new (Err fault) = EndsHearing i call old new fault
 
 -- all of these were received over a device, and the agent goes on as this one
 pub record GoesOn (i : IdealAgent) (events : List (TimedEntry EventBody)) (old : Device) (deliveries : List EventOut) (new : AgentState) : Type 0 where

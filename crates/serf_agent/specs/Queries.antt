@@ -10,6 +10,7 @@ use Rattle.serf_wire.specs.Message.{Query, QueryResponse, query, response_of}
 use Rattle.serf_wire.specs.Passes.{passes_of}
 use Rattle.serf_window.specs.Queries.{same_id}
 use Rattle.serf_snap.specs.declared.kind.ClockKind.TheVariants as kinds
+use Rattle.serf_snap.specs.EventLines.{query_line}
 use Rattle.serf_agent.specs.declared.config.Config.{Config}
 use Rattle.serf_agent.specs.declared.open_query.OpenQuery.{OpenQuery}
 use Rattle.serf_agent.specs.declared.outcome.FiredQuery.{FiredQuery}
@@ -109,11 +110,15 @@ query_observed t i = with_queries (track_observed t i.queries) i
 abbrev pub query_entered : ℕ → ℕ → IdealAgent → IdealAgent
 query_entered t id i = with_queries (track_entered i.life t id i.queries) i
 
+-- the line of its own that a query has beside its clock line, where the settings keep events
+abbrev pub told_query : Config → ℕ → ℕ → Option (List ℕ)
+told_query config t id = if config.keep_events then Some (query_line t id) else None
+
 -- where it is new its line is written, though the filters exclude this node, and then it enters
 abbrev pub query_received_as : Bool → Option Reason → IdealAgent → ℕ → Query → Call (Result Outcome ReceiveFault)
 query_received_as tags (Some reason) i now q = Ends record { agent = query_observed q.time i; answer = Ok (outcomes.Ignored reason) }
 query_received_as tags None i now q =
-    Notes kinds.Query q.time (record {
+    Notes kinds.Query q.time (told_query i.config q.time q.id) (record {
       agent = query_entered q.time q.id i;
       answer = Ok (outcomes.Query (handed_if_passed tags i.config now q) (ack_if_passed tags i.config.name q) (not (has_flag no_broadcast_flag q.flags)));
     }) (Err SinkFault)
@@ -175,7 +180,7 @@ fired_query config now q = record { time = q.time; packet = canonical (query q);
 
 abbrev pub asks : IdealAgent → ℕ → Query → Call (Result FiredQuery QueryFault)
 asks i now q =
-    Notes kinds.Query q.time (record {
+    Notes kinds.Query q.time (told_query i.config q.time q.id) (record {
       agent = query_asked now q i;
       answer = Ok (fired_query i.config now q);
     }) (Err faults.SinkFault)

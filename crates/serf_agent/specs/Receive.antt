@@ -36,5 +36,5 @@ receive i now packet = receive_tagged false i now packet
 -- memory is wanted only where an event or a query is new, or an answer is counted
 abbrev pub TakesMemory : Call (Result Outcome ReceiveFault) → Type 0
 TakesMemory (Ends step) = (step.answer ≡ Ok outcomes.Ack) ⊎ (step.answer ≡ Ok outcomes.Response)
-TakesMemory (Notes kind t step fault) = Unit {0}
-TakesMemory (Replaces step fault) = Unit {0}
+TakesMemory (Notes kind t line step fault) = Unit {0}
+TakesMemory (Replaces lines step fault) = Unit {0}

@@ -11,7 +11,9 @@ use Rattle.serf_snap.specs.declared.kind.ClockKind.TheVariants as kinds
 use Rattle.serf_snap.specs.declared.snapshot.NoteFault.{NoteFault}
 use Rattle.serf_snap.specs.declared.snapshot.NoteFault.TheVariants as notes
 use Rattle.serf_snap.specs.Device.{Device}
+use Rattle.serf_snap.specs.EventLines.{least_line}
 use Rattle.serf_snap.specs.Notes.{SnapshotView, Kept}
+use Rattle.serf_agent.specs.declared.config.Config.{Config}
 use Rattle.serf_agent.specs.declared.outcome.EventOut.{EventOut}
 use Rattle.serf_agent.specs.declared.outcome.Outcome.{Outcome}
 use Rattle.serf_agent.specs.declared.outcome.Outcome.TheVariants.{Event}
@@ -22,8 +24,9 @@ use Rattle.serf_agent.specs.declared.outcome.MergeFault.TheVariants as merges
 use Rattle.serf_agent.specs.declared.outcome.PushPullFault.{PushPullFault}
 use Rattle.serf_agent.specs.declared.outcome.PushPullFault.TheVariants as states
 use Rattle.serf_agent.specs.Ideal.{IdealAgent}
+use Rattle.serf_agent.specs.KeptLines.{kept_lines}
 use Rattle.serf_agent.specs.Tracks.{track_raised}
-use Rattle.serf_agent.specs.Calls.{Call, Notes, Replaces, MayEnd, AsksSink, answers, ended}
+use Rattle.serf_agent.specs.Calls.{Call, Ends, Notes, Replaces, MayEnd, AsksSink, answers, ended}
 use Rattle.serf_agent.specs.Devices.{device_after}
 use Rattle.serf_agent.specs.Events.{receive_event}
 use Rattle.serf_agent.specs.Sound.{IsSound}
@@ -63,6 +66,19 @@ joined m is_join i =
       snapshot = i.snapshot;
       asked = i.asked;
     }
+
+-- The line of the least time that a join sets, where the settings ignore what is old and keep events: so it is the least time of
+-- later lives too.
+abbrev pub told_least : Config → PushPull → Bool → Option (List ℕ)
+told_least config m is_join = if config.keep_events && (is_join && config.ignore_old) then Some (least_line kinds.Event m.event_clock) else None
+
+-- How another agent's state is heard of, before any of its events: its line comes first, if it has one.
+abbrev pub heard_by : Option (List ℕ) → IdealAgent → PushPull → Bool → Call (Result (Unit {0}) MergeFault)
+heard_by None i m is_join = Ends record { agent = joined m is_join i; answer = Ok tt }
+heard_by (Some line) i m is_join = Notes kinds.Event 0 (Some line) (record { agent = joined m is_join i; answer = Ok tt }) (Err merges.SinkFault)
+
+abbrev pub hear : IdealAgent → PushPull → Bool → Call (Result (Unit {0}) MergeFault)
+hear i m is_join = heard_by (told_least i.config m is_join) i m is_join
 
 -- the events of a time, of a slot, and of slots, in order
 abbrev pub at_time : ℕ → List EventBody → List (TimedEntry EventBody)
@@ -108,11 +124,25 @@ Receives i (e ∷ es) old deliveries new fault =
     (MayEnd i (receive_one i e) Kept × ((rest : List EventOut) × (deliveries ≡ delivered i e ++ rest) × Receives (after_event i e) es (device_after i (receive_one i e) old) rest new fault))
     ⊎ ((deliveries ≡ []) × ((f : MergeFault) × (fault ≡ Some f) × EndsAt i e old new f))
 
--- A push/pull was merged: its clocks were heard of, and its events were received, over this device.
+-- How a call that hears of a push/pull fails: for want of memory for its line, the agent and its device unchanged; or with the
+-- line that failed. Nothing was heard of.
+abbrev pub EndsHearing : IdealAgent → Call (Result (Unit {0}) MergeFault) → Device → AgentState → MergeFault → Type 0
+EndsHearing i call old new merges.OutOfMemory = AsksSink call × (new.concrete ≡ view_of i) × (new.device ≡ old) × IsSound i
+EndsHearing i call old new merges.SinkFault = Steps i call (Err merges.SinkFault) old new
+EndsHearing i call old new _ = ⊥
+
+-- A push/pull is heard of by this call, and then its events are received over the device with the call's line, if it has one; or
+-- the call failed, and nothing was handed out.
+abbrev pub ReceivesAfter : IdealAgent → Call (Result (Unit {0}) MergeFault) → List (TimedEntry EventBody) → Device → List EventOut → AgentState → Option MergeFault → Type 0
+ReceivesAfter i call events old deliveries new fault =
+    (MayEnd i call Kept × Receives (ended i call Kept).agent events (device_after i call old) deliveries new fault)
+    ⊎ ((deliveries ≡ []) × ((f : MergeFault) × (fault ≡ Some f) × EndsHearing i call old new f))
+
+-- A push/pull was merged over this device: its clocks were heard of, and its events were received; or it ended at one of the lines.
 pub record Merges (i : IdealAgent) (m : PushPull) (is_join : Bool) (before after : List EventOut) (old : Device) (new : AgentState) (fault : Option MergeFault) : Type 0 where
   pub deliveries : List EventOut
   pub out : after ≡ before ++ deliveries
-  pub receives : Receives (joined m is_join i) (events_of m.slots) old deliveries new fault
+  pub receives : ReceivesAfter i (hear i m is_join) (events_of m.slots) old deliveries new fault
 
 -- the fault of a result, if it is one
 abbrev pub fault_in : {R E : Type 0} → Result R E → Option E
@@ -129,8 +159,12 @@ merge_refusal s (Ok m) = if s.stopped then Some merges.Stopped else Some merges.
 
 -- the member clock's last time is noted
 abbrev pub save : IdealAgent → Call (Result (Unit {0}) NoteFault)
-save i = if i.snapshot.stopped then answers i (Err notes.Stopped) else Notes kinds.Member (i.member_clock - 1) (record { agent = i; answer = Ok tt }) (Err notes.SinkFault)
+save i = if i.snapshot.stopped then answers i (Err notes.Stopped) else Notes kinds.Member (i.member_clock - 1) None (record { agent = i; answer = Ok tt }) (Err notes.SinkFault)
+
+-- the lines that a compaction keeps beside the last clock lines, where the settings keep events
+abbrev pub told_lines : ConcreteState → Option (List ℕ)
+told_lines a = if a.config.keep_events then Some (kept_lines a) else None
 
 -- the snapshot's text is replaced by its last lines
 abbrev pub compact : IdealAgent → Call (Result (Unit {0}) NoteFault)
-compact i = if i.snapshot.stopped then answers i (Err notes.Stopped) else Replaces (record { agent = i; answer = Ok tt }) (Err notes.SinkFault)
+compact i = if i.snapshot.stopped then answers i (Err notes.Stopped) else Replaces (told_lines (view_of i)) (record { agent = i; answer = Ok tt }) (Err notes.SinkFault)

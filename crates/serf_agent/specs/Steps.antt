@@ -1,15 +1,16 @@
 -- What the contract of a call says.
-use Rattle.std.specs.Prelude.{◌≡◌, ℕ, false, Result, Ok, Err}
+use Rattle.std.specs.Prelude.{◌≡◌, ◌↔◌, ◌⊎◌, ℕ, false, IsErrOf, IsTrue, List, OnOk, Option, Result, Ok, Err}
 use Rattle.serf_snap.specs.declared.kind.ClockKind.{ClockKind}
 use Rattle.serf_snap.specs.declared.snapshot.NoteFault.{NoteFault}
 use Rattle.serf_snap.specs.declared.snapshot.NoteFault.TheVariants as notes
-use Rattle.serf_snap.specs.Clocks.{clock_line}
-use Rattle.serf_snap.specs.Device.{Device, HasFailed}
-use Rattle.serf_snap.specs.Notes.{Writing, Kept, Failed, written}
+use Rattle.serf_snap.specs.Device.{Device, HasFailed, replaced, unreplaced}
+use Rattle.serf_snap.specs.KeptNotes.{MayReplaceBy, text_replaced}
+use Rattle.serf_snap.specs.Notes.{SnapshotState, Writing, Kept, Failed, written}
 use Rattle.serf_agent.specs.Ideal.{IdealAgent}
-use Rattle.serf_agent.specs.Calls.{Call, MayEnd, MayNote, ended}
-use Rattle.serf_agent.specs.Devices.{FailsLine, LeavesDevice, device_noted}
+use Rattle.serf_agent.specs.Calls.{Call, MayEnd, ended}
+use Rattle.serf_agent.specs.Devices.{FailsLine, FailsText, LeavesDevice}
 use Rattle.serf_agent.specs.Sound.{IsSound}
+use Rattle.serf_agent.specs.Told.{MayNote, bytes_with, device_noted, noted_with, text_with}
 use Rattle.serf_agent.specs.View.{AgentState, concrete_with, view_of}
 
 -- The call did what the ideal agent does, with a choice that its sink may take: it answered what the ideal agent
@@ -23,27 +24,67 @@ pub record Steps {R : Type 0} (i : IdealAgent) (call : Call R) (result : R) (old
   pub sound : IsSound (ended i call writing).agent
   pub device : LeavesDevice i call writing old new.device
 
--- What is left of an agent and its device where a time of a kind is noted before anything else is done.
--- The line is durable, or one as late was: the agent isn't stopped, and its device did this and nothing else.
-pub record HasNoted (kind : ClockKind) (time : ℕ) (old new : AgentState) : Type 0 where
-  pub allowed : MayNote kind time old.concrete.snapshot Kept
-  pub device : new.device ≡ device_noted kind time old.concrete.snapshot old.device
+-- What is left of a snapshot and its device where a time of a kind is noted, with a line of its own where it has one.
+-- They are durable, or without such a line a time as late was: the device did this and nothing else.
+pub record HasWritten (kind : ClockKind) (time : ℕ) (line : Option (List ℕ)) (old new : SnapshotState) : Type 0 where
+  pub snapshot : new.snapshot ≡ noted_with kind time line old.snapshot Kept
+  pub allowed : MayNote kind time line old.snapshot Kept
+  pub device : new.device ≡ device_noted kind time line old.snapshot old.device
+  pub runs : new.snapshot.stopped ≡ false
+  pub calm : new.device.failures ≡ old.device.failures
+
+-- Or the device failed, and counted it: the snapshot is stopped.
+pub record FailsWrite (kind : ClockKind) (time : ℕ) (line : Option (List ℕ)) (old new : SnapshotState) : Type 0 where
+  pub failed : new.snapshot ≡ written kind time old.snapshot (Failed new.snapshot.durable)
+  pub allowed : MayNote kind time line old.snapshot (Failed new.snapshot.durable)
+  pub device : FailsLine old.device new.device (bytes_with kind time line old.snapshot)
+  pub cause : HasFailed old.device.failures new.device.failures
+
+-- Or there was no memory, and all is as it was. A snapshot that isn't stopped is never refused as one that is.
+abbrev pub EndsWrite : ClockKind → ℕ → Option (List ℕ) → SnapshotState → SnapshotState → NoteFault → Type 0
+EndsWrite kind time line old new notes.SinkFault = FailsWrite kind time line old new
+EndsWrite kind time line old new notes.OutOfMemory = new ≡ old
+EndsWrite kind time line old new notes.Stopped = ⊥
+
+abbrev pub WritesLine : {T : Type 0} → ClockKind → ℕ → Option (List ℕ) → SnapshotState → SnapshotState → Result T NoteFault → Type 0
+WritesLine kind time line old new (Ok done) = HasWritten kind time line old new
+WritesLine kind time line old new (Err fault) = EndsWrite kind time line old new fault
+
+-- What is left of a snapshot and its device where its text is replaced, which keeps these lines where there are some: the text is
+-- the new one, or the device failed, or there was no memory.
+pub record Replaced (lines : Option (List ℕ)) (old new : SnapshotState) (r : Result (Unit {0}) NoteFault) : Type 0 where
+  pub stopped : (r ≡ Err notes.Stopped) ↔ IsTrue old.snapshot.stopped
+  pub ok : OnOk r (new.snapshot ≡ text_replaced (text_with lines old.snapshot) old.snapshot Kept)
+  pub ok_allowed : OnOk r (MayReplaceBy (text_with lines old.snapshot) old.snapshot Kept)
+  pub ok_device : OnOk r (new.device ≡ replaced (text_with lines old.snapshot) old.device)
+  pub fault : IsErrOf r notes.SinkFault → new.snapshot ≡ text_replaced (text_with lines old.snapshot) old.snapshot (Failed new.snapshot.durable)
+  pub fault_allowed : IsErrOf r notes.SinkFault → MayReplaceBy (text_with lines old.snapshot) old.snapshot (Failed new.snapshot.durable)
+  pub fault_device : IsErrOf r notes.SinkFault → FailsText old.device new.device (text_with lines old.snapshot)
+  pub fault_cause : IsErrOf r notes.SinkFault → HasFailed old.device.failures new.device.failures
+  pub stays : IsErrOf r notes.Stopped → new ≡ old
+  pub memory : IsErrOf r notes.OutOfMemory → new.snapshot ≡ old.snapshot
+  pub memory_device : IsErrOf r notes.OutOfMemory → (new.device ≡ old.device) ⊎ (new.device ≡ unreplaced old.device)
+
+-- What is left of an agent and its device where a time of a kind is so noted before anything else is done.
+pub record HasNoted (kind : ClockKind) (time : ℕ) (line : Option (List ℕ)) (old new : AgentState) : Type 0 where
+  pub allowed : MayNote kind time line old.concrete.snapshot Kept
+  pub device : new.device ≡ device_noted kind time line old.concrete.snapshot old.device
   pub runs : new.concrete.snapshot.stopped ≡ false
   pub calm : new.device.failures ≡ old.device.failures
 
--- Or the device failed at the line, and counted it: the agent is stopped, and otherwise is as it was.
-pub record FailsNote (kind : ClockKind) (time : ℕ) (old new : AgentState) : Type 0 where
+-- Or the device failed, and counted it: the agent is stopped, and otherwise is as it was.
+pub record FailsNote (kind : ClockKind) (time : ℕ) (line : Option (List ℕ)) (old new : AgentState) : Type 0 where
   pub failed : new.concrete ≡ concrete_with (written kind time old.concrete.snapshot (Failed new.concrete.snapshot.durable)) old.concrete
-  pub allowed : MayNote kind time old.concrete.snapshot (Failed new.concrete.snapshot.durable)
-  pub device : FailsLine old.device new.device (clock_line kind time)
+  pub allowed : MayNote kind time line old.concrete.snapshot (Failed new.concrete.snapshot.durable)
+  pub device : FailsLine old.device new.device (bytes_with kind time line old.concrete.snapshot)
   pub cause : HasFailed old.device.failures new.device.failures
 
 -- Or there was no memory, and all is as it was. An agent that isn't stopped is never refused as one that is.
-abbrev pub EndsNote : ClockKind → ℕ → AgentState → AgentState → NoteFault → Type 0
-EndsNote kind time old new notes.SinkFault = FailsNote kind time old new
-EndsNote kind time old new notes.OutOfMemory = new ≡ old
-EndsNote kind time old new notes.Stopped = ⊥
+abbrev pub EndsNote : ClockKind → ℕ → Option (List ℕ) → AgentState → AgentState → NoteFault → Type 0
+EndsNote kind time line old new notes.SinkFault = FailsNote kind time line old new
+EndsNote kind time line old new notes.OutOfMemory = new ≡ old
+EndsNote kind time line old new notes.Stopped = ⊥
 
-abbrev pub NotesLine : {T : Type 0} → ClockKind → ℕ → AgentState → AgentState → Result T NoteFault → Type 0
-NotesLine kind time old new (Ok done) = HasNoted kind time old new
-NotesLine kind time old new (Err fault) = EndsNote kind time old new fault
+abbrev pub NotesLine : {T : Type 0} → ClockKind → ℕ → Option (List ℕ) → AgentState → AgentState → Result T NoteFault → Type 0
+NotesLine kind time line old new (Ok done) = HasNoted kind time line old new
+NotesLine kind time line old new (Err fault) = EndsNote kind time line old new fault

@@ -31,7 +31,7 @@ IsSaidSound i = (durable : List ℕ) → i.snapshot.durable ≡ Some durable →
 
 pub record UnkeptLaws : Type 0 where
   -- a life without the setting begins on a text that has all that was entered
-  pub restarts : (i : IdealAgent) (text : List ℕ) (d : Device) → HasKept i text → HasSaid (restarted (opened text d) i) (sealed text)
+  pub restarts : (i : IdealAgent) (text : List ℕ) (d : Device) → i.config.keep_events ≡ false → HasKept i text → HasSaid (restarted text (opened text d) i) (sealed text)
   -- an event enters, and a query, each at a time that may be taken
   pub enters_event : (t : ℕ) (what : EventBody) (i : IdealAgent) → IsSaidSound i → IsSnapshotSound i.snapshot → i.snapshot.stopped ≡ false → i.events.minimum ≤ t → t < greatest_clock
       → IsSaidSound (with_snapshot (noted kinds.Event t i.snapshot Kept) (event_entered t what i))

@@ -5,18 +5,18 @@ ghost use Rattle.std.specs.Option.{option_map};
 ghost use Rattle.serf_snap.specs.Device.{HasText, Fails};
 ghost use Rattle.serf_snap.specs.Clocks.{is_whole, seal_line};
 ghost use Rattle.serf_snap.specs.Notes.{HasTriedNote, note_decremented, note_fails, opened, opened_device};
-ghost use Rattle.serf_window.specs.Window.{slots_of};
 ghost use Rattle.serf_agent.specs.Config.{is_sound};
 ghost use Rattle.serf_agent.specs.Ideal.{IdealAgent, with_config};
-ghost use Rattle.serf_agent.specs.Inside.{first_concrete, concrete_of};
-ghost use Rattle.serf_agent.specs.Restart.{IsInText, restarted, unopened};
+ghost use Rattle.serf_agent.specs.Inside.{concrete_of};
+ghost use Rattle.serf_agent.specs.Restart.{HasPast, restarted, unopened};
 ghost use Rattle.serf_agent.specs.Sound.{IsSound};
 ghost use Rattle.serf_agent.specs.View.{view_of};
 
 use crate::asked::Asked;
 use crate::config::Config;
-use crate::laws::sound_snapshots;
+use crate::laws::{kept_restart_laws, sound_snapshots};
 use crate::outcome::{NotOpened, OpenFault};
+use crate::reopening::{new_events, new_queries, recalled_tracks};
 use crate::track::{EventTrack, QueryTrack};
 use serf_lamport::Clock;
 use serf_snap::{Sink, Snapshot};
@@ -56,48 +56,35 @@ impl<S: Sink> Model for Agent<S> {
     ghost invariant = { λ a. IsBuilt a.config a.events a.queries a.asked };
 }
 
-/// Two tracks that have nothing. Takes no memory.
-fn new_tracks(alloc: Global, config: &Config) -> (EventTrack, QueryTrack)
-    requires { is_sound config.now ≡ true }
-    ensures events { concrete_of result.0
-        ≡ record { clock = 1; minimum = 1; slots = slots_of config.now.event_buffer [] } }
-    ensures event_size { length result.0.window.slots ≡ config.now.event_buffer }
-    ensures event_per_time { result.0.window.per_time ≡ config.now.per_time }
-    ensures queries { concrete_of result.1
-        ≡ record { clock = 1; minimum = 1; slots = slots_of config.now.query_buffer [] } }
-    ensures query_size { length result.1.window.slots ≡ config.now.query_buffer }
-    ensures query_per_time { result.1.window.per_time ≡ config.now.per_time }
-{
-    let events = EventTrack::new(alloc, config.event_buffer, config.per_time);
-    let queries = QueryTrack::new(alloc, config.query_buffer, config.per_time);
-    (events, queries)
-}
-
 impl<S: Sink> Agent<S> {
     /// An agent over a sink that keeps this text: the first agent of a node where the text is empty, else the node's
     /// agent in a new life, whose settings may be others than before. It goes on from the text as the agent would whose
-    /// lines the text has: its clocks, and the least times that it takes, are above all that was handed out before.
+    /// lines the text has: its clocks, and the least times that it takes, are above all that was handed out before. Where its
+    /// settings keep events, its least times are those of the text, and its buffers take back the events and the queries that
+    /// the text keeps: each of them is known as handed out.
     ///
-    /// `BadConfig` where the settings are out of bounds; and only where the last line of the text is torn, `OutOfMemory`, or
-    /// `SinkFault` where the sink failed as that line was ended. Each hands back the settings and the sink, and the first two
-    /// left the sink alone. On a text that is empty or ends in a newline the sink isn't called, and no memory is taken:
-    /// slots are made as times enter.
+    /// `BadConfig` where the settings are out of bounds; `OutOfMemory` where the last line of the text is torn, or what it
+    /// keeps is wanted; and only where that line is torn, `SinkFault` where the sink failed as it was ended. Each hands back
+    /// the settings and the sink, and the first two left the sink alone. On a text that is empty or ends in a newline the sink
+    /// isn't called, and where the settings keep no events no memory is taken: slots are made as times enter.
     pub fn open(alloc: Global, config: Config, text: &[u8], sink: S) -> Result<Self, NotOpened<S>>
         requires { HasText text.now (S.device sink) }
 
-        // For each agent whose times the text has, whatever its settings were, it is that agent in its next life.
-        ensures restarted { (i : IdealAgent) → IsSound i → IsInText i text.now
+        // For each agent whose times the text has, and all that it entered where the settings keep events, whatever its
+        // settings were, it is that agent in its next life.
+        ensures restarted { (i : IdealAgent) → IsSound i → HasPast config i text.now
             → IfOk result (λ a. let next = with_config config i in
-            (a.concrete ≡ view_of (restarted (opened text.now (S.device sink)) next))
-            × IsSound (restarted (opened text.now (S.device sink)) next)) }
+            (a.concrete ≡ view_of (restarted text.now (opened text.now (S.device sink)) next))
+            × IsSound (restarted text.now (opened text.now (S.device sink)) next)) }
         ensures device { IfOk result (λ a. a.device ≡ opened_device text.now (S.device sink)) }
         ensures ok { OnOk result (is_sound config ≡ true) }
-        ensures opens { is_sound config ≡ true → is_whole text.now ≡ true → IsOk result }
+        ensures opens { is_sound config ≡ true → is_whole text.now ≡ true
+            → config.keep_events ≡ false → IsOk result }
 
         // On any text it is the next life of an agent that has entered nothing, and which is sound.
         ensures first { IfOk result (λ a. let o = opened text.now (S.device sink) in
-            (a.concrete ≡ view_of (restarted o (unopened config o)))
-            × IsSound (restarted o (unopened config o))) }
+            (a.concrete ≡ view_of (restarted text.now o (unopened config o)))
+            × IsSound (restarted text.now o (unopened config o))) }
 
         // A whole text needs no call of the sink; a sink with a plan fails just where the plan says.
         ensures whole { IfErr result (λ e. is_whole text.now ≡ true
@@ -121,6 +108,7 @@ impl<S: Sink> Agent<S> {
             → (S.device e.sink).plan ≡ option_map note_decremented (S.device sink).plan) }
     {
         sound_snapshots();
+        kept_restart_laws();
         if !config.is_sound() {
             let fault = OpenFault::BadConfig;
             return Err(NotOpened {
@@ -129,21 +117,34 @@ impl<S: Sink> Agent<S> {
                 fault,
             });
         }
-        let (events, queries) = new_tracks(alloc, &config);
-        match Snapshot::open(alloc, text, sink) {
-            Ok(snapshot) => Ok(Agent::behind(alloc, config, events, queries, snapshot)),
+        let Ok(kept) = recalled_tracks(alloc, &config, text) else {
+            return Err(NotOpened {
+                config,
+                sink,
+                fault: OpenFault::OutOfMemory,
+            });
+        };
+        let snapshot = match Snapshot::open(alloc, text, sink) {
+            Ok(snapshot) => snapshot,
             Err((sink, sealed)) => {
                 let fault = OpenFault::from(sealed);
-                Err(NotOpened {
+                return Err(NotOpened {
                     config,
                     sink,
                     fault,
-                })
+                });
             }
+        };
+        if let Some((events, queries)) = kept {
+            return Ok(Agent::behind(alloc, config, events, queries, snapshot));
         }
+        let last = snapshot.clocks();
+        let events = new_events(alloc, &config, last.event_clock);
+        let queries = new_queries(alloc, &config, last.query_clock);
+        Ok(Agent::behind(alloc, config, events, queries, snapshot))
     }
 
-    /// The agent that has entered nothing in this life, after the last lines of a snapshot.
+    /// The agent that has these tracks at an opening, after the last lines of a snapshot.
     fn behind(
         alloc: Global,
         config: Config,
@@ -152,25 +153,24 @@ impl<S: Sink> Agent<S> {
         snapshot: Snapshot<S>,
     ) -> Self
         requires config_sound { is_sound config ≡ true }
-        requires events { concrete_of events
-            ≡ record { clock = 1; minimum = 1; slots = slots_of config.event_buffer [] } }
         requires event_size { length events.window.slots ≡ config.event_buffer }
         requires event_per_time { events.window.per_time ≡ config.per_time }
-        requires queries { concrete_of queries
-            ≡ record { clock = 1; minimum = 1; slots = slots_of config.query_buffer [] } }
         requires query_size { length queries.window.slots ≡ config.query_buffer }
         requires query_per_time { queries.window.per_time ≡ config.per_time }
 
-        ensures concrete { result.concrete ≡ first_concrete config snapshot.snapshot }
+        ensures concrete { result.concrete ≡ record {
+          config = config;
+          member_clock = snapshot.snapshot.member_clock + 1;
+          events = concrete_of events;
+          queries = concrete_of queries;
+          snapshot = snapshot.snapshot;
+          asked = [];
+        } }
         ensures device { result.device ≡ snapshot.device }
     {
         let last = snapshot.clocks();
         let mut member_clock = Clock::new();
         member_clock.observe_before(last.member_clock + 1);
-        let mut events = events;
-        events.raise(last.event_clock + 1, last.event_clock + 1);
-        let mut queries = queries;
-        queries.raise(last.query_clock + 1, last.query_clock + 1);
         Agent {
             config,
             member_clock,

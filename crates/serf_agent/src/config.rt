@@ -42,6 +42,9 @@ pub struct Config {
     pub per_time: u64,
     /// Whether joining lifts the least time of events to the other agent's clock.
     pub ignore_old: bool,
+    /// Whether the snapshot keeps each event and each query in a line of its own, and a restart goes on with them. Serf keeps
+    /// none.
+    pub keep_events: bool,
 }
 
 impl Config {
@@ -79,6 +82,7 @@ impl Config {
             responders: self.responders,
             per_time: self.per_time,
             ignore_old: self.ignore_old,
+            keep_events: self.keep_events,
         })
     }
 }

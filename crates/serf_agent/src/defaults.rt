@@ -32,7 +32,7 @@ pub const DEFAULT_SNAPSHOT_LIMIT: u64 = 128 * 1024;
 
 impl Config {
     /// Serf's own settings for a node of this name, and this project's for what Serf leaves open; joining lifts no least
-    /// time. `AllocError` where there is no memory for the name.
+    /// time, and no event is kept over a restart. `AllocError` where there is no memory for the name.
     pub fn new(alloc: Global, name: &[u8]) -> Result<Config, AllocError>
         ensures config { IfOk result (λ config. config ≡ default_config name.now) }
         ensures sound { IfOk result (λ config. is_sound config
@@ -48,6 +48,7 @@ impl Config {
             responders: DEFAULT_RESPONDERS,
             per_time: DEFAULT_PER_TIME,
             ignore_old: false,
+            keep_events: false,
         })
     }
 }

@@ -7,22 +7,24 @@ ghost use Rattle.serf_wire.specs.Message.{user_event_of};
 ghost use Rattle.serf_window.specs.Texts.{event_of};
 ghost use Rattle.serf_window.specs.Window.{count_in, time_in};
 ghost use Rattle.serf_snap.specs.declared.kind.ClockKind.TheVariants as kinds;
-ghost use Rattle.serf_snap.specs.Clocks.{clock_line};
 ghost use Rattle.serf_snap.specs.Device.{HasFailed};
-ghost use Rattle.serf_snap.specs.Notes.{Kept, Failed, noted, written};
-ghost use Rattle.serf_agent.specs.Calls.{AsksSink, MayNote};
+ghost use Rattle.serf_snap.specs.Notes.{Kept, Failed, written};
+ghost use Rattle.serf_agent.specs.Calls.{AsksSink};
 ghost use Rattle.serf_agent.specs.Config.{longest_texts};
-ghost use Rattle.serf_agent.specs.Devices.{FailsLine, device_noted};
-ghost use Rattle.serf_agent.specs.Events.{admission, drawn, event_entered, event_out, event_packet, fire, is_too_large, receive_event};
+ghost use Rattle.serf_agent.specs.Devices.{FailsLine};
+ghost use Rattle.serf_agent.specs.Events.{admission, drawn, event_entered, event_out, event_packet, fire, is_too_large, receive_event, told_event};
 ghost use Rattle.serf_agent.specs.Ideal.{IdealAgent, with_snapshot};
 ghost use Rattle.serf_agent.specs.Sound.{IsSound};
 ghost use Rattle.serf_agent.specs.Steps.{NotesLine, Steps};
+ghost use Rattle.serf_agent.specs.Told.{MayNote, bytes_with, device_noted, noted_with};
 ghost use Rattle.serf_agent.specs.View.{concrete_with, view_of};
 
 use crate::agent::Agent;
 use crate::config::LONGEST_TEXTS;
 use crate::laws::sound_snapshots;
+use crate::noting::note_line;
 use crate::outcome::{EventOut, FireFault, Fired, Outcome, Reason, ReceiveFault};
+use crate::telling::told_event;
 use serf_lamport::Time;
 use serf_snap::{ClockKind, NoteFault, Sink};
 use serf_wire::{Bytes, EncodeFault, EventView, UserEvent, encode_user_event, user_event_len};
@@ -90,7 +92,8 @@ impl<S: Sink> Agent<S> {
     /// here, and its packet is to be sent (Serf's `serf.go`, `UserEvent`).
     ///
     /// On Ok the sink was appended this one line and flushed, and nothing else, or was not called where its last line of
-    /// events already says this time or a later one.
+    /// events already says this time or a later one. Where the settings keep events, the event's own line goes with it, in
+    /// the same append, and is written in any case.
     ///
     /// Of the refusals the first that holds is answered. All of them leave the agent and its sink as they were, but
     /// `SinkFault`, which stops the agent: then the sink failed at this line's append or flush, and may keep a part of it.
@@ -107,11 +110,14 @@ impl<S: Sink> Agent<S> {
             result self.old.device self.new }
 
         // What becomes of the sink, whatever it shows of its bytes.
-        ensures ok_device { IfOk result (λ f. self.new.device
-            ≡ device_noted kinds.Event f.handed.time self.old.concrete.snapshot self.old.device) }
+        ensures ok_device { IfOk result (λ f. self.new.device ≡ device_noted kinds.Event
+            f.handed.time (told_event self.old.concrete.config f.handed.time
+            (event_of name.now payload.now)) self.old.concrete.snapshot self.old.device) }
         ensures fault_device { IsErrOf result FireFault.SinkFault
             → FailsLine self.old.device self.new.device
-            (clock_line kinds.Event self.old.concrete.events.clock) }
+            (bytes_with kinds.Event self.old.concrete.events.clock
+            (told_event self.old.concrete.config self.old.concrete.events.clock
+            (event_of name.now payload.now)) self.old.concrete.snapshot) }
         ensures refused { OnErr result (result ≢ Err FireFault.SinkFault → self.new ≡ self.old) }
 
         // Memory is wanted only where the event is fired, and its want changes nothing.
@@ -207,9 +213,11 @@ impl<S: Sink> Agent<S> {
         ensures out { IfOk result (λ out. out
             ≡ event_out time (event_of name.now payload.now) coalesce) }
         ensures entered { OnOk result ((i : IdealAgent) → self.old.concrete ≡ view_of i
-            → self.new.concrete ≡ view_of (with_snapshot (noted kinds.Event time i.snapshot Kept)
-            (event_entered time (event_of name.now payload.now) i))) }
-        ensures line { NotesLine kinds.Event time self.old self.new result }
+            → (let what = event_of name.now payload.now in self.new.concrete ≡ view_of
+            (with_snapshot (noted_with kinds.Event time (told_event i.config time what) i.snapshot
+            Kept) (event_entered time what i)))) }
+        ensures line { NotesLine kinds.Event time (told_event self.old.concrete.config time
+            (event_of name.now payload.now)) self.old self.new result }
     {
         let handed = handed_out(alloc, time, name, payload, coalesce)?;
         self.enter_event(alloc, time, name, payload)?;
@@ -230,13 +238,16 @@ impl<S: Sink> Agent<S> {
             < self.old.concrete.config.per_time }
 
         ensures entered { OnOk result ((i : IdealAgent) → self.old.concrete ≡ view_of i
-            → self.new.concrete ≡ view_of (with_snapshot (noted kinds.Event time i.snapshot Kept)
-            (event_entered time (event_of name.now payload.now) i))) }
-        ensures line { NotesLine kinds.Event time self.old self.new result }
+            → (let what = event_of name.now payload.now in self.new.concrete ≡ view_of
+            (with_snapshot (noted_with kinds.Event time (told_event i.config time what) i.snapshot
+            Kept) (event_entered time what i)))) }
+        ensures line { NotesLine kinds.Event time (told_event self.old.concrete.config time
+            (event_of name.now payload.now)) self.old self.new result }
     {
+        let line = told_event(alloc, &self.config, time, name, payload)?;
         let event = EventView { name, payload };
         let entry = self.events.prepare(alloc, time, &event)?;
-        self.snapshot.note(alloc, ClockKind::Event, time)?;
+        note_line(&mut self.snapshot, alloc, ClockKind::Event, time, &line)?;
         self.events.enter(time, entry);
         Ok(())
     }

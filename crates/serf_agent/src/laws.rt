@@ -5,17 +5,21 @@ ghost use Rattle.serf_wire.specs.declared.texts.EventBody.{EventBody};
 ghost use Rattle.serf_window.specs.Queries.{same_id};
 ghost use Rattle.serf_window.specs.Texts.{same_texts};
 ghost use Rattle.serf_agent.specs.Keeping.{KeepingLaws};
+ghost use Rattle.serf_agent.specs.Kept.{HandsOutNew, RemembersJoins};
 ghost use Rattle.serf_agent.specs.KeptLines.{CompactionLaws};
-ghost use Rattle.serf_agent.specs.KeptRestart.{KeptRestartLaws};
+ghost use Rattle.serf_agent.specs.KeptLaws.{KeptRestartLaws};
 ghost use Rattle.serf_agent.specs.KeptSteps.{KeptNoteLaws};
 ghost use Rattle.serf_agent.specs.KeptTexts.{KeptEventLaws, KeptQueryLaws};
 ghost use Rattle.serf_agent.specs.Laws.{AdmitsNew, ShortPackets, StaysSound};
 ghost use Rattle.serf_agent.specs.Snapshots.{SnapshotLaws};
 ghost use Rattle.serf_agent.specs.Unkept.{UnkeptLaws};
+ghost use Rattle.serf_agent.specs.KeptLives.{BeginsDurable, DiskSuffices, DurableHasKept, KeepsBehind, StaysDurable};
+ghost use Rattle.serf_agent.specs.Taking.{TakingLaws};
 ghost use Rattle.serf_agent.specs.Lives.{AsksLater, DurableHasFlushed, FiresLater, HandsOutOnce, HandsOutQueriesOnce};
 
 use serf_snap::{
-    event_line_laws, kept_note_laws, least_time_laws, query_line_laws, snapshot_laws, text_laws,
+    event_line_laws, kept_note_laws, least_time_laws, query_line_laws, read_laws, snapshot_laws,
+    text_laws,
 };
 use serf_window::{recall_laws, slot_laws};
 use serf_wire::decoded_ranges;
@@ -26,6 +30,7 @@ pub(crate) fn sound_snapshots()
     ensures { SnapshotLaws }
 {
     snapshot_laws();
+    kept_note_laws();
 }
 
 /// What is promised of one agent over its own disk, over all its lives: every call that it can be asked for, in any order,
@@ -45,6 +50,7 @@ pub fn life_promises()
     text_laws();
     decoded_ranges();
     sound_snapshots();
+    kept_restart_laws();
 }
 
 /// Each change of a sound agent leaves a sound agent, and what an agent admits it never entered before. Does nothing.
@@ -53,6 +59,7 @@ pub fn sound_steps()
     ensures admits { AdmitsNew }
 {
     sound_snapshots();
+    kept_restart_laws();
 }
 
 /// No text of a packet that an agent sends is too long for its header. Does nothing.
@@ -124,4 +131,45 @@ pub fn unkept_laws()
     event_line_laws();
     query_line_laws();
     text_laws();
+}
+
+/// What is durable has all that was entered, over all lives of one agent, whatever its settings are in each of them: with
+/// `keep_events` or without it, in any order. So each text that begins with what is durable is one that a new life may
+/// begin on, with any bytes after it. Does nothing.
+///
+/// An act has to bring what can be told in a line: texts of bytes, and an ID of a query below 2^32.
+///
+/// And nothing is missed where the settings stay and keep events. An event is offered while the agent isn't stopped, and
+/// it is new and within the window. Then it is handed out, where the sink keeps its line. It is left out only where as many
+/// of its time as the settings allow, or more of a later time, were handed out or stood in a text.
+///
+/// Nor is anything handed out below the least time that a join set which ignores old events, in all later lives that keep
+/// events.
+///
+/// `taking` says call by call what stays true, so that nothing is missed: for proofs of crates above, whose runs are more
+/// than the lives of one agent.
+pub fn kept_life_promises()
+    ensures begins { BeginsDurable }
+    ensures stays { StaysDurable }
+    ensures behind { KeepsBehind }
+    ensures kept { DurableHasKept }
+    ensures suffices { DiskSuffices }
+    ensures handed_out { HandsOutNew }
+    ensures remembered { RemembersJoins }
+    ensures taking { TakingLaws }
+{
+    text_laws();
+    decoded_ranges();
+    sound_snapshots();
+    recall_laws();
+    slot_laws();
+    read_laws();
+    least_time_laws();
+    kept_note_laws();
+    keeping_laws();
+    kept_text_laws();
+    kept_restart_laws();
+    kept_step_laws();
+    kept_compaction_laws();
+    unkept_laws();
 }

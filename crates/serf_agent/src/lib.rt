@@ -33,6 +33,7 @@ mod laws;
 mod lent_queries;
 mod lists;
 mod member_clock;
+mod noting;
 mod open_query;
 mod outcome;
 mod queries;
@@ -40,7 +41,10 @@ mod query_firing;
 mod reading;
 mod reason;
 mod receive;
+mod reopening;
 mod states;
+mod telling;
+mod told_lengths;
 mod track;
 
 pub use agent::Agent;
@@ -52,8 +56,8 @@ pub use defaults::{
 };
 pub use handed::HandedQuery;
 pub use laws::{
-    keeping_laws, kept_compaction_laws, kept_restart_laws, kept_step_laws, kept_text_laws,
-    life_promises, short_packets, sound_steps, unkept_laws,
+    keeping_laws, kept_compaction_laws, kept_life_promises, kept_restart_laws, kept_step_laws,
+    kept_text_laws, life_promises, short_packets, sound_steps, unkept_laws,
 };
 pub use lent_queries::LentQueries;
 pub use lists::{BytesList, List, Response, Responses};

@@ -8,17 +8,17 @@ ghost use Rattle.serf_wire.specs.Passes.{passes_of};
 ghost use Rattle.serf_window.specs.Window.{count_in, time_in};
 ghost use Rattle.serf_snap.specs.declared.kind.ClockKind.TheVariants as kinds;
 ghost use Rattle.serf_snap.specs.Device.{HasFailed};
-ghost use Rattle.serf_snap.specs.Notes.{Kept, Failed, noted, written};
-ghost use Rattle.serf_snap.specs.Clocks.{clock_line};
+ghost use Rattle.serf_snap.specs.Notes.{Kept, Failed, written};
 ghost use Rattle.serf_agent.specs.Answers.{Counts};
-ghost use Rattle.serf_agent.specs.Calls.{AsksSink, MayNote};
+ghost use Rattle.serf_agent.specs.Calls.{AsksSink};
 ghost use Rattle.serf_agent.specs.Config.{is_sound};
-ghost use Rattle.serf_agent.specs.Devices.{FailsLine, device_noted};
+ghost use Rattle.serf_agent.specs.Devices.{FailsLine};
 ghost use Rattle.serf_agent.specs.Ideal.{IdealAgent, with_snapshot};
-ghost use Rattle.serf_agent.specs.Queries.{ack_packet, all_pass, close_due, counted_as, handed_query, has_flag, is_ack, is_due, is_tag_filter, query_admission, query_entered, receive_query, receive_response};
+ghost use Rattle.serf_agent.specs.Queries.{ack_packet, all_pass, close_due, counted_as, handed_query, has_flag, is_ack, is_due, is_tag_filter, query_admission, query_entered, receive_query, receive_response, told_query};
 ghost use Rattle.serf_agent.specs.Receive.{TakesMemory};
 ghost use Rattle.serf_agent.specs.Sound.{IsSound};
 ghost use Rattle.serf_agent.specs.Steps.{NotesLine, Steps};
+ghost use Rattle.serf_agent.specs.Told.{MayNote, bytes_with, device_noted, noted_with};
 ghost use Rattle.serf_agent.specs.View.{concrete_with, view_of};
 
 use crate::agent::Agent;
@@ -27,8 +27,10 @@ use crate::config::Config;
 use crate::flags::{ACK, NO_BROADCAST, has_flag};
 use crate::handed::{HandedQuery, ack_of};
 use crate::laws::sound_snapshots;
+use crate::noting::note_line;
 use crate::open_query::OpenQuery;
 use crate::outcome::{Outcome, Reason, ReceiveFault};
+use crate::telling::told_query;
 use serf_lamport::Time;
 use serf_snap::{ClockKind, NoteFault, Sink};
 use serf_wire::{Bytes, Query, QueryResponse, Texts, passes};
@@ -72,7 +74,7 @@ fn lent_filters_pass(filters: Texts, node: &[u8], tags_pass: bool) -> bool
 }
 
 /// What a node does with a query that its filters let pass: what it hands out, and the ack that it sends.
-#[derive(Debug, Drop)]
+#[derive(Drop)]
 pub(crate) struct Passed {
     pub(crate) handed: Option<HandedQuery>,
     pub(crate) ack: Option<Bytes>,
@@ -200,10 +202,12 @@ impl<S: Sink> Agent<S> {
             then Some (ack_packet self.old.concrete.config.name (query_said query.now)) else None)
             else None)) }
         ensures entered { OnOk result ((i : IdealAgent) → self.old.concrete ≡ view_of i
-            → self.new.concrete
-            ≡ view_of (with_snapshot (noted kinds.Query query.now.time i.snapshot Kept)
+            → self.new.concrete ≡ view_of (with_snapshot
+            (noted_with kinds.Query query.now.time
+            (told_query i.config query.now.time query.now.id) i.snapshot Kept)
             (query_entered query.now.time query.now.id i))) }
-        ensures line { NotesLine kinds.Query query.now.time self.old self.new result }
+        ensures line { NotesLine kinds.Query query.now.time (told_query self.old.concrete.config
+            query.now.time query.now.id) self.old self.new result }
     {
         let passes = pass(alloc, query, now, &self.config, passed)?;
         self.enter_query(alloc, query.time, query.id)?;
@@ -218,12 +222,14 @@ impl<S: Sink> Agent<S> {
             < self.old.concrete.config.per_time }
 
         ensures entered { OnOk result ((i : IdealAgent) → self.old.concrete ≡ view_of i
-            → self.new.concrete ≡ view_of
-            (with_snapshot (noted kinds.Query time i.snapshot Kept) (query_entered time id i))) }
-        ensures line { NotesLine kinds.Query time self.old self.new result }
+            → self.new.concrete ≡ view_of (with_snapshot (noted_with kinds.Query time
+            (told_query i.config time id) i.snapshot Kept) (query_entered time id i))) }
+        ensures line { NotesLine kinds.Query time (told_query self.old.concrete.config time id)
+            self.old self.new result }
     {
+        let line = told_query(alloc, &self.config, time, id)?;
         let entry = self.queries.prepare(alloc, time, &id)?;
-        self.snapshot.note(alloc, ClockKind::Query, time)?;
+        note_line(&mut self.snapshot, alloc, ClockKind::Query, time, &line)?;
         self.queries.enter(time, entry);
         Ok(())
     }

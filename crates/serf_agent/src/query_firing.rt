@@ -6,15 +6,15 @@ ghost use Rattle.serf_wire.specs.Message.{query, query_of};
 ghost use Rattle.serf_window.specs.Window.{count_in, time_in};
 ghost use Rattle.serf_snap.specs.declared.kind.ClockKind.TheVariants as kinds;
 ghost use Rattle.serf_snap.specs.Device.{HasFailed};
-ghost use Rattle.serf_snap.specs.Notes.{Kept, Failed, MayWrite, noted, written};
-ghost use Rattle.serf_snap.specs.Clocks.{clock_line};
-ghost use Rattle.serf_agent.specs.Calls.{AsksSink, MayNote};
+ghost use Rattle.serf_snap.specs.Notes.{Kept, Failed, written};
+ghost use Rattle.serf_agent.specs.Calls.{AsksSink};
 ghost use Rattle.serf_agent.specs.Config.{greatest_packet_limit, is_sound};
-ghost use Rattle.serf_agent.specs.Devices.{FailsLine, device_noted};
+ghost use Rattle.serf_agent.specs.Devices.{FailsLine};
 ghost use Rattle.serf_agent.specs.Ideal.{IdealAgent, with_asked, with_snapshot};
-ghost use Rattle.serf_agent.specs.Queries.{all_pass, fire_query, fired_query, has_flag, is_no_timeout, is_too_large_query, opened_query, query_asked, query_at, query_entered};
+ghost use Rattle.serf_agent.specs.Queries.{all_pass, fire_query, fired_query, has_flag, is_no_timeout, is_too_large_query, opened_query, query_asked, query_at, query_entered, told_query};
 ghost use Rattle.serf_agent.specs.Sound.{IsSound};
-ghost use Rattle.serf_agent.specs.Steps.{NotesLine, Steps};
+ghost use Rattle.serf_agent.specs.Steps.{NotesLine, Steps, WritesLine};
+ghost use Rattle.serf_agent.specs.Told.{MayNote, bytes_with, device_noted, noted_with};
 ghost use Rattle.serf_agent.specs.View.{concrete_with, view_of};
 
 use crate::agent::Agent;
@@ -24,9 +24,11 @@ use crate::flags::{ACK, flags_of, has_flag};
 use crate::handed::deadline_of;
 use crate::laws::sound_snapshots;
 use crate::lists::{BytesList, Responses};
+use crate::noting::note_line;
 use crate::open_query::OpenQuery;
 use crate::outcome::{FiredQuery, QueryFault, QueryParams};
 use crate::queries::{Passed, pass};
+use crate::telling::told_query;
 use serf_lamport::Time;
 use serf_snap::{ClockKind, NoteFault, Sink, Snapshot};
 use serf_wire::{Bytes, EncodeFault, Query, encode_query, passes, query_len};
@@ -86,42 +88,23 @@ fn opened(alloc: Global, query: &Query<&[Bytes]>, now: u64) -> OpenQuery
     }
 }
 
-/// Adds an open query, once its line is durable; else the open queries are as before.
+/// Adds an open query, once its time is noted, with a line of its own where it has one; else the open queries are as before.
 fn note_asked<S: Sink>(
     asked: &mut Asked,
     snapshot: &mut Snapshot<S>,
     alloc: Global,
     time: Time,
+    line: &Option<Bytes>,
     query: OpenQuery,
 ) -> Result<(), NoteFault>
     requires later { All (λ q. q.0 < time) asked.old }
     requires runs { snapshot.old.snapshot.stopped ≡ false }
-    ensures ok { OnOk result ((asked.new ≡ asked.old ++ (time, query) ∷ [])
-        × (snapshot.new.snapshot ≡ noted kinds.Query time snapshot.old.snapshot Kept)) }
-    ensures ok_allowed { OnOk result (snapshot.old.snapshot.query_clock < time
-        → MayWrite snapshot.old.snapshot (clock_line kinds.Query time) Kept) }
+    ensures ok { OnOk result (asked.new ≡ asked.old ++ (time, query) ∷ []) }
     ensures asked { OnErr result (asked.new ≡ asked.old) }
-    ensures fault { IsErrOf result NoteFault.SinkFault
-        → snapshot.new.snapshot
-        ≡ written kinds.Query time snapshot.old.snapshot (Failed snapshot.new.snapshot.durable) }
-    ensures fault_allowed { IsErrOf result NoteFault.SinkFault
-        → MayWrite snapshot.old.snapshot (clock_line kinds.Query time)
-        (Failed snapshot.new.snapshot.durable) }
-    ensures fault_above { IsErrOf result NoteFault.SinkFault
-        → snapshot.old.snapshot.query_clock < time }
-    ensures fault_cause { IsErrOf result NoteFault.SinkFault
-        → HasFailed snapshot.old.device.failures snapshot.new.device.failures }
-    ensures device { OnOk result (snapshot.new.device
-        ≡ device_noted kinds.Query time snapshot.old.snapshot snapshot.old.device) }
-    ensures fault_device { IsErrOf result NoteFault.SinkFault
-        → FailsLine snapshot.old.device snapshot.new.device (clock_line kinds.Query time) }
-    ensures memory { IsErrOf result NoteFault.OutOfMemory → snapshot.new ≡ snapshot.old }
-    ensures stopped { result ≢ Err NoteFault.Stopped }
-    ensures runs { OnOk result (snapshot.new.snapshot.stopped ≡ false) }
-    ensures calm { OnOk result (snapshot.new.device.failures ≡ snapshot.old.device.failures) }
+    ensures line { WritesLine kinds.Query time line.now snapshot.old snapshot.new result }
 {
     asked.push(time.get(), query)?;
-    match snapshot.note(alloc, ClockKind::Query, time) {
+    match note_line(snapshot, alloc, ClockKind::Query, time, line) {
         Ok(()) => Ok(()),
         Err(fault) => {
             asked.pop();
@@ -181,7 +164,8 @@ impl<S: Sink> Agent<S> {
     /// out here too.
     ///
     /// On Ok the sink was appended this one line and flushed, and nothing else, or was not called where its last line of
-    /// queries already says this time or a later one.
+    /// queries already says this time or a later one. Where the settings keep events, the query's own line goes with it, in
+    /// the same append, and is written in any case.
     ///
     /// Of the refusals the first that holds is answered. All of them leave the agent and its sink as they were, but
     /// `SinkFault`, which stops the agent: then the sink failed at this line's append or flush, and may keep a part of it.
@@ -200,11 +184,14 @@ impl<S: Sink> Agent<S> {
             result self.old.device self.new }
 
         // What becomes of the sink, whatever it shows of its bytes.
-        ensures ok_device { IfOk result (λ f. self.new.device
-            ≡ device_noted kinds.Query f.time self.old.concrete.snapshot self.old.device) }
+        ensures ok_device { IfOk result (λ f. self.new.device ≡ device_noted kinds.Query f.time
+            (told_query self.old.concrete.config f.time id) self.old.concrete.snapshot
+            self.old.device) }
         ensures fault_device { IsErrOf result QueryFault.SinkFault
             → FailsLine self.old.device self.new.device
-            (clock_line kinds.Query self.old.concrete.queries.clock) }
+            (bytes_with kinds.Query self.old.concrete.queries.clock
+            (told_query self.old.concrete.config self.old.concrete.queries.clock id)
+            self.old.concrete.snapshot) }
         ensures refused { OnErr result (result ≢ Err QueryFault.SinkFault → self.new ≡ self.old) }
 
         // Memory is wanted only where the query is fired, and its want changes nothing.
@@ -253,10 +240,12 @@ impl<S: Sink> Agent<S> {
         ensures fired { IfOk result (λ f. f ≡ fired_query self.old.concrete.config now
             (query_at time self.old.concrete.config.name id name.now payload.now params.now)) }
         ensures entered { OnOk result ((i : IdealAgent) → self.old.concrete ≡ view_of i
-            → self.new.concrete
-            ≡ view_of (with_snapshot (noted kinds.Query time i.snapshot Kept) (query_asked now
-            (query_at time self.old.concrete.config.name id name.now payload.now params.now) i))) }
-        ensures line { NotesLine kinds.Query time self.old self.new result }
+            → self.new.concrete ≡ view_of (with_snapshot
+            (noted_with kinds.Query time (told_query i.config time id) i.snapshot Kept)
+            (query_asked now (query_at time self.old.concrete.config.name id name.now
+            payload.now params.now) i))) }
+        ensures line { NotesLine kinds.Query time (told_query self.old.concrete.config time id)
+            self.old self.new result }
     {
         let config = &self.config;
         let query = params.parts(time, config.name.as_slice(), id, name, payload);
@@ -275,13 +264,23 @@ impl<S: Sink> Agent<S> {
             < self.old.concrete.config.per_time }
 
         ensures entered { OnOk result ((i : IdealAgent) → self.old.concrete ≡ view_of i
-            → self.new.concrete ≡ view_of (with_snapshot (noted kinds.Query time i.snapshot Kept)
+            → self.new.concrete ≡ view_of (with_snapshot
+            (noted_with kinds.Query time (told_query i.config time query.id) i.snapshot Kept)
             (with_asked (i.asked ++ (time, query) ∷ []) (query_entered time query.id i)))) }
-        ensures line { NotesLine kinds.Query time self.old self.new result }
+        ensures line { NotesLine kinds.Query time
+            (told_query self.old.concrete.config time query.id) self.old self.new result }
     {
         let id = query.id;
+        let line = told_query(alloc, &self.config, time, id)?;
         let entry = self.queries.prepare(alloc, time, &id)?;
-        note_asked(&mut self.asked, &mut self.snapshot, alloc, time, query)?;
+        note_asked(
+            &mut self.asked,
+            &mut self.snapshot,
+            alloc,
+            time,
+            &line,
+            query,
+        )?;
         self.queries.enter(time, entry);
         Ok(())
     }

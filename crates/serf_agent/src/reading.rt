@@ -3,10 +3,12 @@
 ghost use Rattle.std.specs.Prelude.{◌≡◌, ◌<◌, ◌-◌, ◌^◌, false, true, map, option_copied, IfSome};
 ghost use Rattle.serf_wire.specs.Buffers.{slots_lent};
 ghost use Rattle.serf_window.specs.Slots.{slot_view};
-ghost use Rattle.serf_snap.specs.Compaction.{is_worth_compacting};
+ghost use Rattle.serf_snap.specs.Compaction.{is_worth_compacting, is_worth_replacing};
 ghost use Rattle.serf_snap.specs.Device.{IsClean, append_failing, flush_failing, durable_of, with_plan, replace_failing};
 ghost use Rattle.serf_agent.specs.Config.{is_sound};
 ghost use Rattle.serf_agent.specs.Queries.{asked_at};
+ghost use Rattle.serf_agent.specs.States.{told_lines};
+ghost use Rattle.serf_agent.specs.Told.{text_with};
 ghost use Rattle.serf_agent.specs.View.{with_new_plan};
 
 use crate::agent::Agent;
@@ -68,16 +70,30 @@ impl<S: Sink> Agent<S> {
     }
 
     /// Whether the snapshot is worth a compaction: more than `limit` bytes are kept, and a compaction would take away at
-    /// least half of them. Never on a stopped agent, which can't compact, and never at a limit of 2^64 - 1. Serf's own
-    /// limit is [`DEFAULT_SNAPSHOT_LIMIT`](crate::DEFAULT_SNAPSHOT_LIMIT).
+    /// least half of them. Where the settings keep events, a compaction leaves the lines of what the buffers hold too. Never on
+    /// a stopped agent, which can't compact, and never at a limit of 2^64 - 1. Serf's own limit is
+    /// [`DEFAULT_SNAPSHOT_LIMIT`](crate::DEFAULT_SNAPSHOT_LIMIT).
+    ///
+    /// Takes the same time however long the text is. Only where the settings keep events, and the text is longer than the limit,
+    /// the slots of both buffers are gone over.
     pub fn should_compact(&self, limit: u64) -> bool
-        ensures exact { self.now.concrete.snapshot.stopped ≡ false → limit < 2 ^ 64 - 1
+        ensures exact { self.now.concrete.snapshot.stopped ≡ false
+            → IfSome self.now.concrete.snapshot.durable (λ text. result
+            ≡ is_worth_replacing limit (text_with (told_lines self.now.concrete)
+            self.now.concrete.snapshot) text) }
+        ensures plain { self.now.concrete.config.keep_events ≡ false
+            → self.now.concrete.snapshot.stopped ≡ false → limit < 2 ^ 64 - 1
             → IfSome self.now.concrete.snapshot.durable (λ text. result
             ≡ is_worth_compacting limit self.now.concrete.snapshot text) }
         ensures stopped { self.now.concrete.snapshot.stopped ≡ true → result ≡ false }
         ensures never { limit ≡ 2 ^ 64 - 1 → result ≡ false }
     {
-        self.snapshot.should_compact(limit)
+        if !self.config.keep_events {
+            return self.snapshot.should_compact(limit);
+        }
+        // with no lines a compaction is shorter: where that isn't worth it, the buffers aren't gone over
+        self.snapshot.should_compact_with(limit, 0)
+            && self.snapshot.should_compact_with(limit, self.kept_length())
     }
 
     /// The slots of the event buffer, in order. One that was never used has the time 0 and no events.

@@ -20,7 +20,8 @@ impl<S: Sink> Agent<S> {
     /// Takes a packet that comes at a moment, in nanoseconds (Serf's `delegate.go`, `NotifyMsg`).
     ///
     /// Where an event or a query is new, the sink is appended its one line and flushed before it is handed out; it is not
-    /// called where its last line of the kind already says this time or a later one, nor for any other packet.
+    /// called where its last line of the kind already says this time or a later one, nor for any other packet. Where the
+    /// settings keep events, the event's or the query's own line goes with it, in the same append, and is written in any case.
     ///
     /// Of the refusals the first that holds is answered. All of them leave the agent and its sink as they were, but
     /// `SinkFault`, which stops the agent: then the sink failed at this line's append or flush, and may keep a part of it.

@@ -10,21 +10,24 @@ ghost use Rattle.serf_window.specs.Window.{TimedEntry, count_in, time_in};
 ghost use Rattle.serf_snap.specs.Clocks.{clock_line};
 ghost use Rattle.serf_snap.specs.declared.kind.ClockKind.TheVariants as kinds;
 ghost use Rattle.serf_snap.specs.Device.{HasFailed, replace_called, replaced, unreplaced};
-ghost use Rattle.serf_snap.specs.Notes.{compaction_of};
+ghost use Rattle.serf_snap.specs.Notes.{Kept};
 ghost use Rattle.serf_agent.specs.Calls.{AsksSink};
 ghost use Rattle.serf_agent.specs.declared.outcome.MergeFault.{MergeFault as Fault};
-ghost use Rattle.serf_agent.specs.Devices.{FailsLine, FailsText, device_noted};
+ghost use Rattle.serf_agent.specs.Devices.{FailsLine, FailsText};
 ghost use Rattle.serf_agent.specs.Events.{admission};
 ghost use Rattle.serf_agent.specs.Ideal.{IdealAgent};
-ghost use Rattle.serf_agent.specs.Merging.{Received};
+ghost use Rattle.serf_agent.specs.Merging.{Heard, Received};
 ghost use Rattle.serf_agent.specs.Sound.{IsSound};
-ghost use Rattle.serf_agent.specs.States.{Merges, at_time, compact, events_of, events_of_slot, fault_in, joined, merge_refusal, save, send_state};
-ghost use Rattle.serf_agent.specs.Steps.{Steps};
-ghost use Rattle.serf_agent.specs.View.{view_of};
+ghost use Rattle.serf_agent.specs.States.{Merges, at_time, compact, events_of, events_of_slot, fault_in, hear, joined, merge_refusal, save, send_state, told_lines};
+ghost use Rattle.serf_agent.specs.Steps.{NotesLine, Steps};
+ghost use Rattle.serf_agent.specs.Told.{device_noted, noted_with, text_with};
+ghost use Rattle.serf_agent.specs.View.{concrete_with, view_of};
 
 use crate::agent::Agent;
 use crate::laws::sound_snapshots;
+use crate::noting::{note_line, replace_lines};
 use crate::outcome::{EventOut, MergeFault, PushPullFault};
+use crate::telling::told_least;
 use serf_lamport::Time;
 use serf_snap::{ClockKind, NoteFault, ReplaceSink, Sink};
 use serf_wire::{
@@ -110,7 +113,8 @@ impl<S: Sink> Agent<S> {
             → IsErrOf result NoteFault.OutOfMemory → AsksSink (save i) }
         ensures memory { IsErrOf result NoteFault.OutOfMemory → self.new ≡ self.old }
         ensures ok_device { OnOk result (self.new.device ≡ device_noted kinds.Member
-            (self.old.concrete.member_clock - 1) self.old.concrete.snapshot self.old.device) }
+            (self.old.concrete.member_clock - 1) None self.old.concrete.snapshot
+            self.old.device) }
         ensures fault_device { IsErrOf result NoteFault.SinkFault
             → FailsLine self.old.device self.new.device
             (clock_line kinds.Member (self.old.concrete.member_clock - 1)) }
@@ -147,16 +151,57 @@ impl<S: Sink> Agent<S> {
         self.queries.raise(state.query_clock, 0);
     }
 
+    /// Notes the line of a least time of events, if there is one.
+    fn note_least(&mut self, alloc: Global, line: &Option<Bytes>) -> Result<(), NoteFault>
+        requires { self.old.concrete.snapshot.stopped ≡ false }
+        ensures noted { OnOk result (self.new.concrete ≡ concrete_with
+            (noted_with kinds.Event 0 line.now self.old.concrete.snapshot Kept)
+            self.old.concrete) }
+        ensures line { NotesLine kinds.Event 0 line.now self.old self.new result }
+        ensures none { line.now ≡ None → result ≡ Ok tt }
+    {
+        let Some(no_time) = Time::new(0) else {
+            unreachable!()
+        };
+        match line {
+            Some(_) => note_line(&mut self.snapshot, alloc, ClockKind::Event, no_time, line),
+            None => Ok(()),
+        }
+    }
+
+    /// Hears of the clocks of another agent. Where this one joins, and its settings ignore what is old and keep events, the line
+    /// of the least time that this sets is written first.
+    fn hear(&mut self, alloc: Global, state: &PushPull, is_join: bool) -> Result<(), MergeFault>
+        requires { self.old.concrete.snapshot.stopped ≡ false }
+        ensures heard { (i : IdealAgent) → IsSound i → self.old.concrete ≡ view_of i
+            → Heard i (hear i (push_pull_said state.now) is_join) self.old.device self.new result }
+        ensures runs { OnOk result (self.new.concrete.snapshot.stopped ≡ false) }
+        ensures calm { OnOk result (self.new.device.failures ≡ self.old.device.failures) }
+        ensures cause { IsErrOf result MergeFault.SinkFault
+            → HasFailed self.old.device.failures self.new.device.failures }
+    {
+        sound_snapshots();
+        let line = told_least(alloc, &self.config, state, is_join)?;
+        self.note_least(alloc, &line)?;
+        self.join(state, is_join);
+        Ok(())
+    }
+
     /// Merges the whole state of another agent (Serf's `delegate.go`, `MergeRemoteState`): its clocks, the least time of
     /// events where this agent joins and is set to ignore what is old, and its events, of which those that are new are added
     /// to `out` in order. What the packet says is lent.
     ///
+    /// Where this agent joins, and its settings ignore what is old and keep events, the line of the least time is written before
+    /// anything is heard of, by one append and one flush, at each such join: what is below it is refused in later lives too.
+    ///
     /// Each event that is new is written first: the sink is appended its one line and flushed, or is not called where its
     /// last line of events already says the time or a later one; one event's line after the other, in the packet's order.
+    /// Where the settings keep events, each event's own line goes with it, in the same append, and is written in any case.
     ///
-    /// Of the refusals the first that holds is answered. `Stopped`, `Wire` and `NotPushPull` leave all as it was. After
-    /// `OutOfMemory` and `SinkFault`, which stops the agent, the clocks were heard of, and `out` has just what was handed out
-    /// before; after `OutOfMemory` the same merge may be called again.
+    /// Of the refusals the first that holds is answered. `Stopped`, `Wire` and `NotPushPull` leave all as it was. `OutOfMemory`,
+    /// after which the same merge may be called again, and `SinkFault`, which stops the agent, come at one of the lines. At the
+    /// line of a join's least time nothing was heard of, and `out` is as it was. At an event's line the clocks were heard of, and
+    /// `out` has just what was handed out before that event.
     pub fn merge_remote_state<'a>(
         &mut self,
         alloc: Global,
@@ -207,7 +252,7 @@ impl<S: Sink> Agent<S> {
         let Some(state) = push_pull_of(message) else {
             return Err(MergeFault::NotPushPull);
         };
-        self.join(&state, is_join);
+        self.hear(alloc, &state, is_join)?;
         match self.receive_slots(alloc, state.slots, out) {
             Ok(()) => Ok(state),
             Err(fault) => Err(fault),
@@ -343,7 +388,8 @@ impl<S: Sink> Agent<S> {
 }
 
 impl<S: ReplaceSink> Agent<S> {
-    /// Replaces what the sink keeps by the last line of each clock. The rest of the agent is unchanged.
+    /// Replaces what the sink keeps by the last line of each clock, and where the settings keep events by the lines of what the
+    /// buffers hold too. The rest of the agent is unchanged.
     ///
     /// On Ok the sink's text was replaced once, and it was neither appended to nor flushed. `Stopped` leaves all as it was,
     /// the counts of the sink's calls too; `OutOfMemory` leaves the agent as it was, and its sink but for a call that is
@@ -360,10 +406,12 @@ impl<S: ReplaceSink> Agent<S> {
             → (self.new.device ≡ self.old.device) ⊎ (self.new.device ≡ unreplaced self.old.device) }
         ensures cause { IsErrOf result NoteFault.SinkFault
             → HasFailed self.old.device.failures self.new.device.failures }
-        ensures ok_device { OnOk result (self.new.device
-            ≡ replaced (compaction_of self.old.concrete.snapshot) self.old.device) }
+        ensures ok_device { OnOk result (self.new.device ≡ replaced
+            (text_with (told_lines self.old.concrete) self.old.concrete.snapshot)
+            self.old.device) }
         ensures fault_device { IsErrOf result NoteFault.SinkFault
-            → FailsText self.old.device self.new.device (compaction_of self.old.concrete.snapshot) }
+            → FailsText self.old.device self.new.device
+            (text_with (told_lines self.old.concrete) self.old.concrete.snapshot) }
         ensures stopped { IsErrOf result NoteFault.Stopped → self.new ≡ self.old }
         ensures called { OnOk result (self.new.device.calls
             ≡ replace_called self.old.device.calls) }
@@ -371,6 +419,10 @@ impl<S: ReplaceSink> Agent<S> {
             → self.new.device.calls ≡ replace_called self.old.device.calls }
     {
         sound_snapshots();
-        self.snapshot.compact(alloc)
+        if self.snapshot.is_stopped() {
+            return Err(NoteFault::Stopped);
+        }
+        let lines = self.told_lines(alloc)?;
+        replace_lines(&mut self.snapshot, alloc, &lines)
     }
 }

@@ -1,25 +1,26 @@
 //! What an agent knows of its events, or of its queries.
 
-ghost use Rattle.std.specs.Prelude.{◌≡◌, ℕ, ◌<◌, ◌≤◌, ◌-◌, List, [], ◌∷◌, ◌++◌, max, map, length, OnOk, IfOk, SomeIff};
+ghost use Rattle.std.specs.Prelude.{◌≡◌, ℕ, ◌<◌, ◌≤◌, ◌-◌, ◌+◌, true, All, List, [], ◌∷◌, ◌++◌, max, map, length, OnOk, IfOk, SomeIff};
 ghost use Rattle.serf_lamport.specs.Clock.{observed, greatest_clock};
 ghost use Rattle.serf_wire.specs.Buffers.{slots_lent};
+ghost use Rattle.serf_window.specs.Recall.{entries_offered};
 ghost use Rattle.serf_window.specs.Slots.{slot_view};
 ghost use Rattle.serf_window.specs.Window.{TimedEntry, count_in, greatest_per_time, greatest_slot_count, room_for, slots_of, time_in};
 ghost use Rattle.serf_agent.specs.Events.{drawn};
 ghost use Rattle.serf_agent.specs.Ideal as ideal;
-ghost use Rattle.serf_agent.specs.Inside.{concrete_of};
+ghost use Rattle.serf_agent.specs.Inside.{concrete_of, first_track};
 ghost use Rattle.serf_agent.specs.Tracks.{IsTrackSound, track_reason, view_of_track};
 
 use crate::outcome::Reason;
 use crate::reason::reason_of;
 use serf_lamport::{Clock, Time};
-use serf_window::{Entry, LentKey, MAX_PER_TIME, MAX_SLOTS, Window};
+use serf_window::{Entry, LentKey, MAX_PER_TIME, MAX_SLOTS, Offer, Window};
 use serf_wire::{EventBody, LentSlots};
 use std::alloc::{AllocError, Global};
 use std::marker::Model;
 
 /// A clock, the least time that is taken, and the window of what came last.
-#[derive(Debug, Drop)]
+#[derive(Drop)]
 pub(crate) struct Track<K> {
     clock: Clock,
     minimum: u64,
@@ -138,6 +139,33 @@ impl<K: Drop> Track<K> {
     {
         self.clock.observe_before(clock);
         self.minimum = self.minimum.max(minimum);
+    }
+
+    /// Takes back what a text keeps, where it has this last clock and this least time: the clock goes above the last one, and is
+    /// no less than the least time; no time below the buffer's reach may be taken. The track has nothing yet.
+    pub(crate) fn recall<L: LentKey<K>>(
+        &mut self,
+        alloc: Global,
+        slot_count: u64,
+        last: u64,
+        least: u64,
+        offers: &[Offer<L>],
+    ) -> Result<(), AllocError>
+        requires small { last < greatest_clock }
+        requires size { length self.old.window.slots ≡ slot_count }
+        requires nothing { concrete_of self.old
+            ≡ record { clock = 1; minimum = 1; slots = slots_of slot_count [] } }
+        requires times { All (λ offer. offer.time < last + 1) offers.now }
+        ensures concrete { OnOk result (concrete_of self.new ≡ first_track true L.same slot_count
+            self.old.window.per_time last least (entries_offered L.key offers.now)) }
+        ensures size { length self.new.window.slots ≡ length self.old.window.slots }
+        ensures per_time { self.new.window.per_time ≡ self.old.window.per_time }
+    {
+        let clock = (last + 1).max(least);
+        self.clock.observe_before(clock);
+        let minimum = self.window.recall(alloc, clock, least, offers)?;
+        self.minimum = minimum.max(clock.saturating_sub(slot_count));
+        Ok(())
     }
 
     /// Makes what comes ready to enter.

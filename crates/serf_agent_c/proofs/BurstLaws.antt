@@ -10,7 +10,8 @@ use Rattle.serf_wire.specs.Message.{Message, Query, QueryResponse, user_event, q
 use Rattle.serf_snap.specs.Clocks.{clock_line}
 use Rattle.serf_snap.specs.declared.kind.ClockKind.{ClockKind}
 use Rattle.serf_snap.specs.Device.{Device, Observable, appended, durable_of, flushed}
-use Rattle.serf_snap.specs.Notes.{Failed, Kept, MayWrite, SnapshotView, Writing, last_line, noted}
+use Rattle.serf_snap.specs.KeptNotes.{kept_bytes}
+use Rattle.serf_snap.specs.Notes.{Failed, Kept, MayWrite, SnapshotView, Writing, last_line}
 use Rattle.serf_window.specs.Texts.{event_of}
 use Rattle.serf_agent.specs.declared.open_query.OpenQuery.{OpenQuery}
 use Rattle.serf_agent.specs.declared.outcome.FireFault.{FireFault}
@@ -27,6 +28,7 @@ use Rattle.serf_agent.specs.Queries.{answer_ignore_reason, asked_at, counts_wher
 use Rattle.serf_agent.specs.Receive.{receive_message, receive_read, receive_tagged}
 use Rattle.serf_agent.specs.Sound.{IsSound}
 use Rattle.serf_agent.specs.Steps.{Steps}
+use Rattle.serf_agent.specs.Told.{noted_with}
 use Rattle.serf_agent.specs.View.{AgentState, view_of}
 use Rattle.serf_agent_c.specs.declared.answered.Answered.{Answered}
 use Rattle.serf_agent_c.specs.declared.session.Session.{Session}
@@ -53,8 +55,8 @@ lines-push i (c ∷ cs) call =
 
 abbrev pub IsPlain : {R : Type 0} → IdealAgent → Call R → Type 0
 IsPlain i (Ends step) = step.agent.snapshot ≡ i.snapshot
-IsPlain i (Notes kind t step fault) = Unit {0}
-IsPlain i (Replaces step fault) = ⊥
+IsPlain i (Notes kind t line step fault) = Unit {0}
+IsPlain i (Replaces lines step fault) = ⊥
 
 plain-if : {R : Type 0} (i : IdealAgent) (b : Bool) (x y : Call R) → IsPlain i x → IsPlain i y → IsPlain i (cond b x y)
 plain-if i true x y p q = p
@@ -120,20 +122,22 @@ calm-note s line false (Failed durable) calm may =
 
 calm-kept : {R : Type 0} (i : IdealAgent) (call : Call R) (w : Writing) → i.snapshot.plan ≡ Some no_failure → IsPlain i call → MayEnd i call w → w ≡ Kept
 calm-kept i (Ends step) w calm plain may = may
-calm-kept i (Notes kind t step fault) w calm plain may = calm-note i.snapshot (clock_line kind t) (nat_le t (last_line kind i.snapshot)) w calm may
-calm-kept i (Replaces step fault) w calm plain may = absurd plain
+calm-kept i (Notes kind t None step fault) w calm plain may = calm-note i.snapshot (clock_line kind t) (nat_le t (last_line kind i.snapshot)) w calm may
+calm-kept i (Notes kind t (Some line) step fault) w calm plain may = calm-note i.snapshot (kept_bytes kind t line (last_line kind i.snapshot)) false w calm may
+calm-kept i (Replaces lines step fault) w calm plain may = absurd plain
 
-noted-calm : (kind : ClockKind) (t : ℕ) (s : SnapshotView) → s.plan ≡ Some no_failure → (noted kind t s Kept).plan ≡ Some no_failure
-noted-calm kind t s calm = by (nat_le t (last_line kind s))
+noted-calm : (kind : ClockKind) (t : ℕ) (line : Option (List ℕ)) (s : SnapshotView) → s.plan ≡ Some no_failure → (noted_with kind t line s Kept).plan ≡ Some no_failure
+noted-calm kind t None s calm = by (nat_le t (last_line kind s))
   where
     by : (b : Bool) → (cond b s (Rattle.serf_snap.specs.Notes.written kind t s Kept)).plan ≡ Some no_failure
     by true = calm
     by false = rw calm
+noted-calm kind t (Some line) s calm = rw calm
 
 calm-after : {R : Type 0} (i : IdealAgent) (call : Call R) → i.snapshot.plan ≡ Some no_failure → IsPlain i call → (ended i call Kept).agent.snapshot.plan ≡ Some no_failure
 calm-after i (Ends step) calm plain = ap (λ (s : SnapshotView). s.plan) plain ∙ calm
-calm-after i (Notes kind t step fault) calm plain = noted-calm kind t i.snapshot calm
-calm-after i (Replaces step fault) calm plain = absurd plain
+calm-after i (Notes kind t line step fault) calm plain = noted-calm kind t line i.snapshot calm
+calm-after i (Replaces lines step fault) calm plain = absurd plain
 
 -- what a call leaves of an agent and its device, where the line is durable
 abbrev Leaves : {R : Type 0} → IdealAgent → Call R → R → Device → AgentState → Writing → Type 0
@@ -160,8 +164,9 @@ note-bytes false d line is = line-bytes d d.observed_bytes line refl is
 
 device-bytes : {R : Type 0} (i : IdealAgent) (call : Call R) (d : Device) → IsPlain i call → IsFlushed d → BytesAfter d.observed_bytes (line_of i call) (device_after i call d).observed_bytes
 device-bytes i (Ends step) d plain is = same-bytes d.observed_bytes is
-device-bytes i (Notes kind t step fault) d plain is = note-bytes (nat_le t (last_line kind i.snapshot)) d (clock_line kind t) is
-device-bytes i (Replaces step fault) d plain is = absurd plain
+device-bytes i (Notes kind t None step fault) d plain is = note-bytes (nat_le t (last_line kind i.snapshot)) d (clock_line kind t) is
+device-bytes i (Notes kind t (Some line) step fault) d plain is = note-bytes false d (kept_bytes kind t line (last_line kind i.snapshot)) is
+device-bytes i (Replaces lines step fault) d plain is = absurd plain
 
 -- what a file lacks of a text, where it is noted to have no more than was there before the last line
 lacks-more : (n : ℕ) (old line new : List ℕ) → new ≡ old ++ line → drop (min n (length old)) new ≡ drop n old ++ line

@@ -1,8 +1,9 @@
 -- What a burst does: calls one after another, each a step of the agent, whose outcomes wait in a list until the host's file
 -- has the lines of all of them.
-use Rattle.std.specs.Prelude.{◌≡◌, ◌≢◌, ◌++◌, ◌∷◌, [], ℕ, Bool, false, true, if◌then◌else◌, IsSomeAnd, length, List, min, nat_le, Some}
+use Rattle.std.specs.Prelude.{◌≡◌, ◌≢◌, ◌++◌, ◌∷◌, [], ℕ, Bool, false, true, if◌then◌else◌, IsSomeAnd, length, List, min, nat_le, None, Some}
 use Rattle.serf_snap.specs.Clocks.{clock_line}
 use Rattle.serf_snap.specs.Device.{Device, FailurePlan, Observable}
+use Rattle.serf_snap.specs.KeptNotes.{kept_bytes}
 use Rattle.serf_snap.specs.Notes.{Kept, last_line}
 use Rattle.serf_window.specs.Texts.{event_of}
 use Rattle.serf_agent.specs.declared.outcome.QueryParams.{QueryParams}
@@ -57,8 +58,9 @@ pub record Outcome : Type 0 where
 
 abbrev pub line_of : {R : Type 0} → IdealAgent → Call R → List ℕ
 line_of i (Ends step) = []
-line_of i (Notes kind t step fault) = if nat_le t (last_line kind i.snapshot) then [] else clock_line kind t
-line_of i (Replaces step fault) = []
+line_of i (Notes kind t None step fault) = if nat_le t (last_line kind i.snapshot) then [] else clock_line kind t
+line_of i (Notes kind t (Some line) step fault) = kept_bytes kind t line (last_line kind i.snapshot)
+line_of i (Replaces lines step fault) = []
 
 abbrev pub outcome : {R : Type 0} → (R → Answered) → IdealAgent → Call R → Outcome
 outcome answered i call = record { agent = (ended i call Kept).agent; answer = answered (ended i call Kept).answer; line = line_of i call }

@@ -6,7 +6,7 @@ use Rattle.serf_agent.specs.declared.config.Config.{Config}
 use Rattle.serf_agent.specs.Config.{is_sound}
 use Rattle.serf_agent.specs.Defaults.{default_query_limit, default_response_limit}
 use Rattle.serf_agent.specs.Ideal.{IdealAgent, with_config}
-use Rattle.serf_agent.specs.Restart.{IsInText, restarted, unopened}
+use Rattle.serf_agent.specs.Restart.{HasPast, restarted, unopened}
 use Rattle.serf_agent.specs.Sound.{IsSound}
 use Rattle.serf_agent.specs.View.{view_of}
 use Rattle.serf_agent_c.specs.declared.code.Code.TheVariants.{Done, OutOfMemory, BadConfig}
@@ -21,22 +21,23 @@ limit_or serfs limit = if limit == 0 then serfs else limit
 
 abbrev pub config_of : List ℕ → Settings → Config
 config_of name s =
-    record { name = name; event_buffer = s.event_buffer; query_buffer = s.query_buffer; event_limit = s.event_limit; query_limit = limit_or default_query_limit s.query_limit; response_limit = limit_or default_response_limit s.response_limit; responders = s.responders; per_time = s.per_time; ignore_old = s.ignore_old }
+    record { name = name; event_buffer = s.event_buffer; query_buffer = s.query_buffer; event_limit = s.event_limit; query_limit = limit_or default_query_limit s.query_limit; response_limit = limit_or default_response_limit s.response_limit; responders = s.responders; per_time = s.per_time; ignore_old = s.ignore_old; keep_events = s.keep_events }
 
 -- an agent in its next life, with these settings
 abbrev pub next_life : Config → List ℕ → IdealAgent → IdealAgent
-next_life config text i = restarted (opened text (fresh_device text)) (with_config config i)
+next_life config text i = restarted text (opened text (fresh_device text)) (with_config config i)
 
--- For each agent whose times the text has, whatever its settings were, it is that agent in its next life, which is sound.
+-- For each agent whose times the text has, and all that it entered where these settings keep events, whatever its own settings
+-- were, it is that agent in its next life, which is sound.
 abbrev pub GoesOn : List ℕ → Settings → List ℕ → Session → Type 0
 GoesOn name settings text s =
-    (i : IdealAgent) → IsSound i → IsInText i text → (s.agent.concrete ≡ view_of (next_life (config_of name settings) text i)) × IsSound (next_life (config_of name settings) text i)
+    (i : IdealAgent) → IsSound i → HasPast (config_of name settings) i text → (s.agent.concrete ≡ view_of (next_life (config_of name settings) text i)) × IsSound (next_life (config_of name settings) text i)
 
 -- On any text it is the next life of an agent that has entered nothing.
 abbrev pub IsFirst : List ℕ → Settings → List ℕ → Session → Type 0
 IsFirst name settings text s =
-    (s.agent.concrete ≡ view_of (restarted (opened text (fresh_device text)) (unopened (config_of name settings) (opened text (fresh_device text)))))
-    × IsSound (restarted (opened text (fresh_device text)) (unopened (config_of name settings) (opened text (fresh_device text))))
+    (s.agent.concrete ≡ view_of (restarted text (opened text (fresh_device text)) (unopened (config_of name settings) (opened text (fresh_device text)))))
+    × IsSound (restarted text (opened text (fresh_device text)) (unopened (config_of name settings) (opened text (fresh_device text))))
 
 -- It gave nothing yet; its text is the file's, after which stands the end of a torn last line, which the file lacks.
 abbrev pub IsFresh : List ℕ → Session → Type 0

@@ -131,7 +131,7 @@ impl Session {
         ensures waits { is_ready self.now ≡ false → result ≡ Code.Unwritten }
         ensures tells { is_ready self.now ≡ true
             → (result ≡ Code.Done)
-            × TellsCompaction limit self.now.agent.concrete.snapshot should.new }
+            × TellsCompaction limit self.now.agent.concrete should.new }
         ensures same { result ≢ Code.Done → (should.new ≡ should.old) }
     {
         if !self.is_ready() {

@@ -320,7 +320,7 @@ pub extern "C" fn serf_agent_should_compact(
 ) -> u32
     ensures reads { Shows (λ s code. (is_ready s ≡ false → code ≡ Code.Unwritten)
         × (is_ready s ≡ true → (code ≡ Code.Done)
-        × TellsCompaction limit s.agent.concrete.snapshot should.new))
+        × TellsCompaction limit s.agent.concrete should.new))
         handle.old handle.new result }
     ensures same { Shows (λ s code. code ≢ Code.Done → (should.new ≡ should.old))
         handle.old handle.new result }

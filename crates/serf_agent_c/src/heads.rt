@@ -14,6 +14,8 @@ pub struct Settings {
     pub responders: u64,
     pub per_time: u64,
     pub ignore_old: bool,
+    /// Whether a restart goes on with the events and the queries of the life before.
+    pub keep_events: bool,
 }
 
 /// What the last call gave.

@@ -5,7 +5,7 @@ ghost use Rattle.serf_snap.specs.Device.{fresh_device};
 ghost use Rattle.serf_snap.specs.Notes.{opened, opened_device};
 ghost use Rattle.serf_agent.specs.Config.{is_sound};
 ghost use Rattle.serf_agent.specs.Ideal.{IdealAgent};
-ghost use Rattle.serf_agent.specs.Restart.{IsInText, restarted, unopened};
+ghost use Rattle.serf_agent.specs.Restart.{HasPast, restarted, unopened};
 ghost use Rattle.serf_agent.specs.Sound.{IsSound};
 ghost use Rattle.serf_agent.specs.View.{view_of};
 ghost use Rattle.serf_agent_c.specs.Opening.{GoesOn, IsFirst, IsFresh, config_of, limit_or};
@@ -42,6 +42,7 @@ fn config_of(alloc: Global, name: &[u8], settings: &Settings) -> Result<Config, 
         responders: settings.responders,
         per_time: settings.per_time,
         ignore_old: settings.ignore_old,
+        keep_events: settings.keep_events,
     })
 }
 

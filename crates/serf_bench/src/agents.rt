@@ -20,6 +20,7 @@ fn settings(alloc: Global) -> Result<Config, AllocError> {
         responders: 8,
         per_time: 1024,
         ignore_old: false,
+        keep_events: false,
     })
 }
 

@@ -27,7 +27,7 @@ use std::alloc::{AllocError, Global};
 use std::io::{Read, Write};
 
 /// What came of a turn.
-#[derive(Debug, Drop)]
+#[derive(Drop)]
 pub(crate) enum Asked {
     /// It is no call of the agent.
     Skipped,

@@ -201,8 +201,8 @@ fn hold_on<R: Read, W: Write>(
 ///
 /// A call is written only once the reply to the one before is read and agrees. A delivery or a merge that names no
 /// packet is no call. Where the agent has not ended, just the replies to the calls were read, so that the next `hold` on
-/// these devices opens it anew. `NoAgent` where the settings are out of bounds. After a fault the agent may have got a
-/// part of a call.
+/// these devices opens it anew. `NoAgent` where the settings are out of bounds, or keep events. After a fault the agent
+/// may have got a part of a call.
 ///
 /// [`judge_look`]: crate::judge_look
 pub fn hold<R: Read, W: Write>(

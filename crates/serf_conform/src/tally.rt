@@ -1,7 +1,7 @@
 //! How many replies agree.
 
 /// How many replies agree, and how many looks had none.
-#[derive(Clone, Copy, Debug, PartialEq, Eq)]
+#[derive(Clone, Copy, PartialEq, Eq)]
 pub(crate) struct Tally {
     /// How many calls agree. That the agent was opened is one.
     pub(crate) calls: u64,

@@ -17,12 +17,15 @@ use Rattle.serf_agent.specs.declared.outcome.Reason.TheVariants as reasons
 use Rattle.serf_agent.specs.declared.config.Config.{Config}
 use Rattle.serf_agent.specs.Config.{is_sound}
 use Rattle.serf_agent.specs.Calls.{ended}
-use Rattle.serf_agent.specs.Events.{admission, event_entered, event_observed, received_as, texts_len}
+use Rattle.serf_agent.specs.Events.{admission, event_entered, event_observed, received_as, texts_len, told_event}
 use Rattle.serf_agent.specs.Ideal.{IdealAgent, Past, Track, with_snapshot}
-use Rattle.serf_agent.specs.States.{after_event}
-use Rattle.serf_snap.specs.Notes.{Kept, noted}
+use Rattle.serf_agent.specs.States.{after_event, heard_by, joined, told_least}
+use Rattle.serf_wire.specs.Message.{PushPull}
+use Rattle.serf_snap.specs.Notes.{Kept}
+use Rattle.serf_agent.specs.Told.{noted_with}
 use Rattle.serf_snap.specs.declared.kind.ClockKind.TheVariants as kinds
 use Rattle.serf_agent.specs.Tracks.{IsTrackSound, of_life, track_reason, was_ever_entered}
+use Rattle.serf_explain.specs.Carried.{heard}
 use Rattle.serf_explain.specs.declared.judge.Judge.{Judge}
 use Rattle.serf_explain.specs.Judging.{IsJudging, both_verdicts, past}
 
@@ -153,13 +156,36 @@ pub admitted : (i j : IdealAgent) (t : ℕ) (what : EventBody) (judge : Judge) (
 admitted i j t what judge h small =
     rw small (λ q. track_reason same_texts (h.config_same q).event_buffer (h.config_same q).per_time (h.life_same q) (record { clock = h.clock_is q; minimum = h.minimum_is q; history = h.history_is q }) t what)
 
+-- ---- the state is heard of
+
+-- the line of a state that is heard of changes nothing but the snapshot
+judging-by : (line : Option (List ℕ)) (i : IdealAgent) (m : PushPull) (is_join : Bool) (judge : Judge) → IsJudging i (joined m is_join i) judge → IsJudging i (ended i (heard_by line i m is_join) Kept).agent judge
+judging-by None i m is_join judge h = h
+judging-by (Some line) i m is_join judge h = record {
+  entered = h.entered;
+  config_same = h.config_same;
+  life_same = h.life_same;
+  clock_is = h.clock_is;
+  minimum_is = h.minimum_is;
+  history_is = h.history_is;
+  slots_are = h.slots_are;
+  per_time_is = h.per_time_is;
+  below = h.below;
+  clock_up = h.clock_up;
+  minimum_up = h.minimum_up;
+}
+
+pub judging-heard : (i : IdealAgent) (m : PushPull) (is_join : Bool) (judge : Judge) → IsJudging i (joined m is_join i) judge → IsJudging i (heard m is_join i) judge
+unfolding heard
+judging-heard i m is_join judge h = judging-by (told_least i.config m is_join) i m is_join judge h
+
 -- ---- one event more
 
 -- what an agent is once it has received an event: with this reason it is ignored, or it enters
 after-reason : (j : IdealAgent) (t : ℕ) (what : EventBody) (r : Reason) → admission j t what ≡ Some r → after_event j (record { time = t; key = what }) ≡ event_observed t j
 after-reason j t what r is = ap (λ (o : Option Reason). (ended j (received_as o j t what false) Kept).agent) is
 
-after-new : (j : IdealAgent) (t : ℕ) (what : EventBody) → admission j t what ≡ None → after_event j (record { time = t; key = what }) ≡ with_snapshot (noted kinds.Event t j.snapshot Kept) (event_entered t what j)
+after-new : (j : IdealAgent) (t : ℕ) (what : EventBody) → admission j t what ≡ None → after_event j (record { time = t; key = what }) ≡ with_snapshot (noted_with kinds.Event t (told_event j.config t what) j.snapshot Kept) (event_entered t what j)
 after-new j t what is = ap (λ (o : Option Reason). (ended j (received_as o j t what false) Kept).agent) is
 
 pub judged-ignored : (i j : IdealAgent) (judge new : Judge) (t : ℕ) (what : EventBody) (r : Reason) → IsJudging i j judge → admission j t what ≡ Some r

@@ -1,6 +1,7 @@
 -- What is ignored as seen was handed to its agent by an action before.
-use Rattle.std.proofs.Common.{◌≡◌, ℕ, zero, suc, List, [], ◌∷◌, ◌++◌, Option, Some, None, Result, Ok, Err, true, refl, sym, ap, subst, ◌∙◌}
-use Rattle.std.specs.Prelude.{map, slice_get}
+use Rattle.std.proofs.Common.{◌≡◌, inl, inr, arith, false, ℕ, zero, suc, List, [], ◌∷◌, ◌++◌, Option, Some, None, Result, Ok, Err, true, refl, sym, ap, subst, ◌∙◌}
+use Rattle.std.proofs.lemmas.Bool.{cases_Bool, eqb-true}
+use Rattle.std.specs.Prelude.{Contains, map, slice_get}
 use Rattle.std.specs.List.{list_any}
 use Rattle.std.specs.Option.{option_map}
 use Rattle.serf_wire.specs.declared.fault.WireFault.{WireFault}
@@ -9,6 +10,7 @@ use Rattle.serf_wire.specs.Decoded.{decoded}
 use Rattle.serf_wire.specs.Message.{Message, UserEvent, foreign, push_pull, query, query_response, user_event}
 use Rattle.serf_window.specs.Texts.{event_of}
 use Rattle.serf_window.specs.Window.{TimedEntry}
+use Rattle.serf_agent.specs.declared.config.Config.{Config}
 use Rattle.serf_agent.specs.declared.outcome.Reason.TheVariants.{Seen}
 use Rattle.serf_model.specs.declared.action.Act.TheVariants as acts
 use Rattle.serf_model.specs.declared.action.Action.{Action}
@@ -16,8 +18,9 @@ use Rattle.serf_model.specs.declared.action.Action.TheVariants as actions
 use Rattle.serf_model.specs.declared.line.Answer.TheVariants as answers
 use Rattle.serf_model.specs.declared.line.Line.{Line}
 use Rattle.serf_model.specs.Cluster.{Cluster, IdealNode, Run, after, delivers, on_agent, step}
-use Rattle.serf_model.specs.Promises.{SeenWasHanded}
-use Rattle.serf_model.specs.Trace.{Turn, actor_of, given_by, packet_given}
+use Rattle.serf_model.specs.Promises.{SeenWasHandedOrTailed}
+use Rattle.serf_model.specs.Tails.{actor_keeps, keeps, tails_to}
+use Rattle.serf_model.specs.Trace.{Turn, actor_of, given_by, is_agent, packet_given}
 use Rattle.serf_explain.specs.HandOuts.{KnowsSeen, Note, is_note, notes_from}
 use Rattle.serf_explain.specs.Seen.{event_delivered, event_given, event_read}
 use Rattle.serf_explain.proofs.NoteLaws.{handed-noted}
@@ -103,16 +106,37 @@ delivered-before c more (actions.Of agent (acts.Deliver packet now)) a e says h 
         ap (λ (o : Option (List ℕ)). option_map pair (event_given o)) (is ∙ sym (still-sent c.sent more packet bytes is)) ∙ k
 delivered-before c more _ a e says h = h
 
+-- an agent that keeps no events takes none of a tail
+actor-off : (configs : List Config) (a : ℕ) (actor : Option ℕ) → is_agent a actor ≡ true → keeps (slice_get configs a) ≡ false → actor_keeps configs actor ≡ false
+actor-off configs a None mine off = refl
+actor-off configs a (Some b) mine off = subst (λ (x : ℕ). keeps (slice_get configs x) ≡ false) (sym (eqb-true b a mine)) off
+
+tails-none : (configs : List Config) (a : ℕ) (turns : List Turn) → keeps (slice_get configs a) ≡ false → tails_to configs a turns ≡ []
+tails-none configs a [] off = refl
+tails-none configs a (t ∷ ts) off = elim (cases_Bool (is_agent a (actor_of t.action))) [
+  | inl mine ↦ rw (mine, actor-off configs a (actor_of t.action) mine off) (tails-none configs a ts off)
+  | inr other ↦ rw other (tails-none configs a ts off)
+]
+
+tailed-keeps : (configs : List Config) (a : ℕ) (turns : List Turn) (e : TimedEntry EventBody) → Contains (tails_to configs a turns) e → keeps (slice_get configs a) ≡ true
+tailed-keeps configs a turns e h = elim (cases_Bool (keeps (slice_get configs a))) [
+  | inl on ↦ on
+  | inr off ↦ (let none : Contains [] e = subst (λ (es : List (TimedEntry EventBody)). Contains es e) (tails-none configs a turns off) h in absurd (omega (arith, none.1)))
+]
+
 -- what an action delivers is known, where it is ignored as seen, and the run keeps this promise
-pub knows-seen : (r : Run) (action : Action) (sent : List (List ℕ)) (line : Line) (notes : List Note) → SeenWasHanded (after r action).turns
+pub knows-seen : (configs : List Config) (r : Run) (action : Action) (sent : List (List ℕ)) (line : Line) (notes : List Note) → SeenWasHandedOrTailed configs (after r action).turns
     → (step r.cluster action).cluster.sent ≡ r.cluster.sent ++ (step r.cluster action).turn.packets → (step r.cluster action).cluster.sent ≡ sent → line ≡ (step r.cluster action).turn.line
-    → notes ≡ notes_from 1 (map (λ (t : Turn). t.line) r.turns) → KnowsSeen notes sent action line
-knows-seen r action sent line notes held sends sent-is line-is notes-are says a e h =
+    → notes ≡ notes_from 1 (map (λ (t : Turn). t.line) r.turns) → KnowsSeen configs notes sent action line
+knows-seen configs r action sent line notes held sends sent-is line-is notes-are says a e h =
     let c : Cluster = r.cluster in
     let turn : Turn = (step c action).turn in
     let seen : turn.line.answer ≡ answers.Ignored Seen = ap (λ (l : Line). l.answer) (sym line-is) ∙ says in
     let given = given-by c.sent action a e (delivered-before c turn.packets action a e seen (ap (λ (s : List (List ℕ)). event_delivered s action) (sym sends ∙ sent-is) ∙ h)) in
-    let handed = held r.turns turn [] refl a given.packet given.event (ap actor_of (turn-action c action) ∙ given.actor) seen (gives c action ∙ given.given) given.spells in
-    subst (λ (x : TimedEntry EventBody). list_any (is_note a x.time x.key) notes ≡ true) (sym given.is)
-    (ap (list_any (is_note a given.event.time (event_of given.event.name given.event.payload))) notes-are
-    ∙ handed-noted a given.event.time (event_of given.event.name given.event.payload) 1 r.turns handed)
+    let known = held r.turns turn [] refl a given.packet given.event (ap actor_of (turn-action c action) ∙ given.actor) seen (gives c action ∙ given.given) given.spells in
+    elim known [
+      | inl handed ↦ inl (subst (λ (x : TimedEntry EventBody). list_any (is_note a x.time x.key) notes ≡ true) (sym given.is)
+          (ap (list_any (is_note a given.event.time (event_of given.event.name given.event.payload))) notes-are
+          ∙ handed-noted a given.event.time (event_of given.event.name given.event.payload) 1 r.turns handed))
+      | inr tailed ↦ inr (tailed-keeps configs a r.turns (record { time = given.event.time; key = event_of given.event.name given.event.payload }) tailed)
+    ]

@@ -1,5 +1,5 @@
 -- The events that were handed out, and the lines that did it.
-use Rattle.std.proofs.Common.{◌≡◌, ℕ, zero, suc, ◌+◌, ◌<◌, ◌≤◌, ◌++◌, ◌==◌, ◌&&◌, ◌||◌, cond, inl, inr, List, [], ◌∷◌, Bool, true, false, length, map, Option, Some, None, arith, refl, sym, ap, ap₂, subst, eq-eqb, ◌∙◌, append_assoc, append-nil}
+use Rattle.std.proofs.Common.{◌≡◌, ◌⊎◌, ℕ, zero, suc, ◌+◌, ◌<◌, ◌≤◌, ◌++◌, ◌==◌, ◌&&◌, ◌||◌, cond, inl, inr, List, [], ◌∷◌, Bool, true, false, length, map, Option, Some, None, arith, refl, sym, ap, ap₂, subst, eq-eqb, ◌∙◌, append_assoc, append-nil}
 use Rattle.std.proofs.lemmas.Bool.{cases_Bool}
 use Rattle.std.proofs.lemmas.Grind.{common_steps}
 use Rattle.std.proofs.lemmas.List.Folds.{list_any-append, list_any_none}
@@ -15,15 +15,17 @@ use Rattle.std.specs.Prelude.{Contains, codes, decimal, position, slice_get, sli
 use Rattle.serf_wire.specs.declared.texts.EventBody.{EventBody}
 use Rattle.serf_window.specs.Texts.{event_of, same_texts}
 use Rattle.serf_window.specs.Window.{TimedEntry}
+use Rattle.serf_agent.specs.declared.config.Config.{Config}
 use Rattle.serf_model.specs.declared.action.Action.{Action}
 use Rattle.serf_model.specs.declared.line.EventLine.{EventLine}
 use Rattle.serf_model.specs.declared.line.Line.{Line}
 use Rattle.serf_model.specs.Cluster.{Cluster, IdealNode}
+use Rattle.serf_model.specs.Tails.{keeps}
 use Rattle.serf_model.specs.Trace.{Turn, event_in, events_to}
 use Rattle.serf_world.specs.View.{IsViewed, NodeState, WorldState, node_of}
 use Rattle.serf_explain.specs.declared.hand_outs.HandOut.{HandOut}
-use Rattle.serf_explain.specs.HandOuts.{NamesNote, Note, NotedAt, OfNoted, is_note, name_at, name_stored, note_in, note_of, noted_words, notes_from, notes_in}
-use Rattle.serf_explain.specs.Seen.{HandsOut, IsSeen, OfSeen, is_hand_out, name_in, name_or_empty, seen_words}
+use Rattle.serf_explain.specs.HandOuts.{IsKnown, NamesNote, NamesSeen, NamesText, Note, NotedAt, OfNoted, is_note, name_at, name_stored, note_in, note_of, noted_words, notes_from, notes_in}
+use Rattle.serf_explain.specs.Seen.{HandsOut, IsHanded, IsSeen, IsTailed, OfSeen, hands_out, is_hand_out, name_in, name_or_empty, seen_words}
 use Rattle.serf_explain.specs.Words.{event_words, quoted}
 
 -- one more line
@@ -117,10 +119,35 @@ module _ (a time : ℕ) (what : EventBody) where
       let one : n ≡ k + 1 = omega (arith, is) in
       ap (λ m. quoted name ++ codes " was handed " ++ event_words time what ++ codes " at action " ++ decimal m) one
 
-  is-seen : (lines : List Line) (name reason : List ℕ) → NamesNote (notes_from 1 lines) name a time what reason → IsSeen lines name a time what reason
-  is-seen lines name reason h =
+  any-lines : (n : ℕ) (lines : List Line) → list_any (is_note a time what) (notes_from n lines) ≡ list_any (hands_out a time what) lines
+  any-lines n [] = refl
+  any-lines n (line ∷ lines) =
+      list_any-append (is_note a time what) (map (note_of n) line.events) (notes_from (n + 1) lines)
+      ∙ ap₂ (λ (x y : Bool). x || y) (any-of n line.events) (any-lines (n + 1) lines)
+
+  is-handed : (lines : List Line) (name reason : List ℕ) → NamesNote (notes_from 1 lines) name a time what reason → IsHanded lines name a time what reason
+  is-handed lines name reason h =
       let found = line-of 1 lines h.noted.place h.noted.note h.noted.at h.noted.hands in
       record { action = found.k; hand_out = found.hands; words = h.words ∙ words-of name h.number found.k (sym h.noted.action_is ∙ found.action_is) }
+
+  -- what was not handed to an agent is known by its settings
+  is-tailed : (lines : List Line) (keeps_events : Bool) (name reason : List ℕ) → (list_any (is_note a time what) (notes_from 1 lines) ≡ true) ⊎ (keeps_events ≡ true)
+      → NamesText (notes_from 1 lines) name a time what reason → IsTailed lines keeps_events name a time what reason
+  is-tailed lines keeps_events name reason known h = record {
+    kept = elim known [
+      | inl there ↦ (let both : true ≡ false = sym there ∙ h.none in absurd (cc both))
+      | inr kept ↦ kept
+    ];
+    none = sym (any-lines 1 lines) ∙ h.none;
+    words = h.words;
+  }
+
+  is-seen : (lines : List Line) (keeps_events : Bool) (name reason : List ℕ) → (list_any (is_note a time what) (notes_from 1 lines) ≡ true) ⊎ (keeps_events ≡ true)
+      → NamesSeen (notes_from 1 lines) name a time what reason → IsSeen lines keeps_events name a time what reason
+  is-seen lines keeps_events name reason known h = elim h [
+    | inl handed ↦ inl (is-handed lines name reason handed)
+    | inr text ↦ inr (is-tailed lines keeps_events name reason known text)
+  ]
 
   -- what an agent was handed is among the notes
   any-from : (n : ℕ) (turns : List Turn) → list_any (is_note a time what) (notes_from n (map (λ (t : Turn). t.line) turns)) ≡ list_any (is_hand_out a time what) (flat_map (λ (t : Turn). t.line.events) turns)
@@ -180,8 +207,9 @@ names-same c w a h =
     ∙ name-same (slice_get c.nodes a)
 
 -- what names an event that was handed out names a line
-pub of-seen : (lines : List Line) (c : Cluster) (w : WorldState) (action : Action) (reasons : List (List ℕ)) → IsViewed c w → OfNoted (notes_from 1 lines) w action reasons → OfSeen lines w.sent c action reasons
-of-seen lines c w action reasons view h = λ a e is.
+pub of-seen : (configs : List Config) (lines : List Line) (c : Cluster) (w : WorldState) (action : Action) (reasons : List (List ℕ)) → IsViewed c w
+    → IsKnown configs (notes_from 1 lines) w.sent action → OfNoted (notes_from 1 lines) w action reasons → OfSeen configs lines w.sent c action reasons
+of-seen configs lines c w action reasons view known h = λ a e is.
     let k = h a e is in
-    let named = subst (λ (name : List ℕ). NamesNote (notes_from 1 lines) name a e.time e.key k.0) (names-same c w a view) k.2 in
-    (k.0, k.1, is-seen a e.time e.key lines (name_in c a) k.0 named)
+    let named = subst (λ (name : List ℕ). NamesSeen (notes_from 1 lines) name a e.time e.key k.0) (names-same c w a view) k.2 in
+    (k.0, k.1, is-seen a e.time e.key lines (keeps (slice_get configs a)) (name_in c a) k.0 (known a e is) named)

@@ -7,15 +7,15 @@ use Rattle.serf_model.specs.declared.action.Action.{Action}
 use Rattle.serf_world.specs.View.{WorldState}
 use Rattle.serf_explain.specs.declared.seen.Delivered.{Delivered}
 use Rattle.serf_explain.specs.Because.{AddsSome, AddsSuch, because_line}
-use Rattle.serf_explain.specs.HandOuts.{NamesNote, Note, OfNoted, name_at}
+use Rattle.serf_explain.specs.HandOuts.{NamesSeen, Note, OfNoted, name_at}
 use Rattle.serf_explain.specs.Noted.{delivered_as}
 use Rattle.serf_explain.specs.Seen.{event_delivered}
 
--- the only reason names a hand-out
+-- the only reason names a hand-out, or says that there was none
 abbrev pub Names : List Note → List ℕ → ℕ → ℕ → EventBody → List (List ℕ) → Type 0
-Names notes name a time what reasons = (reason : List ℕ) × (reasons ≡ reason ∷ []) × NamesNote notes name a time what reason
+Names notes name a time what reasons = (reason : List ℕ) × (reasons ≡ reason ∷ []) × NamesSeen notes name a time what reason
 
-pub adds-seen : (n : ℕ) (notes : List Note) (name : List ℕ) (a time : ℕ) (what : EventBody) (text new reason : List ℕ) → NamesNote notes name a time what reason → new ≡ text ++ because_line n reason → AddsSuch (Names notes name a time what) n text new
+pub adds-seen : (n : ℕ) (notes : List Note) (name : List ℕ) (a time : ℕ) (what : EventBody) (text new reason : List ℕ) → NamesSeen notes name a time what reason → new ≡ text ++ because_line n reason → AddsSuch (Names notes name a time what) n text new
 adds-seen n notes name a time what text new reason h is =
     record { reasons = reason ∷ []; some = omega arith; added = is ∙ ap (λ t. text ++ t) (sym (append-nil (because_line n reason))); such = (reason, refl, h) }
 

@@ -1,6 +1,6 @@
 -- The text of a run's turns with their reasons, as one action after another is done.
 use Rattle.std.proofs.Common.{◌≡◌, ℕ, ◌+◌, List, [], ◌∷◌, ◌++◌, Bool, Option, Some, None, true, false, refl, subst, sym, ap, ◌∙◌, length, length-append, append_assoc, arith}
-use Rattle.std.specs.Prelude.{slice_get, map, if◌then◌else◌}
+use Rattle.std.specs.Prelude.{All, slice_get, map, if◌then◌else◌}
 use Rattle.std.specs.List.{flat_map, fold}
 use Rattle.std.proofs.lemmas.List.Sums.{fold-append}
 use Rattle.std.specs.Option.{option_map}
@@ -11,6 +11,7 @@ use Rattle.serf_model.specs.declared.action.Action.{Action}
 use Rattle.serf_model.specs.declared.line.Line.{Line}
 use Rattle.serf_agent.specs.declared.config.Config.{Config}
 use Rattle.serf_model.specs.Cluster.{Cluster, Run, after, run_of, start, step}
+use Rattle.serf_model.specs.Tails.{BringsTold}
 use Rattle.serf_model.specs.Trace.{Turn, actor_of}
 use Rattle.serf_model.specs.Ready.{AreRepresentable}
 use Rattle.serf_model.specs.Runs.{AreConfigs}
@@ -18,12 +19,12 @@ use Rattle.serf_world.specs.View.{IsViewed, TakesStep, WorldState}
 use Rattle.serf_schedule.specs.Show.{action_text}
 use Rattle.serf_explain.specs.declared.range.Range.{Range}
 use Rattle.serf_explain.specs.Range.{is_shown}
-use Rattle.serf_agent.specs.States.{events_of, joined}
+use Rattle.serf_agent.specs.States.{events_of}
 use Rattle.serf_model.specs.declared.action.Action.TheVariants as actions
 use Rattle.serf_explain.specs.Because.{AddsSuch, because_line}
-use Rattle.serf_explain.specs.Carried.{AreMerged, OfMerge, TellsMerge, TellsMerged}
+use Rattle.serf_explain.specs.Carried.{AreMerged, OfMerge, TellsMerge, TellsMerged, heard}
 use Rattle.serf_explain.specs.Seen.{event_delivered, event_given}
-use Rattle.serf_explain.specs.HandOuts.{Note, OfNoted, note_of, notes_from}
+use Rattle.serf_explain.specs.HandOuts.{IsKnown, KnowsSeen, Note, OfNoted, note_of, notes_from}
 use Rattle.serf_explain.proofs.KnownLaws.{still-sent, turn-action}
 use Rattle.serf_explain.proofs.NoteLaws.{lines-push, of-seen}
 use Rattle.serf_wire.specs.declared.texts.EventBody.{EventBody}
@@ -44,7 +45,7 @@ turns-push range sent n (x ∷ xs) e =
 
 -- an action's reasons are those of what it merges
 of-merge : (c : Cluster) (action : Action) (carried reasons : List (List ℕ)) → TellsMerge c action carried → TellsMerged carried reasons → OfMerge AreMerged c action reasons
-of-merge c (actions.Of agent (acts.Merge packet join)) carried reasons h tells = λ m bytes p at sent spells. tells (events_of p.slots) (joined p join m.agent) (h m bytes p at sent spells)
+of-merge c (actions.Of agent (acts.Merge packet join)) carried reasons h tells = λ m bytes p at sent spells. tells (events_of p.slots) (heard p join m.agent) (h m bytes p at sent spells)
 of-merge c _ carried reasons h tells = tt
 
 -- what was delivered stays it
@@ -60,24 +61,25 @@ still-delivered sent more (actions.Of agent (acts.Deliver packet now)) a e h = b
 still-delivered sent more _ a e h = h
 
 -- one more turn that names what it has to
-names-push : (range : Range) (lines : List Line) (es : List Explained) (e : Explained) → NameHandOuts range lines es → NamesHandOut range (lines ++ map (λ (x : Explained). x.turn.line) es) e → NameHandOuts range lines (es ++ e ∷ [])
-names-push range lines [] e h k = (subst (λ (ls : List Line). NamesHandOut range ls e) (append-nil lines) k, tt)
-names-push range lines (x ∷ xs) e h k =
-    (h.0, names-push range (lines ++ x.turn.line ∷ []) xs e h.1 (subst (λ (ls : List Line). NamesHandOut range ls e) (sym (append_assoc lines (x.turn.line ∷ []) (map (λ (y : Explained). y.turn.line) xs))) k))
+names-push : (configs : List Config) (range : Range) (lines : List Line) (es : List Explained) (e : Explained) → NameHandOuts configs range lines es → NamesHandOut configs range (lines ++ map (λ (x : Explained). x.turn.line) es) e
+    → NameHandOuts configs range lines (es ++ e ∷ [])
+names-push configs range lines [] e h k = (subst (λ (ls : List Line). NamesHandOut configs range ls e) (append-nil lines) k, tt)
+names-push configs range lines (x ∷ xs) e h k =
+    (h.0, names-push configs range (lines ++ x.turn.line ∷ []) xs e h.1 (subst (λ (ls : List Line). NamesHandOut configs range ls e) (sym (append_assoc lines (x.turn.line ∷ []) (map (λ (y : Explained). y.turn.line) xs))) k))
 
 lines-of : (es : List Explained) → map (λ (t : Turn). t.line) (map (λ (e : Explained). e.turn) es) ≡ map (λ (e : Explained). e.turn.line) es
 lines-of [] = refl
 lines-of (e ∷ es) = ap (λ (ls : List Line). e.turn.line ∷ ls) (lines-of es)
 
 -- one more turn
-pub told-after : (range : Range) (r : Run) (clusters : List Cluster) (action : Action) (w new : WorldState) (line : Line) (carried : List (List ℕ)) (past noted : List Note) (text added : List ℕ) (n : ℕ)
+pub told-after : (configs : List Config) (range : Range) (r : Run) (clusters : List Cluster) (action : Action) (w new : WorldState) (line : Line) (carried : List (List ℕ)) (past noted : List Note) (text added : List ℕ) (n : ℕ)
     → ((step r.cluster action).cluster.sent ≡ r.cluster.sent ++ (step r.cluster action).turn.packets)
     → ((more : List (List ℕ)) → action_text ((step r.cluster action).cluster.sent ++ more) n (step r.cluster action).turn.line ≡ action_text (step r.cluster action).cluster.sent n (step r.cluster action).turn.line)
-    → IsTold range r clusters w past text → n ≡ length r.turns + 1 → TellsMerge r.cluster action carried → TakesStep (step r.cluster action) new line
+    → IsTold configs range r clusters w past text → n ≡ length r.turns + 1 → TellsMerge r.cluster action carried → TakesStep (step r.cluster action) new line → KnowsSeen configs past new.sent action line
     → AddsTurn (TellsAll (is_shown range n (actor_of action)) carried past new action line) (is_shown range n (actor_of action)) new.sent n line text added
     → noted ≡ past ++ map (note_of n) line.events
-    → IsTold range (after r action) (clusters ++ r.cluster ∷ []) new noted added
-told-after range r clusters action w new line carried past noted text added n sends stays h count told takes adds grows =
+    → IsTold configs range (after r action) (clusters ++ r.cluster ∷ []) new noted added
+told-after configs range r clusters action w new line carried past noted text added n sends stays h count told takes known adds grows =
     let turn : Turn = (step r.cluster action).turn in
     let sent : List (List ℕ) = (step r.cluster action).cluster.sent in
     let one : Explained = record { before = r.cluster; turn = turn; reasons = adds.reasons } in
@@ -93,11 +95,12 @@ told-after range r clusters action w new line carried past noted text added n se
     let behind : length lines + 1 ≡ n = omega (arith, length-map r.turns (λ (t : Turn). t.line), count) in
     let number : n ≡ 1 + length lines = omega (arith, behind) in
     let viewed : IsViewed (cluster_behind one) new = subst (λ (b : Action). IsViewed (step r.cluster b).cluster new) (sym (turn-action r.cluster action)) takes.view in
-    let names : NamesHandOut range lines one = λ shown answers.
+    let names : NamesHandOut configs range lines one = λ shown answers.
+    let says = ap (λ (l : Line). l.answer) takes.line_is ∙ answers in
     let noted : OfNoted past new action adds.reasons = adds.such.seen (ap (λ m. is_shown range m (actor_of action)) (sym behind) ∙ ap (λ (b : Action). is_shown range (length lines + 1) (actor_of b)) (sym (turn-action r.cluster action)) ∙ shown)
-    (ap (λ (l : Line). l.answer) takes.line_is ∙ answers) in
+    says in
     λ a e is.
-    of-seen lines (cluster_behind one) new action adds.reasons viewed (subst (λ (ns : List Note). OfNoted ns new action adds.reasons) h.notes_are noted) a e
+    of-seen configs lines (cluster_behind one) new action adds.reasons viewed (subst (λ (ns : List Note). IsKnown configs ns new.sent action) h.notes_are (known says)) (subst (λ (ns : List Note). OfNoted ns new action adds.reasons) h.notes_are noted) a e
     (ap (λ s. event_delivered s action) (sym takes.view.sent ∙ sends)
     ∙ still-delivered r.cluster.sent turn.packets action a e (ap (λ (b : Action). event_delivered r.cluster.sent b) (sym (turn-action r.cluster action)) ∙ is)) in
     let place : 1 + length h.explained ≡ n = omega (arith, many, count) in
@@ -115,7 +118,7 @@ told-after range r clusters action w new line carried past noted text added n se
         turns_are = map-append (λ (e : Explained). e.turn) h.explained (one ∷ []) ∙ ap (λ ts. ts ++ turn ∷ []) h.whole.turns_are;
         clusters_are = map-append (λ (e : Explained). e.before) h.explained (one ∷ []) ∙ ap (λ cs. cs ++ r.cluster ∷ []) h.whole.clusters_are;
         reasons = All-push (λ (e : Explained). IsReasoned e.before e.turn.action e.turn.line e.reasons) h.explained one h.whole.reasons reasoned;
-        seen = names-push range [] h.explained one h.whole.seen (subst (λ (ls : List Line). NamesHandOut range ls one) (sym before) names);
+        seen = names-push configs range [] h.explained one h.whole.seen (subst (λ (ls : List Line). NamesHandOut configs range ls one) (sym before) names);
       };
       told = λ more.
           turns-push range (sent ++ more) 1 h.explained one
@@ -171,13 +174,14 @@ run-length : (r : Run) (done : List Action) → length (fold after r done).turns
 run-length r [] = omega arith
 run-length r (x ∷ xs) = run-length (after r x) xs ∙ (let one = length-append r.turns ((step r.cluster x).turn ∷ []) in let sum : length (after r x).turns + length xs ≡ length r.turns + length (x ∷ xs) = omega (arith, one) in sum)
 
-pub told-next : (range : Range) (configs : List Config) (done : List Action) (action : Action) (w : WorldState) (past : List Note) (text : List ℕ) → AreConfigs configs → w.poisoned ≡ false
-    → IsTold range (after (run_of configs done) action) (clusters_before configs done ++ (run_of configs done).cluster ∷ []) w past text → HasTold range configs (done ++ action ∷ []) w past text
-told-next range configs done action w past text settings unpoisoned h = record {
+pub told-next : (range : Range) (configs : List Config) (done : List Action) (action : Action) (w : WorldState) (past : List Note) (text : List ℕ) → AreConfigs configs → All BringsTold (done ++ action ∷ []) → w.poisoned ≡ false
+    → IsTold configs range (after (run_of configs done) action) (clusters_before configs done ++ (run_of configs done).cluster ∷ []) w past text → HasTold range configs (done ++ action ∷ []) w past text
+told-next range configs done action w past text settings brings unpoisoned h = record {
   settings = settings;
+  brings = brings;
   unpoisoned = unpoisoned;
-  told = subst (λ (r : Run). IsTold range r (clusters_before configs (done ++ action ∷ [])) w past text) (sym (run-push configs done action))
-      (subst (λ (cs : List Cluster). IsTold range (after (run_of configs done) action) cs w past text) (sym (clusters-from (start configs) done action)) h);
+  told = subst (λ (r : Run). IsTold configs range r (clusters_before configs (done ++ action ∷ [])) w past text) (sym (run-push configs done action))
+      (subst (λ (cs : List Cluster). IsTold configs range (after (run_of configs done) action) cs w past text) (sym (clusters-from (start configs) done action)) h);
 }
 
 -- the number of the next action
@@ -188,6 +192,7 @@ next-number configs done n is = omega (arith, is, run-length (start configs) don
 pub told-first : (range : Range) (configs : List Config) (w : WorldState) (past : List Note) (text : List ℕ) → AreConfigs configs → w.poisoned ≡ false → IsViewed (start configs).cluster w → AreRepresentable (start configs).cluster → past ≡ [] → text ≡ [] → HasTold range configs [] w past text
 told-first range configs w past text settings unpoisoned view representable none empty = record {
   settings = settings;
+  brings = All-nil BringsTold;
   unpoisoned = unpoisoned;
   told = record {
     view = view;

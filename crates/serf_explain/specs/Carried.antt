@@ -1,12 +1,14 @@
 -- What is said of the events that a merged state carries.
-use Rattle.std.specs.Prelude.{◌≡◌, ℕ, ◌++◌, List, [], ◌∷◌, Option, Some, None, Ok, codes, decimal, slice_get}
+use Rattle.std.specs.Prelude.{◌≡◌, ℕ, ◌++◌, Bool, List, [], ◌∷◌, Option, Some, None, Ok, codes, decimal, slice_get}
+use Rattle.serf_snap.specs.Notes.{Kept}
 use Rattle.serf_wire.specs.declared.texts.EventBody.{EventBody}
 use Rattle.serf_window.specs.Window.{TimedEntry}
 use Rattle.serf_agent.specs.declared.outcome.Reason.{Reason}
 use Rattle.serf_agent.specs.declared.outcome.Reason.TheVariants.{BelowMinimum, TooOld, Seen, TimeFull, Oversize}
+use Rattle.serf_agent.specs.Calls.{ended}
 use Rattle.serf_agent.specs.Events.{admission}
 use Rattle.serf_agent.specs.Ideal.{IdealAgent}
-use Rattle.serf_agent.specs.States.{after_event, events_of, joined}
+use Rattle.serf_agent.specs.States.{after_event, events_of, hear}
 use Rattle.serf_wire.specs.Decoded.{decoded}
 use Rattle.serf_wire.specs.Message.{PushPull, push_pull}
 use Rattle.serf_model.specs.declared.action.Act.TheVariants as acts
@@ -48,6 +50,10 @@ abbrev pub after_events : List (TimedEntry EventBody) → IdealAgent → IdealAg
 after_events [] i = i
 after_events (e ∷ es) i = after_events es (after_event i e)
 
+-- the agent once it has heard of a state, where the line of that is durable, if it has one
+unfoldable pub heard : PushPull → Bool → IdealAgent → IdealAgent
+heard p is_join i = (ended i (hear i p is_join) Kept).agent
+
 -- the same of a merge: where a state carries no event, one reason says so
 abbrev pub AreMerged : List (TimedEntry EventBody) → IdealAgent → List (List ℕ) → Type 0
 AreMerged [] i reasons = reasons ≡ codes "the state carries no event" ∷ []
@@ -61,7 +67,7 @@ TellsMerged carried reasons = (es : List (TimedEntry EventBody)) (i : IdealAgent
 abbrev pub OfMerge : (List (TimedEntry EventBody) → IdealAgent → List (List ℕ) → Type 0) → Cluster → Action → List (List ℕ) → Type 0
 OfMerge Told c (actions.Of agent (acts.Merge packet join)) reasons =
     (m : IdealNode) (bytes : List ℕ) (p : PushPull) → slice_get c.nodes agent ≡ Some m → slice_get c.sent packet ≡ Some bytes → decoded bytes ≡ Ok (push_pull p)
-    → Told (events_of p.slots) (joined p join m.agent) reasons
+    → Told (events_of p.slots) (heard p join m.agent) reasons
 OfMerge Told c _ reasons = Unit {0}
 
 abbrev pub TellsMerge : Cluster → Action → List (List ℕ) → Type 0

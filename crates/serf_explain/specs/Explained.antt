@@ -9,6 +9,7 @@ use Rattle.serf_model.specs.declared.line.Answer.TheVariants as answers
 use Rattle.serf_model.specs.Cluster.{Cluster, Run, run_of, start, step, trace_of}
 use Rattle.serf_model.specs.Ready.{AreRepresentable}
 use Rattle.serf_model.specs.Runs.{AreConfigs}
+use Rattle.serf_model.specs.Tails.{BringsTold}
 use Rattle.serf_model.specs.Trace.{Turn, actor_of}
 use Rattle.serf_world.specs.View.{IsViewed, WorldState}
 use Rattle.serf_schedule.specs.Line.{Parsed}
@@ -60,28 +61,29 @@ abbrev pub cluster_behind : Explained → Cluster
 cluster_behind e = (step e.before e.turn.action).cluster
 
 -- Where a turn that is shown answers that a delivered event was seen, and these are the lines before it, its reason names
--- the agent, and one of these that handed the event to it.
-abbrev pub NamesHandOut : Range → List Line → Explained → Type 0
-NamesHandOut range lines e = is_shown range (length lines + 1) (actor_of e.turn.action) ≡ true → e.turn.line.answer ≡ answers.Ignored Seen
-    → OfSeen lines e.before.sent (cluster_behind e) e.turn.action e.reasons
+-- the agent, and one of these that handed the event to it; or, where none did and the agent's settings keep events, that it was
+-- opened on a text with the event's line.
+abbrev pub NamesHandOut : List Config → Range → List Line → Explained → Type 0
+NamesHandOut configs range lines e = is_shown range (length lines + 1) (actor_of e.turn.action) ≡ true → e.turn.line.answer ≡ answers.Ignored Seen
+    → OfSeen configs lines e.before.sent (cluster_behind e) e.turn.action e.reasons
 
 -- and so each turn, one after another
-abbrev pub NameHandOuts : Range → List Line → List Explained → Type 0
-NameHandOuts range lines [] = Unit {0}
-NameHandOuts range lines (e ∷ es) = NamesHandOut range lines e × NameHandOuts range (lines ++ e.turn.line ∷ []) es
+abbrev pub NameHandOuts : List Config → Range → List Line → List Explained → Type 0
+NameHandOuts configs range lines [] = Unit {0}
+NameHandOuts configs range lines (e ∷ es) = NamesHandOut configs range lines e × NameHandOuts configs range (lines ++ e.turn.line ∷ []) es
 
--- The turns of a run, with the clusters before them, each with its reasons.
-pub record IsExplained (range : Range) (turns : List Turn) (clusters : List Cluster) (explained : List Explained) : Type 0 where
+-- The turns of a run of agents of these settings, with the clusters before them, each with its reasons.
+pub record IsExplained (configs : List Config) (range : Range) (turns : List Turn) (clusters : List Cluster) (explained : List Explained) : Type 0 where
   pub turns_are : map (λ (e : Explained). e.turn) explained ≡ turns
   pub clusters_are : map (λ (e : Explained). e.before) explained ≡ clusters
   pub reasons : All (λ (e : Explained). IsReasoned e.before e.turn.action e.turn.line e.reasons) explained
-  pub seen : NameHandOuts range [] explained
+  pub seen : NameHandOuts configs range [] explained
 
 -- The text is that of the run of these actions: of each action in the range the very lines of its trace, and a line for
 -- each of its reasons.
 pub record TellsRun (range : Range) (configs : List Config) (actions : List Action) (text : List ℕ) : Type 0 where
   pub explained : List Explained
-  pub whole : IsExplained range (run_of configs actions).turns (clusters_before configs actions) explained
+  pub whole : IsExplained configs range (run_of configs actions).turns (clusters_before configs actions) explained
   pub text_is : text ≡ turns_text range (run_of configs actions).cluster.sent 1 explained
 
 -- The input is a schedule of so many actions, and the text shows its run; and what `replay` writes of it is the run's
@@ -95,21 +97,24 @@ pub record Explains (range : Range) (input text : List ℕ) (count : ℕ) : Type
 
 -- The world stores what a run came to, these are what its lines handed out, and the text is that of its turns, whatever else
 -- will be sent.
-pub record IsTold (range : Range) (r : Run) (clusters : List Cluster) (w : WorldState) (notes : List Note) (text : List ℕ) : Type 0 where
+pub record IsTold (configs : List Config) (range : Range) (r : Run) (clusters : List Cluster) (w : WorldState) (notes : List Note) (text : List ℕ) : Type 0 where
   pub view : IsViewed r.cluster w
   pub representable : AreRepresentable r.cluster
   pub notes_are : notes ≡ notes_from 1 (map (λ t. t.line) r.turns)
   pub explained : List Explained
-  pub whole : IsExplained range r.turns clusters explained
+  pub whole : IsExplained configs range r.turns clusters explained
   pub told : (more : List (List ℕ)) → turns_text range (r.cluster.sent ++ more) 1 explained ≡ text
 
--- The world did these actions in a cluster of agents of these settings and isn't poisoned, and the text shows them.
+-- The world did these actions in a cluster of agents of these settings and isn't poisoned, and the text shows them. What the
+-- actions bring can be told in lines.
 pub record HasTold (range : Range) (configs : List Config) (done : List Action) (w : WorldState) (notes : List Note) (text : List ℕ) : Type 0 where
   pub settings : AreConfigs configs
+  pub brings : All BringsTold done
   pub unpoisoned : w.poisoned ≡ false
-  pub told : IsTold range (run_of configs done) (clusters_before configs done) w notes text
+  pub told : IsTold configs range (run_of configs done) (clusters_before configs done) w notes text
 
--- What is said of an action: of a merge what was said of its events; of an event that was seen which action handed it out.
+-- What is said of an action: of a merge what was said of its events; of an event that was seen which action handed it out, or
+-- that its agent was opened on its line.
 pub record TellsAll (shown : Bool) (carried : List (List ℕ)) (notes : List Note) (w : WorldState) (action : Action) (line : Line) (reasons : List (List ℕ)) : Type 0 where
   pub merged : line.answer ≡ answers.Merged → TellsMerged carried reasons
   pub seen : shown ≡ true → line.answer ≡ answers.Ignored Seen → OfNoted notes w action reasons

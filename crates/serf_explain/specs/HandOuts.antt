@@ -1,18 +1,20 @@
 -- The events that were handed out so far, each with its action: private to the crate.
-use Rattle.std.specs.Prelude.{◌≡◌, ℕ, ◌+◌, ◌==◌, ◌++◌, ◌&&◌, Bool, true, false, List, [], ◌∷◌, Option, Some, None, IfSome, codes, decimal, drop, map, slice_get, take}
+use Rattle.std.specs.Prelude.{◌≡◌, ◌⊎◌, ℕ, ◌+◌, ◌==◌, ◌++◌, ◌&&◌, Bool, true, false, List, [], ◌∷◌, Option, Some, None, IfSome, codes, decimal, drop, map, slice_get, take}
 use Rattle.std.specs.List.{list_any}
 use Rattle.serf_wire.specs.declared.texts.EventBody.{EventBody}
 use Rattle.serf_window.specs.Texts.{event_of, same_texts}
 use Rattle.serf_window.specs.Window.{TimedEntry}
+use Rattle.serf_agent.specs.declared.config.Config.{Config}
 use Rattle.serf_agent.specs.declared.outcome.Reason.TheVariants.{Seen}
 use Rattle.serf_agent.specs.View.{ConcreteState}
 use Rattle.serf_model.specs.declared.action.Action.{Action}
 use Rattle.serf_model.specs.declared.line.Answer.TheVariants as answers
 use Rattle.serf_model.specs.declared.line.EventLine.{EventLine}
 use Rattle.serf_model.specs.declared.line.Line.{Line}
+use Rattle.serf_model.specs.Tails.{keeps}
 use Rattle.serf_world.specs.View.{WorldState, agent_at}
 use Rattle.serf_explain.specs.declared.hand_outs.HandOut.{HandOut}
-use Rattle.serf_explain.specs.Seen.{event_delivered}
+use Rattle.serf_explain.specs.Seen.{event_delivered, tailed_words}
 use Rattle.serf_explain.specs.Words.{event_words, quoted}
 
 -- an event that the action of this number, counted from 1, handed to an agent
@@ -71,15 +73,24 @@ pub record NamesNote (notes : List Note) (name : List ℕ) (a time : ℕ) (what 
   pub noted : NotedAt notes number a time what
   pub words : reason ≡ noted_words name time what number
 
--- an event that an action delivers was handed to its agent
-abbrev pub IsKnown : List Note → List (List ℕ) → Action → Type 0
-IsKnown notes sent action = (a : ℕ) (e : TimedEntry EventBody) → event_delivered sent action ≡ Some (a, e) → list_any (is_note a e.time e.key) notes ≡ true
+-- or that none did, and that the agent was opened on a text with the event's line
+pub record NamesText (notes : List Note) (name : List ℕ) (a time : ℕ) (what : EventBody) (reason : List ℕ) : Type 0 where
+  pub none : list_any (is_note a time what) notes ≡ false
+  pub words : reason ≡ tailed_words name time what
+
+abbrev pub NamesSeen : List Note → List ℕ → ℕ → ℕ → EventBody → List ℕ → Type 0
+NamesSeen notes name a time what reason = NamesNote notes name a time what reason ⊎ NamesText notes name a time what reason
+
+-- an event that an action delivers was handed to its agent, or the agent's settings, which are among these, keep events
+abbrev pub IsKnown : List Config → List Note → List (List ℕ) → Action → Type 0
+IsKnown configs notes sent action = (a : ℕ) (e : TimedEntry EventBody) → event_delivered sent action ≡ Some (a, e)
+    → (list_any (is_note a e.time e.key) notes ≡ true) ⊎ (keeps (slice_get configs a) ≡ true)
 
 -- so it is where the answer is that it was seen
-abbrev pub KnowsSeen : List Note → List (List ℕ) → Action → Line → Type 0
-KnowsSeen notes sent action line = line.answer ≡ answers.Ignored Seen → IsKnown notes sent action
+abbrev pub KnowsSeen : List Config → List Note → List (List ℕ) → Action → Line → Type 0
+KnowsSeen configs notes sent action line = line.answer ≡ answers.Ignored Seen → IsKnown configs notes sent action
 
 -- where an action delivers an event, its only reason says so
 abbrev pub OfNoted : List Note → WorldState → Action → List (List ℕ) → Type 0
 OfNoted notes w action reasons = (a : ℕ) (e : TimedEntry EventBody) → event_delivered w.sent action ≡ Some (a, e)
-    → (reason : List ℕ) × (reasons ≡ reason ∷ []) × NamesNote notes (name_at w a) a e.time e.key reason
+    → (reason : List ℕ) × (reasons ≡ reason ∷ []) × NamesSeen notes (name_at w a) a e.time e.key reason

@@ -1,5 +1,5 @@
 -- What is said of an event that was delivered, and ignored as seen.
-use Rattle.std.specs.Prelude.{◌≡◌, ℕ, ◌+◌, ◌==◌, ◌++◌, ◌&&◌, Bool, true, List, [], ◌∷◌, Option, Some, None, Result, Ok, codes, decimal, slice_get}
+use Rattle.std.specs.Prelude.{◌≡◌, ◌⊎◌, ℕ, ◌+◌, ◌==◌, ◌++◌, ◌&&◌, Bool, true, false, List, [], ◌∷◌, Option, Some, None, Result, Ok, codes, decimal, slice_get}
 use Rattle.std.specs.List.{list_any}
 use Rattle.std.specs.Option.{option_map}
 use Rattle.serf_wire.specs.declared.fault.WireFault.{WireFault}
@@ -8,12 +8,14 @@ use Rattle.serf_wire.specs.Decoded.{decoded}
 use Rattle.serf_wire.specs.Message.{Message, user_event}
 use Rattle.serf_window.specs.Texts.{event_of, same_texts}
 use Rattle.serf_window.specs.Window.{TimedEntry}
+use Rattle.serf_agent.specs.declared.config.Config.{Config}
 use Rattle.serf_model.specs.declared.action.Act.TheVariants as acts
 use Rattle.serf_model.specs.declared.action.Action.{Action}
 use Rattle.serf_model.specs.declared.action.Action.TheVariants as actions
 use Rattle.serf_model.specs.Cluster.{Cluster, IdealNode}
 use Rattle.serf_model.specs.declared.line.EventLine.{EventLine}
 use Rattle.serf_model.specs.declared.line.Line.{Line}
+use Rattle.serf_model.specs.Tails.{keeps}
 use Rattle.serf_explain.specs.Words.{event_words, quoted}
 
 -- whether an event line hands this event to this agent
@@ -42,11 +44,25 @@ name_or_empty (Some node) = node.agent.config.name
 abbrev pub name_in : Cluster → ℕ → List ℕ
 name_in c a = name_or_empty (slice_get c.nodes a)
 
+-- the event's line stood in a text on which the agent was opened: so it is known, and nobody was handed it
+unfoldable pub tailed_words : List ℕ → ℕ → EventBody → List ℕ
+tailed_words name time what = quoted name ++ codes " was opened on a text with the line of " ++ event_words time what
+
 -- A reason says which earlier action handed an event to an agent of this name, if these are the earlier ones.
-pub record IsSeen (lines : List Line) (name : List ℕ) (a time : ℕ) (what : EventBody) (reason : List ℕ) : Type 0 where
+pub record IsHanded (lines : List Line) (name : List ℕ) (a time : ℕ) (what : EventBody) (reason : List ℕ) : Type 0 where
   pub action : ℕ
   pub hand_out : HandsOut lines action a time what
   pub words : reason ≡ seen_words name time what action
+
+-- It says that the agent was opened on the event's line: its settings keep events, and no earlier action handed it the event.
+pub record IsTailed (lines : List Line) (keeps_events : Bool) (name : List ℕ) (a time : ℕ) (what : EventBody) (reason : List ℕ) : Type 0 where
+  pub kept : keeps_events ≡ true
+  pub none : list_any (hands_out a time what) lines ≡ false
+  pub words : reason ≡ tailed_words name time what
+
+-- So an event was seen. Of an agent whose settings keep no events the first holds.
+abbrev pub IsSeen : List Line → Bool → List ℕ → ℕ → ℕ → EventBody → List ℕ → Type 0
+IsSeen lines keeps_events name a time what reason = IsHanded lines name a time what reason ⊎ IsTailed lines keeps_events name a time what reason
 
 -- the event that a message is
 abbrev pub event_read : Result Message WireFault → Option (TimedEntry EventBody)
@@ -62,7 +78,7 @@ abbrev pub event_delivered : List (List ℕ) → Action → Option (ℕ × Timed
 event_delivered sent (actions.Of agent (acts.Deliver packet now)) = option_map (λ e. (agent, e)) (event_given (slice_get sent packet))
 event_delivered sent _ = None
 
--- where an action delivers an event to an agent of this cluster, its only reason says so
-abbrev pub OfSeen : List Line → List (List ℕ) → Cluster → Action → List (List ℕ) → Type 0
-OfSeen lines sent c action reasons = (a : ℕ) (e : TimedEntry EventBody) → event_delivered sent action ≡ Some (a, e)
-    → (reason : List ℕ) × (reasons ≡ reason ∷ []) × IsSeen lines (name_in c a) a e.time e.key reason
+-- where an action delivers an event to an agent of this cluster, which has these settings, its only reason says so
+abbrev pub OfSeen : List Config → List Line → List (List ℕ) → Cluster → Action → List (List ℕ) → Type 0
+OfSeen configs lines sent c action reasons = (a : ℕ) (e : TimedEntry EventBody) → event_delivered sent action ≡ Some (a, e)
+    → (reason : List ℕ) × (reasons ≡ reason ∷ []) × IsSeen lines (keeps (slice_get configs a)) (name_in c a) a e.time e.key reason

@@ -5,7 +5,9 @@ use crate::ignored::{put_ignored, put_subject};
 use crate::quoted::{Part, put_parts};
 use crate::refusals::put_refusal;
 use crate::told::{Actor, Told, actor_at, message_of, named};
+use serf_agent::Agent;
 use serf_model::{Act, Action, Answer, SinkCall};
+use serf_snap::MemSink;
 use serf_wire::{Message, Query, QueryResponse, Texts, passes};
 use std::alloc::AllocError;
 
@@ -134,8 +136,47 @@ fn put_asked(out: &mut Vec<u8>, told: &Told, actor: &Actor, time: u64) -> Result
     }
 }
 
+/// How many events the buffer of an agent has.
+fn events_held(agent: &Agent<MemSink>) -> u64 {
+    let slots = agent.slots();
+    let mut count: u64 = 0;
+    for place in 0..slots.len() {
+        match slots.get(place) {
+            Some(slot) => count = count.saturating_add(slot.held.len() as u64),
+            None => {}
+        }
+    }
+    count
+}
+
+/// Appends what a restart found, of an agent that keeps its events.
+fn put_gone_on(out: &mut Vec<u8>, actor: &Actor) -> Result<(), AllocError> {
+    let agent = actor.agent;
+    put_parts(
+        out,
+        &[
+            Part::Text(b"its snapshot keeps clock "),
+            Part::Number(agent.member_time().saturating_sub(1)),
+            Part::Text(b", and its buffers go on, events held: "),
+            Part::Number(events_held(agent)),
+            Part::Text(b", event clock "),
+            Part::Number(agent.event_time()),
+            Part::Text(b", query clock "),
+            Part::Number(agent.query_time()),
+            Part::Text(b": it takes events from "),
+            Part::Number(agent.event_minimum()),
+            Part::Text(b" and queries from "),
+            Part::Number(agent.query_minimum()),
+            Part::Text(b" on"),
+        ],
+    )
+}
+
 /// Appends what a restart found.
 fn put_restarted(out: &mut Vec<u8>, actor: &Actor) -> Result<(), AllocError> {
+    if actor.agent.config().keep_events {
+        return put_gone_on(out, actor);
+    }
     let events = actor.agent.event_minimum();
     let queries = actor.agent.query_minimum();
     put_parts(
@@ -237,6 +278,16 @@ fn put_closed(out: &mut Vec<u8>, actor: &Actor, count: u64) -> Result<(), AllocE
     )
 }
 
+/// Appends what a compaction left.
+fn put_compacted(out: &mut Vec<u8>, actor: &Actor) -> Result<(), AllocError> {
+    if actor.agent.config().keep_events {
+        return out.extend_from_slice(
+            b"its snapshot has the last line of each kind, the least times, and the lines of what its buffers hold",
+        );
+    }
+    out.extend_from_slice(b"its snapshot has the last line of each kind alone")
+}
+
 /// Appends why what an agent did by itself was answered so.
 fn put_own(out: &mut Vec<u8>, told: &Told, actor: &Actor) -> Result<(), AllocError> {
     let before = actor.before;
@@ -257,9 +308,7 @@ fn put_own(out: &mut Vec<u8>, told: &Told, actor: &Actor) -> Result<(), AllocErr
                 &[Part::Text(b"its snapshot has clock "), Part::Number(kept)],
             )
         }
-        Answer::Compacted => {
-            out.extend_from_slice(b"its snapshot has the last line of each kind alone")
-        }
+        Answer::Compacted => put_compacted(out, actor),
         Answer::Restarted { .. } => put_restarted(out, actor),
         Answer::Closed(count) => put_closed(out, actor, count),
         Answer::Refused(refusal) => put_refusal(out, told, actor, refusal),

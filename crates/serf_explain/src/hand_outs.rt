@@ -1,7 +1,6 @@
 //! The events that a run handed out so far.
 
-ghost use Rattle.std.specs.Prelude.{◌≡◌, ◌++◌, ◌∷◌, [], drop, map, position, slice_get, take, true, IfOk, IfSome, OnOk};
-ghost use Rattle.std.specs.List.{list_any};
+ghost use Rattle.std.specs.Prelude.{◌≡◌, ◌++◌, ◌∷◌, [], drop, map, position, slice_get, take, IfOk, IfSome, OnOk};
 ghost use Rattle.std.specs.Option.{option_copied};
 ghost use Rattle.serf_window.specs.Texts.{event_of};
 ghost use Rattle.serf_explain.specs.HandOuts.{IsNoted, NotedAt, is_note, note_in, note_of, notes_in};
@@ -19,7 +18,7 @@ pub(crate) struct Event<'a> {
 }
 
 /// A time of an agent's events, or of its own queries.
-#[derive(Clone, Copy, Debug, PartialEq, Eq, Hash)]
+#[derive(Clone, Copy, PartialEq, Eq, Hash)]
 pub(crate) struct Moment {
     pub(crate) agent: u64,
     pub(crate) time: u64,
@@ -230,20 +229,14 @@ impl HandOuts {
         }
     }
 
-    /// An action that handed this event to this agent.
-    pub(crate) fn action_of(&self, agent: u64, event: &Event) -> u64
-        requires { list_any
-            (is_note agent event.now.time (event_of event.now.name.now event.now.payload.now))
-            (notes_in self.now.outs.items) ≡ true }
-        ensures { NotedAt (notes_in self.now.outs.items) result agent event.now.time
-            (event_of event.now.name.now event.now.payload.now) }
+    /// An action that handed this event to this agent, if one did.
+    pub(crate) fn action_of(&self, agent: u64, event: &Event) -> Option<u64>
+        ensures { IsNoted (notes_in self.now.outs.items)
+            agent event.now.time (event_of event.now.name.now event.now.payload.now) result }
     {
         match self.last_of(agent, event) {
-            Some(found) => found.action,
-            None => match self.first_of(agent, event) {
-                Some(action) => action,
-                None => unreachable!(),
-            },
+            Some(found) => Some(found.action),
+            None => self.first_of(agent, event),
         }
     }
 }

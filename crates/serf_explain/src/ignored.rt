@@ -117,7 +117,7 @@ fn put_event_ignored(
     }
 }
 
-/// Appends at which action a query entered an agent before.
+/// Appends at which action a query entered an agent before, or that the agent was opened on a text with its line.
 fn put_query_seen(
     out: &mut Vec<u8>,
     told: &Told,
@@ -136,7 +136,14 @@ fn put_query_seen(
                 Part::Number(action),
             ],
         ),
-        None => put_parts(out, &[named(actor.agent), Part::Text(b" took it before")]),
+        None => {
+            let before: &[u8] = if actor.agent.config().keep_events {
+                b" was opened on a text with its line"
+            } else {
+                b" took it before"
+            };
+            put_parts(out, &[named(actor.agent), Part::Text(before)])
+        }
     }
 }
 

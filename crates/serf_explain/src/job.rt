@@ -9,7 +9,7 @@ ghost use Rattle.serf_explain.specs.Because.{because_line};
 ghost use Rattle.serf_text.specs.Io.{AppendsFront};
 ghost use Rattle.serf_schedule.specs.Output.{output_of};
 ghost use Rattle.serf_explain.specs.Explained.{AddsTurn, Explains, HasTold, TellsAll, TellsMore, TellsRun};
-ghost use Rattle.serf_explain.specs.HandOuts.{KnowsSeen, notes_in};
+ghost use Rattle.serf_explain.specs.HandOuts.{notes_in};
 
 use crate::history::History;
 use crate::merges::MergeLines;
@@ -22,14 +22,12 @@ use serf_schedule::{
     ReplayFault, Schedule, ScheduleFault, Watch, lines_stay, parse_schedule, put_action,
 };
 use serf_text::{Cause, InputFault, MAX_SCHEDULE_BYTES, read_input, write_output};
-use serf_world::{StepFault, World};
+use serf_world::{StepFault, World, look_at};
 use std::alloc::{AllocError, Global};
 use std::io::{Read, Write};
 
 /// Appends an action's lines and those of its reasons.
 fn put_shown(alloc: Global, out: &mut Vec<u8>, told: &Told) -> Result<(), AllocError>
-    requires { KnowsSeen (notes_in told.now.past.now.outs.items)
-        told.now.world.now.sent told.now.action.now told.now.line.now }
     ensures { (carried : List (List ℕ))
         → told.now.carried.now ≡ flat_map (because_line told.now.number) carried
         → OnOk result (AddsTurn (TellsAll true carried (notes_in told.now.past.now.outs.items)
@@ -50,8 +48,6 @@ fn put_nothing(out: &mut Vec<u8>, told: &Told)
 
 /// Appends what is shown of an action: its lines and those of its reasons, or nothing.
 fn put_turn(alloc: Global, out: &mut Vec<u8>, is_shown: bool, told: &Told) -> Result<(), AllocError>
-    requires { KnowsSeen (notes_in told.now.past.now.outs.items)
-        told.now.world.now.sent told.now.action.now told.now.line.now }
     ensures { (carried : List (List ℕ))
         → told.now.carried.now ≡ flat_map (because_line told.now.number) carried
         → OnOk result (AddsTurn (TellsAll is_shown carried (notes_in told.now.past.now.outs.items)
@@ -78,10 +74,7 @@ pub(crate) fn add_turn(
     number: u64,
     action: &Action,
 ) -> Result<(), AllocError>
-    requires unpoisoned { world.old.poisoned ≡ false }
-    requires stands { ∥ ((configs : List Config) × (done : List Action) × (text : List ℕ)
-        × HasTold range.now configs done world.old
-        (notes_in history.old.hand_outs.outs.items) text) ∥₁ }
+    requires { world.old.poisoned ≡ false }
     ensures { (configs : List Config) (done : List Action) (text : List ℕ)
         → HasTold range.now configs done world.old (notes_in history.old.hand_outs.outs.items) text
         → number ≡ length done + 1
@@ -90,6 +83,7 @@ pub(crate) fn add_turn(
 {
     lines_stay();
     run_promises();
+    look_at(action);
     lines_before(alloc, world, history, number, action, lines)?;
     let line = match world.step(alloc, action) {
         Ok(line) => line,

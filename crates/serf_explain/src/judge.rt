@@ -11,10 +11,12 @@ ghost use Rattle.serf_window.specs.Window.{TimedEntry, count_in, slots_of, time_
 ghost use Rattle.serf_agent.specs.Events.{admission};
 ghost use Rattle.serf_agent.specs.Ideal.{IdealAgent};
 ghost use Rattle.serf_agent.specs.Sound.{IsSound};
-ghost use Rattle.serf_agent.specs.States.{after_event, joined};
+ghost use Rattle.serf_agent.specs.States.{after_event};
 ghost use Rattle.serf_agent.specs.View.{view_of};
+ghost use Rattle.serf_explain.specs.Carried.{heard};
 ghost use Rattle.serf_explain.specs.Judging.{IsJudging, both_verdicts};
 
+use crate::hand_outs::Event;
 use serf_agent::{Agent, LONGEST_TEXTS, Reason};
 use serf_lamport::Time;
 use serf_snap::MemSink;
@@ -66,7 +68,7 @@ impl Judge {
         is_join: bool,
     ) -> Result<Judge, AllocError>
         ensures { (i : IdealAgent) (m : PushPull) → IsSound i → agent.now.concrete ≡ view_of i
-            → m.event_clock ≡ clock → IfOk result (IsJudging i (joined m is_join i)) }
+            → m.event_clock ≡ clock → IfOk result (IsJudging i (heard m is_join i)) }
     {
         let config = agent.config();
         let Ok(entered) = Window::new(alloc, config.event_buffer, config.per_time) else {
@@ -169,6 +171,21 @@ impl Judge {
                 self.take_in(alloc, time, event)?;
                 Ok(None)
             }
+        }
+    }
+
+    /// Whether an event that was seen entered in the merge, and not before it.
+    pub(crate) fn took(&self, event: &Event) -> bool {
+        let Some(time) = Time::new(event.time) else {
+            return false;
+        };
+        let view = EventView {
+            name: event.name,
+            payload: event.payload,
+        };
+        match self.entered.offer(self.clock, self.minimum, time, &view) {
+            Verdict::Seen => true,
+            Verdict::BelowMinimum | Verdict::TooOld | Verdict::TimeFull | Verdict::New => false,
         }
     }
 

@@ -5,7 +5,7 @@ use serf_model::{Act, SinkCall};
 use serf_snap::MemSink;
 
 /// A number, and the action since which it has this value; action 0 is the start.
-#[derive(Clone, Copy, Debug)]
+#[derive(Clone, Copy)]
 pub(crate) struct Mark {
     pub(crate) value: u64,
     pub(crate) since: u64,
@@ -27,7 +27,7 @@ impl Mark {
 }
 
 /// A planned failure: the number of the call, counted from 1 at the action that planned it; 0 where none was planned.
-#[derive(Clone, Copy, Debug)]
+#[derive(Clone, Copy)]
 pub(crate) struct Plan {
     pub(crate) count: u64,
     pub(crate) action: u64,
@@ -45,6 +45,8 @@ pub(crate) struct Marks {
     pub(crate) query_clock: Mark,
     pub(crate) event_minimum: Mark,
     pub(crate) query_minimum: Mark,
+    /// How many bytes its disk keeps.
+    pub(crate) durable: usize,
     /// The action at which it was stopped, while it is; 0 where it runs.
     pub(crate) stopped: u64,
     pub(crate) append: Plan,
@@ -61,6 +63,7 @@ impl Marks {
             query_clock: Mark::new(agent.query_time()),
             event_minimum: Mark::new(agent.event_minimum()),
             query_minimum: Mark::new(agent.query_minimum()),
+            durable: agent.sink().durable().len(),
             stopped: 0,
             append: NO_PLAN,
             flush: NO_PLAN,
@@ -75,6 +78,7 @@ impl Marks {
         self.query_clock.set(agent.query_time(), action);
         self.event_minimum.set(agent.event_minimum(), action);
         self.query_minimum.set(agent.query_minimum(), action);
+        self.durable = agent.sink().durable().len();
         if !agent.is_stopped() {
             self.stopped = 0;
         } else if self.stopped == 0 {

@@ -13,7 +13,7 @@ use std::alloc::{AllocError, Global};
 use std::mem;
 
 /// A query that entered an agent.
-#[derive(Clone, Copy, Debug, PartialEq, Eq, Hash)]
+#[derive(Clone, Copy, PartialEq, Eq, Hash)]
 pub(crate) struct QueryKey {
     pub(crate) agent: u64,
     pub(crate) time: u64,
@@ -21,7 +21,7 @@ pub(crate) struct QueryKey {
 }
 
 /// How an agent's own query ended.
-#[derive(Clone, Copy, Debug)]
+#[derive(Clone, Copy)]
 pub(crate) enum Ended {
     Not,
     /// It was closed at this action.
@@ -31,7 +31,7 @@ pub(crate) enum Ended {
 }
 
 /// A query that an agent fired at an action.
-#[derive(Clone, Copy, Debug)]
+#[derive(Clone, Copy)]
 pub(crate) struct Asked {
     pub(crate) action: u64,
     pub(crate) ended: Ended,

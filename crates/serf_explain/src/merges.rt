@@ -7,9 +7,9 @@ ghost use Rattle.serf_window.specs.Texts.{event_of};
 ghost use Rattle.serf_agent.specs.Events.{admission};
 ghost use Rattle.serf_agent.specs.Ideal.{IdealAgent};
 ghost use Rattle.serf_agent.specs.Sound.{IsSound};
-ghost use Rattle.serf_agent.specs.States.{after_event, at_time, events_of, events_of_slot, joined};
+ghost use Rattle.serf_agent.specs.States.{after_event, at_time, events_of, events_of_slot};
 ghost use Rattle.serf_agent.specs.View.{view_of};
-ghost use Rattle.serf_explain.specs.Carried.{carried_words, slot_words, verdict_words};
+ghost use Rattle.serf_explain.specs.Carried.{carried_words, heard, slot_words, verdict_words};
 ghost use Rattle.serf_explain.specs.Judging.{AddsCarried, AddsLines, HasJudged, IsJudging, seen_behind, seen_front};
 ghost use Rattle.serf_explain.specs.Words.{stands};
 
@@ -21,6 +21,7 @@ use crate::judge::Judge;
 use crate::marks::Marks;
 use crate::phrases::Phrases;
 use crate::quoted::{Part, put_event, put_parts, put_standing_event, stands};
+use crate::seen::put_tailed_words;
 use serf_agent::{Agent, Reason};
 use serf_lamport::Time;
 use serf_snap::MemSink;
@@ -123,8 +124,8 @@ fn put_least(out: &mut Vec<u8>, merging: &Merging, minimum: u64) -> Result<(), A
     put_parts(out, &[Part::Number(minimum), Part::Since(since)])
 }
 
-/// The action that handed an event to the agent: one before, or else this one.
-fn handed_at(merging: &Merging, near: &mut Near, event: &Event) -> u64 {
+/// The action that handed an event to the agent before this one, if one did.
+fn handed_before(merging: &Merging, near: &mut Near, event: &Event) -> Option<u64> {
     let hand_outs = &merging.history.hand_outs;
     match hand_outs.found_near(near.next, merging.agent_number, event) {
         Some(found) => {
@@ -134,9 +135,24 @@ fn handed_at(merging: &Merging, near: &mut Near, event: &Event) -> u64 {
                 named: found.place,
                 next: found.place.saturating_add(step),
             };
-            found.action
+            Some(found.action)
         }
-        None => merging.phrases.number,
+        None => None,
+    }
+}
+
+/// The action that handed the agent an event that was seen: one before, or this one. None did where the agent keeps its events,
+/// and was opened on a text with the event's line.
+fn handed_at(merging: &Merging, judge: &Judge, near: &mut Near, event: &Event) -> Option<u64> {
+    match handed_before(merging, near, event) {
+        Some(action) => Some(action),
+        None => {
+            if !merging.agent.config().keep_events || judge.took(event) {
+                Some(merging.phrases.number)
+            } else {
+                None
+            }
+        }
     }
 }
 
@@ -258,20 +274,20 @@ fn add_standing(
     put_seen_behind(&mut lines.text, named, words, action)
 }
 
-/// Adds the line of an event that was seen.
-fn add_seen(
+/// Adds the line of an event that was seen, since this action handed it to the agent.
+fn add_handed(
     merging: &Merging,
     lines: &mut MergeLines,
     slot: u64,
     event: &Event,
     verdict: Option<Reason>,
+    action: u64,
 ) -> Result<(), AllocError>
     requires { verdict ≡ Some Reason.Seen }
     ensures { OnOk result (AddsCarried merging.now.phrases.now.number slot event.now.time
         (event_of event.now.name.now event.now.payload.now) verdict
         lines.old.text.items lines.new.text.items) }
 {
-    let action = handed_at(merging, &mut lines.near, event);
     let phrases = merging.phrases;
     let (name, payload) = (event.name, event.payload);
     if phrases.named.len() != 0 && stands(name) && stands(payload) {
@@ -282,6 +298,47 @@ fn add_seen(
     lines.detail.clear();
     put_seen_at(&mut lines.detail, merging.agent, event, action)?;
     add_carried(lines, phrases.number, slot, event, verdict)
+}
+
+/// Adds the line of an event that was seen, since the agent was opened on a text with its line.
+fn add_tailed(
+    merging: &Merging,
+    lines: &mut MergeLines,
+    slot: u64,
+    event: &Event,
+    verdict: Option<Reason>,
+) -> Result<(), AllocError>
+    ensures { OnOk result (AddsCarried merging.now.phrases.now.number slot event.now.time
+        (event_of event.now.name.now event.now.payload.now) verdict
+        lines.old.text.items lines.new.text.items) }
+{
+    lines.detail.clear();
+    put_tailed_words(
+        &mut lines.detail,
+        merging.agent.config().name.as_slice(),
+        event,
+    )?;
+    add_carried(lines, merging.phrases.number, slot, event, verdict)
+}
+
+/// Adds the line of an event that was seen.
+fn add_seen(
+    merging: &Merging,
+    judge: &Judge,
+    lines: &mut MergeLines,
+    slot: u64,
+    event: &Event,
+    verdict: Option<Reason>,
+) -> Result<(), AllocError>
+    requires { verdict ≡ Some Reason.Seen }
+    ensures { OnOk result (AddsCarried merging.now.phrases.now.number slot event.now.time
+        (event_of event.now.name.now event.now.payload.now) verdict
+        lines.old.text.items lines.new.text.items) }
+{
+    match handed_at(merging, judge, &mut lines.near, event) {
+        Some(action) => add_handed(merging, lines, slot, event, verdict, action),
+        None => add_tailed(merging, lines, slot, event, verdict),
+    }
 }
 
 /// Adds the line of an event on which this is the verdict.
@@ -298,7 +355,7 @@ fn add_line(
         lines.old.text.items lines.new.text.items) }
 {
     match verdict {
-        Some(Reason::Seen) => add_seen(merging, lines, slot, event, verdict),
+        Some(Reason::Seen) => add_seen(merging, judge, lines, slot, event, verdict),
         _ => add_other(merging, judge, lines, slot, event, verdict),
     }
 }
@@ -416,7 +473,7 @@ pub(crate) fn add_carried_lines(
         → merging.now.agent.now.concrete ≡ view_of i → m.event_clock ≡ event_clock
         → m.slots ≡ slots_left slots.entry
         → OnOk result (AddsLines merging.now.phrases.now.number (events_of m.slots)
-        (joined m is_join i) lines.old.text.items lines.new.text.items) }
+        (heard m is_join i) lines.old.text.items lines.new.text.items) }
 {
     let mut judge = Judge::new(alloc, merging.agent, event_clock, is_join)?;
     add_slots(alloc, merging, &mut judge, lines, slots)

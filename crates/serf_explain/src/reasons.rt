@@ -5,16 +5,16 @@ ghost use Rattle.std.specs.List.{flat_map};
 ghost use Rattle.serf_wire.specs.Decoded.{decoded};
 ghost use Rattle.serf_wire.specs.Message.{PushPull, message_of, push_pull};
 ghost use Rattle.serf_agent.specs.Sound.{IsSound};
-ghost use Rattle.serf_agent.specs.States.{events_of, joined};
+ghost use Rattle.serf_agent.specs.States.{events_of};
 ghost use Rattle.serf_agent.specs.View.{view_of};
 ghost use Rattle.serf_agent.specs.Ideal.{IdealAgent};
 ghost use Rattle.serf_model.specs.Cluster.{Cluster};
 ghost use Rattle.serf_model.specs.Ready.{AreRepresentable};
 ghost use Rattle.serf_world.specs.View.{IsViewed};
 ghost use Rattle.serf_explain.specs.Because.{AddsReasons, AddsSome, AddsSuch, because_line};
-ghost use Rattle.serf_explain.specs.Carried.{TellsMerged};
+ghost use Rattle.serf_explain.specs.Carried.{TellsMerged, heard};
 ghost use Rattle.serf_explain.specs.Explained.{TellsAll};
-ghost use Rattle.serf_explain.specs.HandOuts.{KnowsSeen, notes_in};
+ghost use Rattle.serf_explain.specs.HandOuts.{notes_in};
 ghost use Rattle.serf_explain.specs.Judging.{AddsLines, TellsText};
 
 use crate::answers::put_reason;
@@ -22,9 +22,10 @@ use crate::because::put_because;
 use crate::history::History;
 use crate::merges::{MergeLines, Merging, add_carried_lines};
 use crate::phrases::Phrases;
+use crate::quoted::{Part, put_parts};
 use crate::refusals::put_sink_fault;
 use crate::seen::put_seen;
-use crate::told::{Actor, Told, actor_at};
+use crate::told::{Actor, Told, actor_at, message_of};
 use serf_agent::{Agent, Reason};
 use serf_model::{Act, Action, Answer, Refusal, packet_at};
 use serf_snap::MemSink;
@@ -50,7 +51,7 @@ fn add_message(
     ensures merged { (i : IdealAgent) (p : PushPull) → IsSound i
         → merging.now.agent.now.concrete ≡ view_of i → message_of message.now ≡ push_pull p
         → OnOk result (AddsLines merging.now.phrases.now.number (events_of p.slots)
-        (joined p is_join i) lines.old.text.items lines.new.text.items) }
+        (heard p is_join i) lines.old.text.items lines.new.text.items) }
     ensures other { ((p : PushPull) → message_of message.now ≡ push_pull p → ⊥)
         → OnOk result (lines.new.text.items ≡ lines.old.text.items) }
 {
@@ -83,7 +84,7 @@ fn add_packet(
     ensures merged { (i : IdealAgent) (p : PushPull) → IsSound i
         → merging.now.agent.now.concrete ≡ view_of i → decoded packet.now ≡ Ok (push_pull p)
         → OnOk result (AddsLines merging.now.phrases.now.number (events_of p.slots)
-        (joined p is_join i) lines.old.text.items lines.new.text.items) }
+        (heard p is_join i) lines.old.text.items lines.new.text.items) }
     ensures other { ((p : PushPull) → decoded packet.now ≡ Ok (push_pull p) → ⊥)
         → OnOk result (lines.new.text.items ≡ lines.old.text.items) }
 {
@@ -107,7 +108,7 @@ fn add_merge(
     ensures merged { (i : IdealAgent) (p : PushPull) → IsSound i → agent.now.concrete ≡ view_of i
         → decoded packet.now ≡ Ok (push_pull p)
         → OnOk result (AddsLines number (events_of p.slots)
-        (joined p is_join i) lines.old.text.items lines.new.text.items) }
+        (heard p is_join i) lines.old.text.items lines.new.text.items) }
     ensures other { ((p : PushPull) → decoded packet.now ≡ Ok (push_pull p) → ⊥)
         → OnOk result (lines.new.text.items ≡ lines.old.text.items) }
 {
@@ -250,6 +251,63 @@ fn put_failed_merge(
     put_lone(alloc, out, told)
 }
 
+/// The least time whose line failed, before anything of a state was heard of: that of a join which writes its line, where nothing
+/// was written.
+fn unheard_least(told: &Told, actor: &Actor) -> Option<u64> {
+    let Act::Merge { join: true, .. } = actor.act else {
+        return None;
+    };
+    let config = actor.agent.config();
+    if !config.keep_events || !config.ignore_old {
+        return None;
+    }
+    if actor.agent.sink().durable().len() != actor.before.durable {
+        return None;
+    }
+    match message_of(told) {
+        Some(Message::PushPull(state)) => Some(state.event_clock),
+        _ => None,
+    }
+}
+
+/// Appends the line that says that nothing of a state was heard of, since the line of this least time failed.
+fn put_unheard(
+    alloc: Global,
+    out: &mut Vec<u8>,
+    told: &Told,
+    actor: &Actor,
+    least: u64,
+) -> Result<(), AllocError>
+    ensures { OnOk result (AddsSome told.now.number out.old.items out.new.items) }
+{
+    let mut reason = Vec::with_capacity(alloc, USUAL_BYTES)?;
+    put_parts(
+        &mut reason,
+        &[
+            Part::Text(b"nothing of the state was heard of: at the line of the least time "),
+            Part::Number(least),
+            Part::Text(b" "),
+        ],
+    )?;
+    put_sink_fault(&mut reason, actor)?;
+    put_because(out, told.number, &reason)
+}
+
+/// Appends a line for each reason of a merge at which the disk failed.
+fn put_broken_merge(
+    alloc: Global,
+    out: &mut Vec<u8>,
+    told: &Told,
+    actor: &Actor,
+) -> Result<(), AllocError>
+    ensures { OnOk result (AddsSome told.now.number out.old.items out.new.items) }
+{
+    match unheard_least(told, actor) {
+        Some(least) => put_unheard(alloc, out, told, actor, least),
+        None => put_failed_merge(alloc, out, told, actor),
+    }
+}
+
 /// The agent that merged a state up to where its disk failed.
 fn failed_actor<'a>(told: &Told<'a>) -> Option<Actor<'a>> {
     let Action::Of { agent, act } = told.action else {
@@ -266,15 +324,13 @@ fn put_unmerged(alloc: Global, out: &mut Vec<u8>, told: &Told) -> Result<(), All
     ensures { OnOk result (AddsSome told.now.number out.old.items out.new.items) }
 {
     match failed_actor(told) {
-        Some(actor) => put_failed_merge(alloc, out, told, &actor),
+        Some(actor) => put_broken_merge(alloc, out, told, &actor),
         None => put_lone(alloc, out, told),
     }
 }
 
 /// Appends a line for each reason of an action: one at least.
 pub(crate) fn put_reasons(alloc: Global, out: &mut Vec<u8>, told: &Told) -> Result<(), AllocError>
-    requires { KnowsSeen (notes_in told.now.past.now.outs.items)
-        told.now.world.now.sent told.now.action.now told.now.line.now }
     ensures { (carried : List (List ℕ))
         → told.now.carried.now ≡ flat_map (because_line told.now.number) carried
         → OnOk result (AddsSuch (TellsAll true carried (notes_in told.now.past.now.outs.items)

@@ -1,15 +1,14 @@
 //! What is said of an event that was delivered, and ignored as seen.
 
-ghost use Rattle.std.specs.Prelude.{◌≡◌, ◌++◌, ◌∷◌, [], ℕ, List, true, Ok, OnOk, IfOk};
-ghost use Rattle.std.specs.List.{list_any};
+ghost use Rattle.std.specs.Prelude.{◌≡◌, ◌++◌, ◌∷◌, [], ℕ, List, Ok, OnOk, IfOk};
 ghost use Rattle.std.specs.Option.{option_map};
 ghost use Rattle.serf_wire.specs.Decoded.{decoded};
 ghost use Rattle.serf_wire.specs.Message.{message_of};
 ghost use Rattle.serf_window.specs.Texts.{event_of};
 ghost use Rattle.serf_explain.specs.Because.{AddsSuch};
 ghost use Rattle.serf_explain.specs.Noted.{delivered_as, event_as};
-ghost use Rattle.serf_explain.specs.HandOuts.{IsKnown, NamesNote, OfNoted, is_note, name_at, noted_words, notes_in};
-ghost use Rattle.serf_explain.specs.Seen.{event_delivered, event_read};
+ghost use Rattle.serf_explain.specs.HandOuts.{NamesSeen, OfNoted, name_at, noted_words, notes_in};
+ghost use Rattle.serf_explain.specs.Seen.{event_delivered, event_read, tailed_words};
 
 use crate::because::put_because;
 use crate::hand_outs::Event;
@@ -89,6 +88,21 @@ fn put_noted_words(
     put_number(out, number)
 }
 
+/// Appends that an agent of this name was opened on a text with the line of an event.
+#[tactic(auto, unfolding(crate::specs::Seen::tailed_words))]
+pub(crate) fn put_tailed_words(
+    out: &mut Vec<u8>,
+    name: &[u8],
+    event: &Event,
+) -> Result<(), AllocError>
+    ensures { OnOk result (out.new.items ≡ out.old.items ++ tailed_words name.now event.now.time
+        (event_of event.now.name.now event.now.payload.now)) }
+{
+    put_quoted(out, name)?;
+    out.extend_from_slice(b" was opened on a text with the line of ")?;
+    put_event(out, event.time, event.name, event.payload)
+}
+
 /// The name of the agent of this number.
 fn name_of<'a>(told: &Told<'a>, agent: u64) -> &'a [u8]
     ensures { result.now ≡ name_at told.now.world.now agent }
@@ -99,31 +113,31 @@ fn name_of<'a>(told: &Told<'a>, agent: u64) -> &'a [u8]
     }
 }
 
-/// Which action handed this event to its agent before.
+/// Which action handed this event to its agent before; or, where none did, that the agent was opened on a text with its line.
 fn seen_reason(alloc: Global, told: &Told, of: &Delivered) -> Result<Vec<u8>, AllocError>
-    requires { list_any (is_note of.now.to of.now.event.time (event_of of.now.event.name.now
-        of.now.event.payload.now)) (notes_in told.now.past.now.outs.items) ≡ true }
-    ensures { IfOk result (λ reason. NamesNote (notes_in told.now.past.now.outs.items)
+    ensures { IfOk result (λ reason. NamesSeen (notes_in told.now.past.now.outs.items)
         (name_at told.now.world.now of.now.to) of.now.to of.now.event.time
         (event_of of.now.event.name.now of.now.event.payload.now) reason.items) }
 {
-    let number = told.past.action_of(of.to, &of.event);
+    let handed = told.past.action_of(of.to, &of.event);
+    let name = name_of(told, of.to);
     let mut reason = Vec::with_capacity(alloc, USUAL_BYTES)?;
-    put_noted_words(&mut reason, name_of(told, of.to), &of.event, number)?;
+    match handed {
+        Some(number) => put_noted_words(&mut reason, name, &of.event, number)?,
+        None => put_tailed_words(&mut reason, name, &of.event)?,
+    }
     Ok(reason)
 }
 
-/// Appends the line that says which action handed the event to its agent before.
+/// Appends the line that says why the event was seen.
 fn put_seen_event(
     alloc: Global,
     out: &mut Vec<u8>,
     told: &Told,
     of: &Delivered,
 ) -> Result<(), AllocError>
-    requires { list_any (is_note of.now.to of.now.event.time (event_of of.now.event.name.now
-        of.now.event.payload.now)) (notes_in told.now.past.now.outs.items) ≡ true }
     ensures { OnOk result (AddsSuch (λ reasons. (reason : List ℕ) × (reasons ≡ reason ∷ [])
-        × NamesNote (notes_in told.now.past.now.outs.items) (name_at told.now.world.now of.now.to)
+        × NamesSeen (notes_in told.now.past.now.outs.items) (name_at told.now.world.now of.now.to)
         of.now.to of.now.event.time (event_of of.now.event.name.now of.now.event.payload.now)
         reason) told.now.number out.old.items out.new.items) }
 {
@@ -131,10 +145,9 @@ fn put_seen_event(
     put_because(out, told.number, &reason)
 }
 
-/// Appends the line of a delivery that was ignored as seen: of an event, which action handed it to its agent before.
+/// Appends the line of a delivery that was ignored as seen: of an event, which action handed it to its agent before, or that
+/// the agent was opened on a text with its line.
 pub(crate) fn put_seen(alloc: Global, out: &mut Vec<u8>, told: &Told) -> Result<(), AllocError>
-    requires { IsKnown (notes_in told.now.past.now.outs.items)
-        told.now.world.now.sent told.now.action.now }
     ensures { OnOk result (AddsSuch
         (OfNoted (notes_in told.now.past.now.outs.items) told.now.world.now told.now.action.now)
         told.now.number out.old.items out.new.items) }

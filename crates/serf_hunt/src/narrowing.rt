@@ -12,7 +12,7 @@ use std::alloc::{AllocError, Global};
 use std::io::{Read, Write};
 
 /// What came of trials of fewer calls.
-#[derive(Debug, Drop)]
+#[derive(Drop)]
 pub(crate) enum Narrowed {
     /// These fail too.
     Shorter(Vec<Call>),

@@ -1,5 +1,5 @@
 -- What one agent does by itself is what it does in a cluster.
-use Rattle.serf_model.proofs.Names.{◌≡◌, ℕ, List, [], ◌∷◌, ◌++◌, Option, Some, None, refl, sym, ap, subst, ◌∙◌, map, slice_get, AllZip, option_to_list, map-append, fold_push, Config}
+use Rattle.serf_model.proofs.Names.{◌≡◌, ℕ, List, [], ◌∷◌, ◌++◌, Option, Some, None, refl, sym, ap, subst, ◌∙◌, slice_get, AllZip, option_to_list, fold_push, Config}
 use Rattle.serf_model.specs.declared.action.Action.{Action}
 use Rattle.serf_model.specs.declared.action.Act.{Act}
 use Rattle.serf_model.specs.declared.action.Act.TheVariants as acts

@@ -10,12 +10,12 @@ use Rattle.serf_model.specs.AnswerPromises.{AckedOnce, AnswersMade, IsMade, Repl
 use Rattle.serf_model.specs.Cluster.{IdealNode, Cluster, Run, applied, apply, after, handed_line, injects, start, step}
 use Rattle.serf_model.specs.Sizes.{HasSizes}
 use Rattle.serf_model.specs.Ready.{IsRepresentable}
-use Rattle.serf_model.specs.Trace.{Turn, actor_of, injects_of, turns_by}
+use Rattle.serf_model.specs.Trace.{Turn, actor_of, turns_by}
 use Rattle.serf_model.proofs.HistoryGrowth.{keeps-apply}
 use Rattle.serf_model.proofs.PerAgent.{AreNobodys, Each, IsRefused, each-step, each-start, nobodys-step, nobodys-start, turns-mine}
 use Rattle.serf_model.proofs.PresentLife.{own_life}
 use Rattle.serf_model.proofs.OnceLaws.{query-once}
-use Rattle.serf_model.proofs.RunLaws.{IsAfter, after-acts, all-at}
+use Rattle.serf_model.proofs.RunLaws.{CanTellIt, IsAfter, after-acts, all-at}
 use Rattle.serf_model.proofs.SendLaws.{Makes, Sends, makes_ack, makes_none, makes_reply, sends-apply}
 use Rattle.serf_model.proofs.HandedQueries.{HasHanded, acked_in, has-handed-more}
 use Rattle.serf_model.proofs.ReplyLaws.{IsAwaiting, awaiting-more, awaiting-none, replied_in}
@@ -39,11 +39,11 @@ pub record IsServed (configs : List Config) (c : Cluster) (turns : List Turn) : 
 abbrev MadeAt : List Config → List Turn → Turn → Type 0
 MadeAt configs before turn = All (IsMade configs before turn) (answers_in turn.packets)
 
-representable-at : (c : Cluster) (turns : List Turn) (b : ℕ) (m : IdealNode) → IsAfter c turns → slice_get c.nodes b ≡ Some m → IsRepresentable m.agent
-representable-at c turns b m h at = all-at (λ m. IsRepresentable m.agent) c.nodes b m h.representable at
+representable-at : (configs : List Config) (c : Cluster) (turns : List Turn) (b : ℕ) (m : IdealNode) → IsAfter configs c turns → slice_get c.nodes b ≡ Some m → IsRepresentable m.agent
+representable-at configs c turns b m h at = all-at (λ m. IsRepresentable m.agent) c.nodes b m h.representable at
 
-sends-at : Below → (configs : List Config) (c : Cluster) (turns : List Turn) (b : ℕ) (act : Act) (m : IdealNode) → IsAfter c turns → IsServed configs c turns → HasSizes (Of b act) → slice_get c.nodes b ≡ Some m → Sends m (Of b act) (apply m c.sent act).done
-sends-at lower configs c turns b act m h served ranged at = sends-apply lower m c.sent b act (representable-at c turns b m h at) (served.each b m at).handable ranged
+sends-at : Below → (configs : List Config) (c : Cluster) (turns : List Turn) (b : ℕ) (act : Act) (m : IdealNode) → IsAfter configs c turns → IsServed configs c turns → HasSizes (Of b act) → slice_get c.nodes b ≡ Some m → Sends m (Of b act) (apply m c.sent act).done
+sends-at lower configs c turns b act m h served ranged at = sends-apply lower m c.sent b act (representable-at configs c turns b m h at) (served.each b m at).handable ranged
 
 made-applied : (configs : List Config) (c : Cluster) (turns : List Turn) (b : ℕ) (act : Act) (m : IdealNode) → HasHanded configs b (turns_by b turns) m → Makes m (Of b act) (apply m c.sent act).done
     → MadeAt configs turns (applied c b act (apply m c.sent act)).turn
@@ -96,26 +96,26 @@ made-injected configs turns turn bytes (Ok (query_response r)) action is = All-c
 made-injected configs turns turn bytes (Ok (push_pull m)) action is = All-nil (IsMade configs turns turn)
 made-injected configs turns turn bytes (Ok (foreign kind)) action is = All-nil (IsMade configs turns turn)
 
-made-step : Below → (configs : List Config) (c : Cluster) (turns : List Turn) (action : Action) → IsAfter c turns → IsServed configs c turns → HasSizes action → MadeAt configs turns (step c action).turn
+made-step : Below → (configs : List Config) (c : Cluster) (turns : List Turn) (action : Action) → IsAfter configs c turns → IsServed configs c turns → HasSizes action → MadeAt configs turns (step c action).turn
 made-step lower configs c turns action h served ranged =
     step-cases (λ s. MadeAt configs turns s.turn) c action (λ bytes. made-injected configs turns (injects c bytes).turn bytes (decoded bytes) refl refl) (λ b act at. All-nil _)
     (λ b act m is at. made-applied configs c turns b act m (served.each b m at) (sends-at lower configs c turns b act m h served (subst HasSizes is ranged) at).makes)
 
 -- the queries of an agent's turns, with one more
-once-after : Below → (c : Cluster) (turns : List Turn) (b : ℕ) (act : Act) (m : IdealNode) → IsAfter c turns → slice_get c.nodes b ≡ Some m
+once-after : Below → (configs : List Config) (c : Cluster) (turns : List Turn) (b : ℕ) (act : Act) (m : IdealNode) → IsAfter configs c turns → CanTellIt configs (Of b act) → slice_get c.nodes b ≡ Some m
     → AllPairs (λ x y. x ≢ y) (queries_in (turns_by b turns ++ (applied c b act (apply m c.sent act)).turn ∷ []))
-once-after lower c turns b act m h at =
+once-after lower configs c turns b act m h tells at =
     subst (λ ts. AllPairs (λ x y. x ≢ y) (queries_in ts)) (turns-mine b turns (applied c b act (apply m c.sent act)).turn (eq-eqb b b refl))
-    (query-once (applied c b act (apply m c.sent act)).cluster (turns ++ (applied c b act (apply m c.sent act)).turn ∷ []) (after-acts lower c turns b act m h at) b)
+    (query-once configs (applied c b act (apply m c.sent act)).cluster (turns ++ (applied c b act (apply m c.sent act)).turn ∷ []) (after-acts lower configs c turns b act m h tells at) b)
 
-pub served-step : Below → (configs : List Config) (r : Run) (action : Action) → HasSizes action → IsAfter r.cluster r.turns → IsServed configs r.cluster r.turns → IsServed configs (after r action).cluster (after r action).turns
-served-step lower configs r action ranged h served = record {
+pub served-step : Below → (configs : List Config) (r : Run) (action : Action) → HasSizes action → CanTellIt configs action → IsAfter configs r.cluster r.turns → IsServed configs r.cluster r.turns → IsServed configs (after r action).cluster (after r action).turns
+served-step lower configs r action ranged tells h served = record {
   each = each-step (HasHanded configs) r action served.each
       (λ b act m is at p. has-handed-more lower r.cluster configs (turns_by b r.turns) b act m p (sends-at lower configs r.cluster r.turns b act m h served (subst HasSizes is ranged) at)
-      (keeps-apply lower m r.cluster.sent b act (representable-at r.cluster r.turns b m h at).consistent.sound).config
-      (once-after lower r.cluster r.turns b act m h at));
+      (keeps-apply lower m r.cluster.sent b act (representable-at configs r.cluster r.turns b m h at)).config
+      (once-after lower configs r.cluster r.turns b act m h (subst (CanTellIt configs) is tells) at));
   awaiting = each-step Awaits r action served.awaiting
-      (λ b act m is at p. awaiting-more lower r.cluster (turns_by b r.turns) b act m p (sends-at lower configs r.cluster r.turns b act m h served (subst HasSizes is ranged) at).makes (once-after lower r.cluster r.turns b act m h at));
+      (λ b act m is at p. awaiting-more lower r.cluster (turns_by b r.turns) b act m p (sends-at lower configs r.cluster r.turns b act m h served (subst HasSizes is ranged) at).makes (once-after lower configs r.cluster r.turns b act m h (subst (CanTellIt configs) is tells) at));
   nobody = nobodys-step r action served.nobody;
   made = at_each_push (MadeAt configs) r.turns (step r.cluster action).turn served.made (made-step lower configs r.cluster r.turns action h served ranged);
 }

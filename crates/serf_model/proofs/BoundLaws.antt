@@ -1,5 +1,5 @@
 -- What enters at an agent in one life is bounded by its settings, in every run.
-use Rattle.serf_model.proofs.Names.{zero, suc, ◌≡◌, ℕ, ◌+◌, ◌*◌, ◌≤◌, ◌==◌, ◌&&◌, inl, inr, Bool, true, false, cond, List, [], ◌∷◌, ◌++◌, Option, Some, None, refl, sym, ap, subst, ◌∙◌, arith, map, length, set, get_or, ◌%◌, All, slice_get, filter, range_with_len, option_map, cases_Bool, eq-eqb, eqb-true, eqb-false, append-nil, All-filter, All-map, fold-append, EventBody, EachAtMost, SlotOf, TimedEntry, count_at, entries_of, greatest_time, held_at, held_count, slot_of, slots_of, SlotLaws, Config, IdealAgent, Past, of_life}
+use Rattle.serf_model.proofs.Names.{zero, suc, ◌≡◌, ℕ, ◌+◌, ◌*◌, ◌≤◌, ◌==◌, ◌&&◌, inl, inr, Bool, true, false, cond, List, [], ◌∷◌, ◌++◌, Option, Some, None, refl, sym, ap, subst, ◌∙◌, arith, map, length, set, get_or, ◌%◌, All, slice_get, filter, range_with_len, option_map, cases_Bool, eq-eqb, eqb-true, eqb-false, append-nil, append_assoc, All-tail, All-filter, All-map, fold-append, EventBody, EachAtMost, SlotOf, TimedEntry, count_at, entries_of, greatest_time, held_at, held_count, slot_of, slots_of, SlotLaws, Config, IdealAgent, Past, of_life}
 use Rattle.serf_agent.specs.Config.{longest_texts}
 use Rattle.serf_model.specs.Below.{Below}
 use Rattle.serf_model.specs.declared.action.Action.{Action}
@@ -7,16 +7,18 @@ use Rattle.serf_model.specs.declared.action.Act.{Act}
 use Rattle.serf_model.specs.declared.action.Action.TheVariants.{Of}
 use Rattle.serf_model.specs.declared.line.EventLine.{EventLine}
 use Rattle.serf_model.specs.Bounds.{AtMostOfOneTime, EventsBounded, AreEventsBounded, IsBounded, QueriesBounded, events_of_life, is_restarted, lived_on, present_life, queries_of_life, reopens}
-use Rattle.serf_model.specs.Cluster.{Applied, Cluster, IdealNode, Run, Stepped, applied, apply, after, first_node, injects, on_agent, run_of, start, step, with_handed}
+use Rattle.serf_model.specs.Cluster.{Applied, Cluster, IdealNode, Run, Stepped, applied, apply, after, first_node, injects, on_agent, opened_first, run_of, start, step, with_handed}
 use Rattle.serf_model.specs.Ready.{IsRepresentable}
 use Rattle.serf_model.specs.Runs.{AreConfigs}
-use Rattle.serf_model.specs.Trace.{Turn, actor_of, entered_by, event_in, events_to, is_agent, packet_given, queries_at, injects_of, given_by}
+use Rattle.serf_model.specs.Tails.{CanTell}
+use Rattle.serf_model.specs.Trace.{Turn, actor_of, entered_by, event_in, events_to, is_agent, queries_at, given_by}
 use Rattle.serf_model.proofs.HistoryGrowth.{Keeps, keeps-apply}
-use Rattle.serf_model.proofs.PerTimeBound.{Enters, enters-life, enters-next}
-use Rattle.serf_model.proofs.RunLaws.{IsAfter, added, after-step, all-at, by-push, events_to-push, lines-other, lines-same, slice_get-set_other, slice_get-set_same}
+use Rattle.serf_model.proofs.InvariantKept.{first-events, first-queries}
+use Rattle.serf_model.proofs.PerTimeBound.{Enters, enters-life}
+use Rattle.serf_model.proofs.RunLaws.{CanTellIt, IsAfter, tell-each, added, after-step, all-at, by-push, events_to-push, lines-other, lines-same, slice_get-set_other, slice_get-set_same}
 use Rattle.serf_model.proofs.StepCases.{step-cases}
 use Rattle.serf_model.proofs.StartLaws.{after-start}
-use Rattle.serf_model.proofs.TurnLaws.{at_each_nil, at_each_push, fold_keeps}
+use Rattle.serf_model.proofs.TurnLaws.{at_each_nil, at_each_push, fold_keeps_at}
 
 -- ---- what a window holds
 
@@ -88,10 +90,14 @@ abbrev per_time : Option IdealNode → ℕ
 per_time None = 0
 per_time (Some m) = m.agent.config.per_time
 
+-- what an agent entered in its life begins with what was taken back as the life began, if there was some; then comes this
+abbrev EndsIn : {K : Type 0} → List (TimedEntry K) → List (TimedEntry K) → Type 0
+EndsIn {K} all entered = (taken : List (TimedEntry K)) × (all ≡ taken ++ entered)
+
 record IsLivedAt (configs : List Config) (turns : List Turn) (a : ℕ) (r : Option IdealNode) : Type 0 where
   config : option_map (λ m. m.agent.config) r ≡ slice_get configs a
-  events : life_events r ≡ events_of_life a turns
-  queries : life_queries r ≡ queries_of_life a turns
+  events : EndsIn (life_events r) (events_of_life a turns)
+  queries : EndsIn (life_queries r) (queries_of_life a turns)
   few_events : AtMostOfOneTime (per_time r) (life_events r)
   few_queries : AtMostOfOneTime (per_time r) (life_queries r)
 
@@ -99,8 +105,8 @@ record IsLivedAt (configs : List Config) (turns : List Turn) (a : ℕ) (r : Opti
 lived-other : (configs : List Config) (turns : List Turn) (turn : Turn) (a : ℕ) (r : Option IdealNode) → IsLivedAt configs turns a r → reopens a turn ≡ false → handed a turn ≡ [] → added entered a turn ≡ [] → IsLivedAt configs (turns ++ turn ∷ []) a r
 lived-other configs turns turn a r h goes none no_query = record {
   config = h.config;
-  events = h.events ∙ sym (events-on a turns turn goes ∙ ap (λ l. events_of_life a turns ++ l) none ∙ append-nil (events_of_life a turns));
-  queries = h.queries ∙ sym (queries-on a turns turn goes ∙ ap (λ l. queries_of_life a turns ++ l) no_query ∙ append-nil (queries_of_life a turns));
+  events = (h.events.0, h.events.1 ∙ ap (λ l. h.events.0 ++ l) (sym (events-on a turns turn goes ∙ ap (λ l. events_of_life a turns ++ l) none ∙ append-nil (events_of_life a turns))));
+  queries = (h.queries.0, h.queries.1 ∙ ap (λ l. h.queries.0 ++ l) (sym (queries-on a turns turn goes ∙ ap (λ l. queries_of_life a turns ++ l) no_query ∙ append-nil (queries_of_life a turns))));
   few_events = h.few_events;
   few_queries = h.few_queries;
 }
@@ -114,26 +120,35 @@ lived-same configs turns turn a m n h same life config events queries =
     let j : IdealAgent = n.agent in
     record {
       config = ap (λ (c : Config). Some c) config ∙ h.config;
-      events = ap (λ l. of_life l j.events.history) life ∙ enters-life events ∙ ap (λ l. l ++ handed a turn) h.events ∙ sym (events-on a turns turn same);
-      queries = ap (λ l. of_life l j.queries.history) life ∙ enters-life queries ∙ ap (λ l. l ++ added entered a turn) h.queries ∙ sym (queries-on a turns turn same);
+      events = (
+        h.events.0,
+        ap (λ l. of_life l j.events.history) life ∙ enters-life events ∙ ap (λ l. l ++ handed a turn) h.events.1 ∙ append_assoc h.events.0 (events_of_life a turns) (handed a turn)
+            ∙ ap (λ l. h.events.0 ++ l) (sym (events-on a turns turn same)),
+      );
+      queries = (
+        h.queries.0,
+        ap (λ l. of_life l j.queries.history) life ∙ enters-life queries ∙ ap (λ l. l ++ added entered a turn) h.queries.1 ∙ append_assoc h.queries.0 (queries_of_life a turns) (added entered a turn)
+            ∙ ap (λ l. h.queries.0 ++ l) (sym (queries-on a turns turn same)),
+      );
       few_events = subst (λ (c : Config). AtMostOfOneTime c.per_time (of_life j.life j.events.history)) (sym config)
           (subst (λ (l : ℕ). AtMostOfOneTime i.config.per_time (of_life l j.events.history)) (sym life) (events.bounded h.few_events));
       few_queries = subst (λ (c : Config). AtMostOfOneTime c.per_time (of_life j.life j.queries.history)) (sym config)
           (subst (λ (l : ℕ). AtMostOfOneTime i.config.per_time (of_life l j.queries.history)) (sym life) (queries.bounded h.few_queries));
     }
 
-few-none : {K : Type 0} (k : ℕ) (es : List (TimedEntry K)) → es ≡ [] → AtMostOfOneTime k es
-few-none {K} k es none t = subst (λ (l : List (TimedEntry K)). count_at l t ≤ k) (sym none) (omega arith)
+-- all that a life has entered at its beginning was taken back
+ends-none : {K : Type 0} (all entered : List (TimedEntry K)) → entered ≡ [] → EndsIn all entered
+ends-none {K} all entered none = (all, sym (append-nil all) ∙ ap (λ l. all ++ l) (sym none))
 
 -- a turn that opens this agent again
 lived-anew : (configs : List Config) (turns : List Turn) (turn : Turn) (a : ℕ) (m n : IdealNode) → IsLivedAt configs turns a (Some m) → reopens a turn ≡ true → n.agent.config ≡ m.agent.config
-    → life_events (Some n) ≡ [] → life_queries (Some n) ≡ [] → IsLivedAt configs (turns ++ turn ∷ []) a (Some n)
+    → AtMostOfOneTime n.agent.config.per_time (life_events (Some n)) → AtMostOfOneTime n.agent.config.per_time (life_queries (Some n)) → IsLivedAt configs (turns ++ turn ∷ []) a (Some n)
 lived-anew configs turns turn a m n h anew config events queries = record {
   config = ap (λ (c : Config). Some c) config ∙ h.config;
-  events = events ∙ sym (ap (events_to a) (life-new a turns turn anew));
-  queries = queries ∙ sym (ap (queries_at a) (life-new a turns turn anew));
-  few_events = few-none n.agent.config.per_time (life_events (Some n)) events;
-  few_queries = few-none n.agent.config.per_time (life_queries (Some n)) queries;
+  events = ends-none (life_events (Some n)) (events_of_life a (turns ++ turn ∷ [])) (ap (events_to a) (life-new a turns turn anew));
+  queries = ends-none (life_queries (Some n)) (queries_of_life a (turns ++ turn ∷ [])) (ap (queries_at a) (life-new a turns turn anew));
+  few_events = events;
+  few_queries = queries;
 }
 
 -- ---- a step
@@ -171,7 +186,7 @@ own-act lower configs c turns b act m representable h = by (is_restarted o.done.
     turn = (applied c b act (apply m c.sent act)).turn
 
     k : (let o = apply m c.sent act in Keeps m.agent o.node.agent o.done (entered_by (Of b act) (given_by c.sent act) o.done.answer))
-    k = keeps-apply lower m c.sent b act representable.consistent.sound
+    k = keeps-apply lower m c.sent b act representable
 
     mine : (b == b) ≡ true
     mine = eq-eqb b b refl
@@ -180,15 +195,19 @@ own-act lower configs c turns b act m representable h = by (is_restarted o.done.
         → (let o = apply m c.sent act in IsLivedAt configs (turns ++ (applied c b act o).turn ∷ []) b (Some (with_handed o.done.handed o.node)))
     by true opening =
         let life = k.life ∙ ap (λ x. cond x (m.agent.life + 1) m.agent.life) opening in
-        let s = representable.consistent.sound in
+        let few_events : AtMostOfOneTime m.agent.config.per_time (of_life o.node.agent.life o.node.agent.events.history) =
+        subst (λ (l : ℕ). AtMostOfOneTime m.agent.config.per_time (of_life l o.node.agent.events.history)) (sym life) (k.events_begin opening).few in
+        let few_queries : AtMostOfOneTime m.agent.config.per_time (of_life o.node.agent.life o.node.agent.queries.history) =
+        subst (λ (l : ℕ). AtMostOfOneTime m.agent.config.per_time (of_life l o.node.agent.queries.history)) (sym life) (k.queries_begin opening).few in
         lived-anew configs turns turn b m _ h (ap (λ x. (b == b) && x) opening ∙ ap (λ x. x && true) mine) k.config
-        (ap (λ l. of_life l o.node.agent.events.history) life ∙ enters-next s.events.lives k.events) (ap (λ l. of_life l o.node.agent.queries.history) life ∙ enters-next s.queries.lives k.queries)
+        (subst (λ (c : Config). AtMostOfOneTime c.per_time (of_life o.node.agent.life o.node.agent.events.history)) (sym k.config) few_events)
+        (subst (λ (c : Config). AtMostOfOneTime c.per_time (of_life o.node.agent.life o.node.agent.queries.history)) (sym k.config) few_queries)
     by false goes =
         lived-same configs turns turn b m _ h (ap (λ x. (b == b) && x) goes ∙ and-false (b == b)) (k.life ∙ ap (λ x. cond x (m.agent.life + 1) m.agent.life) goes) k.config
-        (subst (Enters m.agent.life m.agent.config.per_time m.agent.events.history o.node.agent.events.history) (sym (lines-same b b o.done.events (eq-eqb b b refl))) k.events)
-        (subst (Enters m.agent.life m.agent.config.per_time m.agent.queries.history o.node.agent.queries.history) (sym (ap (λ x. cond x (entered turn) []) mine)) k.queries)
+        (subst (Enters m.agent.life m.agent.config.per_time m.agent.events.history o.node.agent.events.history) (sym (lines-same b b o.done.events (eq-eqb b b refl))) (k.events goes))
+        (subst (Enters m.agent.life m.agent.config.per_time m.agent.queries.history o.node.agent.queries.history) (sym (ap (λ x. cond x (entered turn) []) mine)) (k.queries goes))
 
-lived-applied : Below → (configs : List Config) (c : Cluster) (turns : List Turn) (b : ℕ) (act : Act) (m : IdealNode) → IsAfter c turns → IsLived configs c turns → slice_get c.nodes b ≡ Some m
+lived-applied : Below → (configs : List Config) (c : Cluster) (turns : List Turn) (b : ℕ) (act : Act) (m : IdealNode) → IsAfter configs c turns → IsLived configs c turns → slice_get c.nodes b ≡ Some m
     → (let s = applied c b act (apply m c.sent act) in IsLived configs s.cluster (turns ++ s.turn ∷ []))
 lived-applied lower configs c turns b act m is h at a = by (b == a) refl
   where
@@ -213,7 +232,7 @@ lived-applied lower configs c turns b act m is h at a = by (b == a) refl
         (lines-other a b o.done.events t)
         (ap (λ x. cond x (entered turn) []) t))
 
-lived-step : Below → (configs : List Config) (r : Run) (action : Action) → IsAfter r.cluster r.turns → IsLived configs r.cluster r.turns → IsLived configs (after r action).cluster (after r action).turns
+lived-step : Below → (configs : List Config) (r : Run) (action : Action) → IsAfter configs r.cluster r.turns → IsLived configs r.cluster r.turns → IsLived configs (after r action).cluster (after r action).turns
 lived-step lower configs r action is h =
     step-cases (λ s. IsLived configs s.cluster (r.turns ++ s.turn ∷ [])) r.cluster action (λ bytes. lived-still configs r.cluster r.turns (injects r.cluster bytes) h refl refl refl refl)
     (λ b act at. lived-still configs r.cluster r.turns (on_agent r.cluster b act None) h refl refl refl refl) (λ b act m of at. lived-applied lower configs r.cluster r.turns b act m is h at)
@@ -229,8 +248,17 @@ lived-start : (configs : List Config) → IsLived configs (start configs).cluste
 lived-start configs a = subst (IsLivedAt configs [] a) (sym (first_node-at configs a)) (by (slice_get configs a) refl)
   where
     by : (r : Option Config) → slice_get configs a ≡ r → IsLivedAt configs [] a (option_map first_node r)
-    by None at = record { config = sym at; events = refl; queries = refl; few_events = λ t. omega arith; few_queries = λ t. omega arith }
-    by (Some c) at = record { config = sym at; events = refl; queries = refl; few_events = λ t. omega arith; few_queries = λ t. omega arith }
+    by None at = record { config = sym at; events = ([], refl); queries = ([], refl); few_events = λ t. omega arith; few_queries = λ t. omega arith }
+    by (Some c) at =
+        let none_events : [] ≡ of_life 1 (opened_first c).events.history = ap (of_life 1) (sym (first-events c)) in
+        let none_queries : [] ≡ of_life 1 (opened_first c).queries.history = ap (of_life 1) (sym (first-queries c)) in
+        record {
+          config = sym at;
+          events = ([], sym none_events);
+          queries = ([], sym none_queries);
+          few_events = subst (AtMostOfOneTime c.per_time) none_events (λ t. omega arith);
+          few_queries = subst (AtMostOfOneTime c.per_time) none_queries (λ t. omega arith);
+        }
 
 -- ---- every run
 
@@ -241,21 +269,40 @@ IsShort e = length e.key.name + length e.key.payload ≤ longest_texts
 short-life : (life : ℕ) (history : List (Past EventBody)) → All (λ p. IsShort p.entry) history → All IsShort (of_life life history)
 short-life life history all = All-map IsShort (λ (p : Past EventBody). p.entry) (filter (λ p. p.life == life) history) (All-filter (λ (p : Past EventBody). p.life == life) (λ p. IsShort p.entry) history all)
 
+-- what is few of one time with more in front is few
+few-behind : {K : Type 0} (k : ℕ) (front es : List (TimedEntry K)) → AtMostOfOneTime k (front ++ es) → AtMostOfOneTime k es
+few-behind k [] es few = few
+few-behind {K} k (e ∷ front) es few = few-behind k front es (λ t. let one = fewer e (front ++ es) t in let all : count_at (e ∷ front ++ es) t ≤ k = few t in omega arith)
+  where
+    fewer : (e : TimedEntry K) (es : List (TimedEntry K)) (t : ℕ) → count_at es t ≤ count_at (e ∷ es) t
+    fewer e es t = elim (cases_Bool (e.time == t)) [
+      | inl now ↦ rw now (omega arith)
+      | inr other ↦ rw other (omega arith)
+    ]
+
+all-behind : {X : Type 0} (P : X → Type 0) (front xs : List X) → All P (front ++ xs) → All P xs
+all-behind P [] xs all = all
+all-behind P (x ∷ front) xs all = all-behind P front xs (All-tail P x (front ++ xs) all)
+
 bounded-events : SlotLaws EventBody → (configs : List Config) (turns : List Turn) (a : ℕ) (r : Option IdealNode) (c : Config) → IsLivedAt configs turns a r → ((m : IdealNode) → r ≡ Some m → IsRepresentable m.agent) → slice_get configs a ≡ Some c
     → AreEventsBounded c.event_buffer c.per_time (events_of_life a turns)
 bounded-events laws configs turns a None c h representable at = absurd (let no : None ≡ Some c = h.config ∙ at in cc)
 bounded-events laws configs turns a (Some m) c h representable at =
     let same : m.agent.config ≡ c = let e : Some m.agent.config ≡ Some c = h.config ∙ at in cc in
     record {
-      bounded = is-bounded laws c.event_buffer c.per_time (events_of_life a turns) (subst (λ (x : Config). AtMostOfOneTime x.per_time (events_of_life a turns)) same (subst (AtMostOfOneTime m.agent.config.per_time) h.events h.few_events));
-      short = subst (All IsShort) h.events (short-life m.agent.life m.agent.events.history (representable m refl).consistent.sound.short);
+      bounded = is-bounded laws c.event_buffer c.per_time (events_of_life a turns)
+          (subst (λ (x : Config). AtMostOfOneTime x.per_time (events_of_life a turns)) same
+          (few-behind m.agent.config.per_time h.events.0 (events_of_life a turns) (subst (AtMostOfOneTime m.agent.config.per_time) h.events.1 h.few_events)));
+      short = all-behind IsShort h.events.0 (events_of_life a turns) (subst (All IsShort) h.events.1 (short-life m.agent.life m.agent.events.history (representable m refl).consistent.sound.short));
     }
 
 bounded-queries : SlotLaws ℕ → (configs : List Config) (turns : List Turn) (a : ℕ) (r : Option IdealNode) (c : Config) → IsLivedAt configs turns a r → slice_get configs a ≡ Some c → IsBounded c.query_buffer c.per_time (queries_of_life a turns)
 bounded-queries laws configs turns a None c h at = absurd (let no : None ≡ Some c = h.config ∙ at in cc)
 bounded-queries laws configs turns a (Some m) c h at =
     let same : m.agent.config ≡ c = let e : Some m.agent.config ≡ Some c = h.config ∙ at in cc in
-    is-bounded laws c.query_buffer c.per_time (queries_of_life a turns) (subst (λ (x : Config). AtMostOfOneTime x.per_time (queries_of_life a turns)) same (subst (AtMostOfOneTime m.agent.config.per_time) h.queries h.few_queries))
+    is-bounded laws c.query_buffer c.per_time (queries_of_life a turns)
+    (subst (λ (x : Config). AtMostOfOneTime x.per_time (queries_of_life a turns)) same
+    (few-behind m.agent.config.per_time h.queries.0 (queries_of_life a turns) (subst (AtMostOfOneTime m.agent.config.per_time) h.queries.1 h.few_queries)))
 
 abbrev EventsAt : List Config → List Turn → Turn → Type 0
 EventsAt configs before turn = (a : ℕ) (c : Config) → slice_get configs a ≡ Some c → AreEventsBounded c.event_buffer c.per_time (events_of_life a (before ++ turn ∷ []))
@@ -265,16 +312,16 @@ QueriesAt configs before turn = (a : ℕ) (c : Config) → slice_get configs a �
 
 -- what each action keeps
 record IsKept (configs : List Config) (r : Run) : Type 0 where
-  after : IsAfter r.cluster r.turns
+  after : IsAfter configs r.cluster r.turns
   lived : IsLived configs r.cluster r.turns
   events : EventsBounded configs r.turns
   queries : QueriesBounded configs r.turns
 
-kept-step : Below → SlotLaws EventBody → SlotLaws ℕ → (configs : List Config) (r : Run) (action : Action) → IsKept configs r → IsKept configs (after r action)
-kept-step lower event_laws query_laws configs r action h =
+kept-step : Below → SlotLaws EventBody → SlotLaws ℕ → (configs : List Config) (r : Run) (action : Action) → CanTellIt configs action → IsKept configs r → IsKept configs (after r action)
+kept-step lower event_laws query_laws configs r action tells h =
     let turn : Turn = (step r.cluster action).turn in
     let lived = lived-step lower configs r action h.after h.lived in
-    let next : IsAfter (after r action).cluster (after r action).turns = after-step lower r action h.after in
+    let next : IsAfter configs (after r action).cluster (after r action).turns = after-step lower configs r action tells h.after in
     record {
       after = next;
       lived = lived;
@@ -282,14 +329,14 @@ kept-step lower event_laws query_laws configs r action h =
       queries = at_each_push (QueriesAt configs) r.turns turn h.queries (λ a c at. bounded-queries query_laws configs (r.turns ++ turn ∷ []) a (slice_get (after r action).cluster.nodes a) c (lived a) at);
     }
 
-kept-run : Below → SlotLaws EventBody → SlotLaws ℕ → (configs : List Config) (actions : List Action) → AreConfigs configs → IsKept configs (run_of configs actions)
-kept-run lower event_laws query_laws configs actions ok =
-    fold_keeps (IsKept configs) after (start configs) actions
+kept-run : Below → SlotLaws EventBody → SlotLaws ℕ → (configs : List Config) (actions : List Action) → AreConfigs configs → CanTell configs actions → IsKept configs (run_of configs actions)
+kept-run lower event_laws query_laws configs actions ok told =
+    fold_keeps_at (IsKept configs) (CanTellIt configs) after (start configs) actions
     (record { after = after-start lower configs ok; lived = lived-start configs; events = at_each_nil (EventsAt configs); queries = at_each_nil (QueriesAt configs) })
-    (kept-step lower event_laws query_laws configs)
+    (tell-each configs actions told) (kept-step lower event_laws query_laws configs)
 
-pub events-bounded : Below → SlotLaws EventBody → SlotLaws ℕ → (configs : List Config) (actions : List Action) → AreConfigs configs → EventsBounded configs (run_of configs actions).turns
-events-bounded lower event_laws query_laws configs actions ok = (kept-run lower event_laws query_laws configs actions ok).events
+pub events-bounded : Below → SlotLaws EventBody → SlotLaws ℕ → (configs : List Config) (actions : List Action) → AreConfigs configs → CanTell configs actions → EventsBounded configs (run_of configs actions).turns
+events-bounded lower event_laws query_laws configs actions ok told = (kept-run lower event_laws query_laws configs actions ok told).events
 
-pub queries-bounded : Below → SlotLaws EventBody → SlotLaws ℕ → (configs : List Config) (actions : List Action) → AreConfigs configs → QueriesBounded configs (run_of configs actions).turns
-queries-bounded lower event_laws query_laws configs actions ok = (kept-run lower event_laws query_laws configs actions ok).queries
+pub queries-bounded : Below → SlotLaws EventBody → SlotLaws ℕ → (configs : List Config) (actions : List Action) → AreConfigs configs → CanTell configs actions → QueriesBounded configs (run_of configs actions).turns
+queries-bounded lower event_laws query_laws configs actions ok told = (kept-run lower event_laws query_laws configs actions ok told).queries

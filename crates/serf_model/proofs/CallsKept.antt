@@ -1,12 +1,16 @@
 -- What a call, an event and a query leave sound, over a sink with a plan.
-use Rattle.serf_model.proofs.Names.{◌≡◌, ◌≢◌, ℕ, ◌-◌, ◌^◌, ◌<◌, ◌≤◌, ◌==◌, nat_lt, nat_le, Bool, true, false, cond, List, Option, Some, None, IsSome, Ok, Err, refl, sym, ap, subst, arith, length, inl, inr, All, not, is_some, All-weaker, append-nil, and_parts, or_parts, leb-true, leb-false, ltb-false, EventBody, Query, query, ClockKind, clock_line, FailurePlan, SnapshotView, Writing, Kept, Failed, IsObservable, MayWrite, MayReplace, will_write, will_replace, noted, written, compacted, compaction_of, last_line, note_fails, durable_left_by, Notes, Step, MayNote, planned, ended, will_note, IdealAgent, with_snapshot, Past, IsSound, canonical, TimedEntry, Config, Event, QueryFault, QueryParams, Reason, is_sound, query_fired_as, query_fault, query_asked, query_admission, query_received_as, query_entered, handed_if_passed, ack_if_passed, has_flag, no_broadcast_flag, is_no_timeout, is_too_large_query, FireFault, texts_len, admission, received_as, event_entered, fired_as, fire_fault, event_packet, event_out, drawn, is_too_large}
+use Rattle.serf_model.proofs.Names.{◌≡◌, ◌≢◌, ℕ, ◌-◌, ◌^◌, ◌<◌, ◌≤◌, ◌==◌, nat_lt, nat_le, Bool, true, false, cond, List, Option, Some, None, IsSome, Ok, Err, refl, sym, ap, subst, arith, length, inl, inr, All, not, is_some, All-weaker, append-nil, and_parts, or_parts, leb-true, leb-false, ltb-false, EventBody, Query, query, ClockKind, clock_line, FailurePlan, SnapshotView, Writing, Kept, Failed, IsObservable, MayWrite, will_write, will_replace, written, compaction_of, last_line, note_fails, durable_left_by, Notes, Step, MayNote, planned, ended, will_note, IdealAgent, with_snapshot, Past, IsSound, canonical, TimedEntry, Config, Event, QueryFault, QueryParams, Reason, is_sound, query_fired_as, query_fault, query_asked, query_admission, query_received_as, query_entered, handed_if_passed, ack_if_passed, has_flag, no_broadcast_flag, is_no_timeout, is_too_large_query, FireFault, texts_len, admission, received_as, event_entered, fired_as, fire_fault, event_packet, event_out, drawn, is_too_large}
 use Rattle.serf_snap.specs.declared.kind.ClockKind.TheVariants as kinds
+use Rattle.serf_snap.specs.KeptNotes.{MayReplaceBy, kept_bytes, kept_compaction_of, text_replaced}
+use Rattle.serf_agent.specs.Events.{told_event}
+use Rattle.serf_agent.specs.Queries.{told_query}
+use Rattle.serf_agent.specs.Told.{noted_with, text_with, will_put, will_replace_with}
 use Rattle.serf_agent.specs.declared.outcome.Outcome.TheVariants as outcomes
 use Rattle.serf_agent.specs.declared.outcome.QueryFault.TheVariants as asks
 use Rattle.serf_agent.specs.declared.outcome.ReceiveFault.TheVariants as receives
 use Rattle.serf_agent.specs.declared.outcome.FireFault.TheVariants as fires
 use Rattle.serf_model.specs.Below.{Below}
-use Rattle.serf_model.specs.Ready.{IsRepresentable}
+use Rattle.serf_model.proofs.ReadyLaws.{IsReady}
 use Rattle.serf_model.proofs.PerTimeBound.{none-if}
 
 -- ---- what a sink with a plan does
@@ -31,19 +35,38 @@ does-view m e q b (Some k) (Some p) kind t h g = by (note_fails p) refl
 does-written : (s : SnapshotView) (kind : ClockKind) (t : ℕ) → IsObservable s → Does s kind t (will_write s)
 does-written s kind t observable = does-view s.member_clock s.event_clock s.query_clock s.stopped s.durable s.plan kind t observable.durable observable.plan
 
--- what is done at a note
-record DoesNote (s : SnapshotView) (kind : ClockKind) (t : ℕ) (w : Writing) : Type 0 where
-  may : MayNote kind t s w
-  kept : w ≡ Kept → IsObservable (noted kind t s Kept)
+-- what is done at a note, with a line of its own where it has one
+pub record DoesNote (s : SnapshotView) (kind : ClockKind) (t : ℕ) (line : Option (List ℕ)) (w : Writing) : Type 0 where
+  pub may : MayNote kind t line s w
+  kept : w ≡ Kept → IsObservable (noted_with kind t line s Kept)
   failed : (k : Option (List ℕ)) → w ≡ Failed k → IsObservable (written kind t s (Failed k))
 
-does-note : (s : SnapshotView) (kind : ClockKind) (t : ℕ) → IsObservable s → DoesNote s kind t (will_note kind t s)
-does-note s kind t observable = by (nat_le t (last_line kind s)) refl
+some-mapped : {A B : Type 0} (f : A → B) (o : Option A) → IsSome o → IsSome (Rattle.std.specs.Option.option_map f o)
+some-mapped f None some = absurd (cc some)
+some-mapped f (Some x) some = refl
+
+-- what a sink with a plan does with any bytes
+does-bytes : (m e q : ℕ) (b : Bool) (k : Option (List ℕ)) (p : Option FailurePlan) (bytes : List ℕ) → IsSome k → IsSome p → MayWrite (view m e q b k p) bytes (will_write (view m e q b k p))
+does-bytes m e q b None p bytes h g = absurd (cc h)
+does-bytes m e q b (Some k) None bytes h g = absurd (cc g)
+does-bytes m e q b (Some k) (Some p) bytes h g = by (note_fails p) refl
+  where
+    by : (f : Bool) → note_fails p ≡ f → MayWrite (view m e q b (Some k) (Some p)) bytes (cond f (Failed (Some k)) Kept)
+    by true is = ((0, sym (append-nil k)), (is, refl))
+    by false is = is
+
+pub does-note : (s : SnapshotView) (kind : ClockKind) (t : ℕ) (line : Option (List ℕ)) → IsObservable s → DoesNote s kind t line (will_note kind t line s)
+does-note s kind t (Some line) observable = record {
+  may = does-bytes s.member_clock s.event_clock s.query_clock s.stopped s.durable s.plan (kept_bytes kind t line (last_line kind s)) observable.durable observable.plan;
+  kept = λ e. record { durable = some-mapped _ s.durable observable.durable; plan = some-mapped _ s.plan observable.plan };
+  failed = λ k e. subst (λ (w : Writing). IsObservable (written kind t s w)) e (does-written s kind t observable).observable;
+}
+does-note s kind t None observable = by (nat_le t (last_line kind s)) refl
   where
     d : Does s kind t (will_write s)
     d = does-written s kind t observable
 
-    by : (b : Bool) → nat_le t (last_line kind s) ≡ b → DoesNote s kind t (cond b Kept (will_write s))
+    by : (b : Bool) → nat_le t (last_line kind s) ≡ b → DoesNote s kind t None (cond b Kept (will_write s))
     by true is = record { may = rw is refl; kept = λ e. rw is observable; failed = λ k e. absurd (cc e) }
     by false is = record {
       may = rw is d.may;
@@ -51,54 +74,69 @@ does-note s kind t observable = by (nat_le t (last_line kind s)) refl
       failed = λ k e. subst (λ (w : Writing). IsObservable (written kind t s w)) e d.observable;
     }
 
--- what is done in a compaction
-pub record DoesReplace (s : SnapshotView) (w : Writing) : Type 0 where
-  pub may : MayReplace s w
-  pub observable : IsObservable (compacted s w)
+-- what is done in a compaction that keeps these lines
+pub record DoesReplace (lines : Option (List ℕ)) (s : SnapshotView) (w : Writing) : Type 0 where
+  pub may : MayReplaceBy (text_with lines s) s w
+  pub observable : IsObservable (text_replaced (text_with lines s) s w)
 
-replace-view : (m e q : ℕ) (b : Bool) (k : Option (List ℕ)) (p : Option FailurePlan) → IsSome k → IsSome p → DoesReplace (view m e q b k p) (will_replace (view m e q b k p))
-replace-view m e q b None p h g = absurd (cc h)
-replace-view m e q b (Some k) None h g = absurd (cc g)
-replace-view m e q b (Some k) (Some p) h g = by (p.replaces == 1) refl
+-- what is done with any new text
+record DoesPut (text : List ℕ) (s : SnapshotView) (w : Writing) : Type 0 where
+  may : MayReplaceBy text s w
+  observable : IsObservable (text_replaced text s w)
+
+does-put : (m e q : ℕ) (b : Bool) (k : Option (List ℕ)) (p : Option FailurePlan) (text : List ℕ) → IsSome k → IsSome p → DoesPut text (view m e q b k p) (will_put text (view m e q b k p) p)
+does-put m e q b None p text h g = absurd (cc h)
+does-put m e q b (Some k) None text h g = absurd (cc g)
+does-put m e q b (Some k) (Some p) text h g = by (p.replaces == 1) refl
   where
-    left : (new : Bool) → (left : Option (List ℕ)) → left ≡ cond new (Some (compaction_of (view m e q b (Some k) (Some p)))) (Some k) → (p.replaces == 1) ≡ true → durable_left_by p (compaction_of (view m e q b (Some k) (Some p))) (Some k) ≡ left
-        → DoesReplace (view m e q b (Some k) (Some p)) (Failed left)
+    left : (new : Bool) → (left : Option (List ℕ)) → left ≡ cond new (Some text) (Some k) → (p.replaces == 1) ≡ true → durable_left_by p text (Some k) ≡ left → DoesPut text (view m e q b (Some k) (Some p)) (Failed left)
     left true l is fails same = record { may = (inr is, (fails, sym same)); observable = record { durable = ap is_some is; plan = refl } }
     left false l is fails same = record { may = (inl is, (fails, sym same)); observable = record { durable = ap is_some is; plan = refl } }
 
-    by : (f : Bool) → (p.replaces == 1) ≡ f → DoesReplace (view m e q b (Some k) (Some p)) (cond f (Failed (durable_left_by p (compaction_of (view m e q b (Some k) (Some p))) (Some k))) Kept)
+    by : (f : Bool) → (p.replaces == 1) ≡ f → DoesPut text (view m e q b (Some k) (Some p)) (cond f (Failed (durable_left_by p text (Some k))) Kept)
     by true is = left p.keeps_new _ refl is refl
     by false is = record { may = is; observable = record { durable = refl; plan = refl } }
 
-pub does-replace : (s : SnapshotView) → IsObservable s → DoesReplace s (will_replace s)
-does-replace s observable = replace-view s.member_clock s.event_clock s.query_clock s.stopped s.durable s.plan observable.durable observable.plan
+-- without lines the new text is that of any compaction
+will-replace : (m e q : ℕ) (b : Bool) (k : Option (List ℕ)) (p : Option FailurePlan) → will_put (compaction_of (view m e q b k p)) (view m e q b k p) p ≡ will_replace (view m e q b k p)
+will-replace m e q b k None = refl
+will-replace m e q b k (Some p) = refl
+
+does-text : (text : List ℕ) (s : SnapshotView) → IsObservable s → DoesPut text s (will_put text s s.plan)
+does-text text s observable = does-put s.member_clock s.event_clock s.query_clock s.stopped s.durable s.plan text observable.durable observable.plan
+
+pub does-replace : (lines : Option (List ℕ)) (s : SnapshotView) → IsObservable s → DoesReplace lines s (will_replace_with lines s)
+does-replace (Some lines) s observable = let d = does-text (kept_compaction_of lines s) s observable in record { may = d.may; observable = d.observable }
+does-replace None s observable =
+    let d = does-text (compaction_of s) s observable in
+    subst (DoesReplace None s) (will-replace s.member_clock s.event_clock s.query_clock s.stopped s.durable s.plan) (record { may = d.may; observable = d.observable })
 
 -- ---- a call
 
 -- a call whose line is written: what is owed is its end where the line is durable
-pub representable-notes : Below → {R : Type 0} (i : IdealAgent) (kind : ClockKind) (t : ℕ) (step : Step R) (fault : R) → IsRepresentable i
-    → (IsObservable (noted kind t i.snapshot Kept) → IsRepresentable (with_snapshot (noted kind t i.snapshot Kept) step.agent)) → IsRepresentable (planned i (Notes kind t step fault)).agent
-representable-notes lower {R} i kind t step fault g kept = by (will_note kind t i.snapshot) (does-note i.snapshot kind t g.consistent.observable)
+pub ready-notes : Below → {R : Type 0} (i : IdealAgent) (kind : ClockKind) (t : ℕ) (line : Option (List ℕ)) (step : Step R) (fault : R) → IsReady i
+    → (IsObservable (noted_with kind t line i.snapshot Kept) → IsReady (with_snapshot (noted_with kind t line i.snapshot Kept) step.agent)) → IsReady (planned i (Notes kind t line step fault)).agent
+ready-notes lower {R} i kind t line step fault g kept = by (will_note kind t line i.snapshot) (does-note i.snapshot kind t line g.consistent.observable)
   where
-    by : (w : Writing) → DoesNote i.snapshot kind t w → IsRepresentable (ended i (Notes kind t step fault) w).agent
+    by : (w : Writing) → DoesNote i.snapshot kind t line w → IsReady (ended i (Notes kind t line step fault) w).agent
     by Kept d = kept (d.kept refl)
-    by (Failed k) d = record { consistent = record { sound = lower.sound.fails_note kind t k i g.consistent.sound d.may; observable = d.failed k refl }; events = g.events; queries = g.queries }
+    by (Failed k) d = record { consistent = record { sound = lower.sound.fails_note kind t line k i g.consistent.sound d.may; observable = d.failed k refl }; events = g.events; queries = g.queries }
 
 -- ---- events
 
-representable-event_entered : Below → (i : IdealAgent) (t : ℕ) (what : EventBody) → IsRepresentable i → i.snapshot.stopped ≡ false → t < 2 ^ 64 - 1 → texts_len what ≤ 9216 → All (λ p. p.entry ≢ record { time = t; key = what }) i.events.history
-    → IsObservable (noted kinds.Event t i.snapshot Kept) → IsRepresentable (with_snapshot (noted kinds.Event t i.snapshot Kept) (event_entered t what i))
-representable-event_entered lower i t what g runs small short fresh observable = record {
+ready-event_entered : Below → (i : IdealAgent) (t : ℕ) (what : EventBody) → IsReady i → i.snapshot.stopped ≡ false → t < 2 ^ 64 - 1 → texts_len what ≤ 9216 → All (λ p. p.entry ≢ record { time = t; key = what }) i.events.history
+    → IsObservable (noted_with kinds.Event t (told_event i.config t what) i.snapshot Kept) → IsReady (with_snapshot (noted_with kinds.Event t (told_event i.config t what) i.snapshot Kept) (event_entered t what i))
+ready-event_entered lower i t what g runs small short fresh observable = record {
   consistent = record { sound = lower.sound.enters_event t what i g.consistent.sound runs small short fresh; observable = observable };
   events = omega (arith, g.events);
   queries = g.queries;
 }
 
-pub representable-received : Below → (i : IdealAgent) (t : ℕ) (what : EventBody) (coalesce : Bool) (r : Option Reason) → IsRepresentable i → i.snapshot.stopped ≡ false → t < 2 ^ 64 - 1 → admission i t what ≡ r → IsRepresentable (planned i (received_as r i t what coalesce)).agent
-representable-received lower i t what coalesce (Some reason) g runs small is = record { consistent = record { sound = lower.sound.observes_event t i g.consistent.sound; observable = g.consistent.observable }; events = omega (arith, g.events); queries = g.queries }
-representable-received lower i t what coalesce None g runs small is =
+pub ready-received : Below → (i : IdealAgent) (t : ℕ) (what : EventBody) (coalesce : Bool) (r : Option Reason) → IsReady i → i.snapshot.stopped ≡ false → t < 2 ^ 64 - 1 → admission i t what ≡ r → IsReady (planned i (received_as r i t what coalesce)).agent
+ready-received lower i t what coalesce (Some reason) g runs small is = record { consistent = record { sound = lower.sound.observes_event t i g.consistent.sound; observable = g.consistent.observable }; events = omega (arith, g.events); queries = g.queries }
+ready-received lower i t what coalesce None g runs small is =
     let new = lower.admits.event_new i t what is in
-    representable-notes lower i kinds.Event t (record { agent = event_entered t what i; answer = Ok (Event (event_out t what coalesce)) }) (Err receives.SinkFault) g (representable-event_entered lower i t what g runs small new.0 new.1)
+    ready-notes lower i kinds.Event t (told_event i.config t what) (record { agent = event_entered t what i; answer = Ok (Event (event_out t what coalesce)) }) (Err receives.SinkFault) g (ready-event_entered lower i t what g runs small new.0 new.1)
 
 -- the bounds of the limits
 limits : (c : Config) → is_sound c ≡ true → (nat_le c.event_limit 9216 ≡ true) × (nat_le c.query_limit 9216 ≡ true) × (nat_le c.response_limit 9216 ≡ true)
@@ -140,20 +178,20 @@ later-fresh : {K : Type 0} (history : List (Past K)) (t : ℕ) (what : K) → Al
 later-fresh {K} history t what below =
     All-weaker (λ p. p.entry.time < t) (λ p. p.entry ≢ record { time = t; key = what }) (λ p early is. let same = ap (λ (y : TimedEntry K). y.time) is in omega arith) history below
 
-pub representable-fired : Below → (i : IdealAgent) (what : EventBody) (coalesce : Bool) (r : Option FireFault) → IsRepresentable i → fire_fault i what coalesce ≡ r → IsRepresentable (planned i (fired_as r i what coalesce)).agent
-representable-fired lower i what coalesce (Some fault) g is = g
-representable-fired lower i what coalesce None g is =
+pub ready-fired : Below → (i : IdealAgent) (what : EventBody) (coalesce : Bool) (r : Option FireFault) → IsReady i → fire_fault i what coalesce ≡ r → IsReady (planned i (fired_as r i what coalesce)).agent
+ready-fired lower i what coalesce (Some fault) g is = g
+ready-fired lower i what coalesce None g is =
     let may = may-fire i what coalesce g.consistent.sound is in
-    representable-notes lower i kinds.Event i.events.clock (record { agent = event_entered i.events.clock what i; answer = Ok record { packet = event_packet i.events.clock what coalesce; handed = event_out i.events.clock what coalesce } }) (Err fires.SinkFault) g
-    (representable-event_entered lower i i.events.clock what g may.runs may.clock may.short (later-fresh i.events.history i.events.clock what g.consistent.sound.events.below_clock))
+    ready-notes lower i kinds.Event i.events.clock (told_event i.config i.events.clock what) (record { agent = event_entered i.events.clock what i; answer = Ok record { packet = event_packet i.events.clock what coalesce; handed = event_out i.events.clock what coalesce } }) (Err fires.SinkFault) g
+    (ready-event_entered lower i i.events.clock what g may.runs may.clock may.short (later-fresh i.events.history i.events.clock what g.consistent.sound.events.below_clock))
 
 -- ---- queries
 
-pub representable-query_received : Below → (i : IdealAgent) (now : ℕ) (q : Query) (r : Option Reason) → IsRepresentable i → i.snapshot.stopped ≡ false → q.time < 2 ^ 64 - 1 → query_admission i q.time q.id ≡ r → IsRepresentable (planned i (query_received_as false r i now q)).agent
-representable-query_received lower i now q (Some reason) g runs small is =
+pub ready-query_received : Below → (i : IdealAgent) (now : ℕ) (q : Query) (r : Option Reason) → IsReady i → i.snapshot.stopped ≡ false → q.time < 2 ^ 64 - 1 → query_admission i q.time q.id ≡ r → IsReady (planned i (query_received_as false r i now q)).agent
+ready-query_received lower i now q (Some reason) g runs small is =
     record { consistent = record { sound = lower.sound.observes_query q.time i g.consistent.sound; observable = g.consistent.observable }; events = g.events; queries = omega (arith, g.queries) }
-representable-query_received lower i now q None g runs small is =
-    representable-notes lower i kinds.Query q.time
+ready-query_received lower i now q None g runs small is =
+    ready-notes lower i kinds.Query q.time (told_query i.config q.time q.id)
     (record { agent = query_entered q.time q.id i; answer = Ok (outcomes.Query (handed_if_passed false i.config now q) (ack_if_passed false i.config.name q) (not (has_flag no_broadcast_flag q.flags))) }) (Err receives.SinkFault) g
     (λ observable. record {
       consistent = record { sound = lower.sound.enters_query q.time q.id i g.consistent.sound runs small (lower.admits.query_new i q.time q.id is); observable = observable };
@@ -173,11 +211,11 @@ may-ask i id name payload params is =
     let clock = none-if (nat_le (2 ^ 64 - 1) i.queries.clock) asks.Exhausted None timeout.1 in
     record { runs = runs.0; clock = leb-false _ _ clock.0 }
 
-pub representable-query_fired : Below → (i : IdealAgent) (now : ℕ) (q : Query) (r : Option QueryFault) → IsRepresentable i → q.time ≡ i.queries.clock → (r ≡ None → MayAsk i) → IsRepresentable (planned i (query_fired_as r i now q)).agent
-representable-query_fired lower i now q (Some fault) g at may = g
-representable-query_fired lower i now q None g at may =
+pub ready-query_fired : Below → (i : IdealAgent) (now : ℕ) (q : Query) (r : Option QueryFault) → IsReady i → q.time ≡ i.queries.clock → (r ≡ None → MayAsk i) → IsReady (planned i (query_fired_as r i now q)).agent
+ready-query_fired lower i now q (Some fault) g at may = g
+ready-query_fired lower i now q None g at may =
     let m = may refl in
-    representable-notes lower i kinds.Query q.time (record { agent = query_asked now q i; answer = Ok record { time = q.time; packet = canonical (query q); handed = handed_if_passed false i.config now q; ack = ack_if_passed false i.config.name q } }) (Err asks.SinkFault) g
+    ready-notes lower i kinds.Query q.time (told_query i.config q.time q.id) (record { agent = query_asked now q i; answer = Ok record { time = q.time; packet = canonical (query q); handed = handed_if_passed false i.config now q; ack = ack_if_passed false i.config.name q } }) (Err asks.SinkFault) g
     (λ observable. record {
       consistent = record { sound = lower.sound.asks_query now q i g.consistent.sound m.runs at (omega (arith, m.clock)); observable = observable };
       events = g.events;

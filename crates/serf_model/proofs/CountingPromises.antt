@@ -8,7 +8,7 @@ use Rattle.serf_model.specs.declared.action.Action.TheVariants.{Of}
 use Rattle.serf_model.specs.AnswerPromises.{CountedInTime, CountedOnce, CountedSent, HoldsCounted, IsAwaited, IsDelivered, OpenQueriesHold, answer_brought, answers_in, as_fired, counted_at, counted_by, is_counted, life_of, own_queries}
 use Rattle.serf_model.specs.Cluster.{IdealNode, Cluster, Run, applied, apply, after, line_of, start, step}
 use Rattle.serf_model.specs.Ready.{IsRepresentable}
-use Rattle.serf_model.specs.Trace.{Turn, actor_of, packet_given, turns_by, given_by}
+use Rattle.serf_model.specs.Trace.{Turn, queries_at, actor_of, packet_given, turns_by, given_by}
 use Rattle.serf_model.proofs.PerAgent.{Each, AreNobodys, IsRefused, each-step, each-start, nobodys-step, nobodys-start}
 use Rattle.serf_model.proofs.PresentLife.{last_life, own_life}
 use Rattle.serf_model.proofs.Effects.{effect}
@@ -36,16 +36,16 @@ SentAt before turn = (ack : Bool) → is_counted ack turn.line.answer ≡ true �
 abbrev InTimeAt : List Turn → Turn → Type 0
 InTimeAt before turn = (a packet now : ℕ) (ack : Bool) → turn.action ≡ Of a (acts.Deliver packet now) → All (IsAwaited (life_of a before) now) (counted_at ack turn)
 
-representable-at : (c : Cluster) (turns : List Turn) (b : ℕ) (m : IdealNode) → IsAfter c turns → slice_get c.nodes b ≡ Some m → IsRepresentable m.agent
-representable-at c turns b m h at = all-at (λ m. IsRepresentable m.agent) c.nodes b m h.representable at
+representable-at : (configs : List Config) (c : Cluster) (turns : List Turn) (b : ℕ) (m : IdealNode) → IsAfter configs c turns → slice_get c.nodes b ≡ Some m → IsRepresentable m.agent
+representable-at configs c turns b m h at = all-at (λ m. IsRepresentable m.agent) c.nodes b m h.representable at
 
 tells-at : Below → (c : Cluster) (turns : List Turn) (b : ℕ) (act : Act) (m : IdealNode) (ack : Bool) → IsCounting c turns → slice_get c.nodes b ≡ Some m → (let t = (applied c b act (apply m c.sent act)).turn in is_counted ack t.line.answer ≡ true → Tells (turns_by b turns) t ack)
 tells-at lower c turns b act m ack h at counted =
     let o = apply m c.sent act in
     tells-effect (turns_by b turns) m (Of b act) (given_by c.sent act) o (line_of c b o) o.done.packets ack (effect lower m c.sent b act) refl (h.each b m at) counted
 
-sent-acts : Below → (c : Cluster) (turns : List Turn) (b : ℕ) (act : Act) (m : IdealNode) → IsAfter c turns → IsCounting c turns → slice_get c.nodes b ≡ Some m → SentAt turns (applied c b act (apply m c.sent act)).turn
-sent-acts lower c turns b act m after h at ack counted =
+sent-acts : Below → (configs : List Config) (c : Cluster) (turns : List Turn) (b : ℕ) (act : Act) (m : IdealNode) → IsAfter configs c turns → IsCounting c turns → slice_get c.nodes b ≡ Some m → SentAt turns (applied c b act (apply m c.sent act)).turn
+sent-acts lower configs c turns b act m after h at ack counted =
     let t = tells-at lower c turns b act m ack h at counted in
     let place : slice_get c.sent t.number ≡ Some t.packet = ap (packet_given c.sent) (sym t.action) ∙ t.given in
     record {
@@ -61,8 +61,8 @@ sent-acts lower c turns b act m after h at ack counted =
       kind = t.kind;
     }
 
-sent-step : Below → (c : Cluster) (turns : List Turn) (action : Action) → IsAfter c turns → IsCounting c turns → SentAt turns (step c action).turn
-sent-step lower c turns action after h = step-cases (λ s. SentAt turns s.turn) c action (λ bytes ack counted. absurd (cc counted)) (λ b act at ack counted. absurd (cc counted)) (λ b act m is at. sent-acts lower c turns b act m after h at)
+sent-step : Below → (configs : List Config) (c : Cluster) (turns : List Turn) (action : Action) → IsAfter configs c turns → IsCounting c turns → SentAt turns (step c action).turn
+sent-step lower configs c turns action after h = step-cases (λ s. SentAt turns s.turn) c action (λ bytes ack counted. absurd (cc counted)) (λ b act at ack counted. absurd (cc counted)) (λ b act m is at. sent-acts lower configs c turns b act m after h at)
 
 in_time-acts : Below → (c : Cluster) (turns : List Turn) (b : ℕ) (act : Act) (m : IdealNode) → IsCounting c turns → slice_get c.nodes b ≡ Some m → InTimeAt turns (applied c b act (apply m c.sent act)).turn
 in_time-acts lower c turns b act m h at a packet now ack is = by (is_counted ack (apply m c.sent act).done.answer) refl
@@ -86,14 +86,14 @@ in_time-step lower c turns action h =
     step-cases (λ s. InTimeAt turns s.turn) c action (λ bytes a packet now ack is. All-nil (IsAwaited (life_of a turns) now)) (λ b act at a packet now ack is. All-nil (IsAwaited (life_of a turns) now))
     (λ b act m is at. in_time-acts lower c turns b act m h at)
 
-pub counting-step : Below → (r : Run) (action : Action) → IsAfter r.cluster r.turns → IsCounting r.cluster r.turns → IsCounting (after r action).cluster (after r action).turns
-counting-step lower r action h all = record {
+pub counting-step : Below → (configs : List Config) (r : Run) (action : Action) → IsAfter configs r.cluster r.turns → IsCounting r.cluster r.turns → IsCounting (after r action).cluster (after r action).turns
+counting-step lower configs r action h all = record {
   each = each-step (λ a ts m. HasCounted ts m.agent) r action all.each
       (λ b act m is at p.
       let o = apply m r.cluster.sent act in
-      has-counted-effect (turns_by b r.turns) m (Of b act) (given_by r.cluster.sent act) o (line_of r.cluster b o) o.done.packets (effect lower m r.cluster.sent b act) refl (representable-at r.cluster r.turns b m h at) (ap queries_of (sym at) ∙ h.queries b) p);
+      has-counted-effect (turns_by b r.turns) m (Of b act) (given_by r.cluster.sent act) o (line_of r.cluster b o) o.done.packets (effect lower m r.cluster.sent b act) refl (representable-at configs r.cluster r.turns b m h at) (subst (λ n. All (Contains (queries_of n)) (queries_at b r.turns)) at (h.queries b).within) p);
   nobody = nobodys-step r action all.nobody;
-  sent = at_each_push SentAt r.turns (step r.cluster action).turn all.sent (sent-step lower r.cluster r.turns action h all);
+  sent = at_each_push SentAt r.turns (step r.cluster action).turn all.sent (sent-step lower configs r.cluster r.turns action h all);
   in_time = at_each_push InTimeAt r.turns (step r.cluster action).turn all.in_time (in_time-step lower r.cluster r.turns action all);
 }
 

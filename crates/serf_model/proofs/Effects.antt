@@ -1,9 +1,10 @@
 -- What each action does to the node that acts, said once: its effect, and that its agent stays sound.
-use Rattle.serf_model.proofs.Names.{◌≡◌, ℕ, Bool, true, false, cond, List, [], ◌∷◌, ◌++◌, Option, Some, None, Result, Ok, Err, refl, sym, ap, subst, ◌∙◌, map, All, Contains, slice_get, map-append, All-nil, All-cons, All-append, All-weaker, All-contains_itself, All-head, Contains-append_right, WireFault, EventBody, canonical, has_long, decoded, Message, UserEvent, Query, QueryResponse, user_event, query, query_response, push_pull, event_of, TimedEntry, SnapshotView, Writing, Kept, Failed, Config, OpenQuery, EventOut, FireFault, MergeFault, Outcome, QueryFault, QueryParams, Reason, ReceiveFault, RespondFault, Call, Step, answers, ended, planned, will, admission, fire_fault, fired_as, received_as, Handed, IdealAgent, with_asked, with_snapshot, answer_ignore_reason, asked_at, counted, is_ack, is_full, query_admission, query_at, query_fault, query_fired_as, query_received_as, respond_fault, response_received_as, response_received_at, with_asked_at, receive_read, events_of, handed_by, joined, merge_refusal, receive_one, state_of, view_of}
+use Rattle.serf_model.proofs.Names.{◌≡◌, Past, PushPull, ℕ, Bool, true, false, cond, List, [], ◌∷◌, ◌++◌, Option, Some, None, Result, Ok, Err, refl, sym, ap, subst, ◌∙◌, map, All, Contains, slice_get, map-append, All-nil, All-cons, All-append, All-weaker, All-contains_itself, All-head, Contains-append_right, WireFault, EventBody, canonical, has_long, decoded, Message, UserEvent, Query, QueryResponse, user_event, query, query_response, push_pull, event_of, TimedEntry, SnapshotView, Writing, Kept, Failed, Config, OpenQuery, EventOut, FireFault, MergeFault, Outcome, QueryFault, Reason, ReceiveFault, RespondFault, Call, Step, answers, ended, planned, will, admission, fire_fault, fired_as, received_as, Handed, IdealAgent, with_asked, with_snapshot, answer_ignore_reason, asked_at, counted, is_ack, is_full, query_admission, query_at, query_fault, query_fired_as, query_received_as, respond_fault, response_received_as, response_received_at, with_asked_at, receive_read, events_of, handed_by, merge_refusal, receive_one, state_of, view_of}
 use Rattle.serf_snap.specs.declared.snapshot.NoteFault.TheVariants as notes
 use Rattle.serf_agent.specs.declared.outcome.PushPullFault.TheVariants as states
 use Rattle.serf_agent.specs.declared.outcome.ReceiveFault.TheVariants as receives
 use Rattle.serf_agent.specs.Queries.{counts_where}
+use Rattle.serf_agent.specs.States.{hear, heard_by, told_least}
 use Rattle.serf_model.specs.Below.{Below}
 use Rattle.serf_model.specs.declared.action.Act.{Act}
 use Rattle.serf_model.specs.declared.action.Act.TheVariants as acts
@@ -14,13 +15,16 @@ use Rattle.serf_model.specs.declared.line.Answer.{Answer}
 use Rattle.serf_model.specs.declared.line.Answer.TheVariants as lines
 use Rattle.serf_model.specs.declared.line.Refusal.TheVariants.{SinkFault}
 use Rattle.serf_model.specs.Bounds.{is_restarted}
-use Rattle.serf_model.specs.Cluster.{Applied, IdealNode, Merged, apply, called, closes, compacts, delivers, does_nothing, fire_gives, merges_as, merges_events, merges_given, merges_on, note_gives, only, plan_with, query_gives, receive_gives, responds, responds_as, restarts, saves, sends_state, state_gives, text_after}
+use Rattle.serf_model.specs.Cluster.{Applied, IdealNode, Merged, apply, called, closes, compacts, delivers, does_nothing, fire_gives, merges_as, merges_events, merge_refusal_of, merges_given, merges_heard, merges_on, note_gives, only, plan_with, query_gives, receive_gives, responds, responds_as, restarts, saves, sends_state, state_gives, text_after}
 use Rattle.serf_model.specs.HandOuts.{events_given}
 use Rattle.serf_model.specs.Ready.{IsRepresentable}
+use Rattle.serf_model.specs.Tails.{CanTellAct}
 use Rattle.serf_model.specs.Trace.{entered_by, events_brought, given_by}
-use Rattle.serf_model.proofs.CallsKept.{may-ask, representable-fired, representable-query_fired, representable-query_received, representable-received}
-use Rattle.serf_model.proofs.InvariantKept.{compacting, representable-compacted, representable-merged, representable-opened, representable-planned, representable-saved, saving, text-has}
-use Rattle.serf_model.proofs.OpenQueriesKept.{representable-closed, representable-counted}
+use Rattle.serf_model.proofs.CallsKept.{may-ask, ready-fired, ready-query_fired, ready-query_received, ready-received}
+use Rattle.serf_model.proofs.InvariantKept.{compacting, ready-compacted, ready-merged, ready-opened, ready-planned, ready-saved, saving, text-past}
+use Rattle.serf_model.proofs.DurableKept.{durable-apply}
+use Rattle.serf_model.proofs.ReadyLaws.{IsReady, ready}
+use Rattle.serf_model.proofs.OpenQueriesKept.{ready-closed, ready-counted}
 use Rattle.serf_model.proofs.PerTimeBound.{Enters, enters-none, enters-one, enters-then, event-room, out_in}
 
 -- ---- the definition
@@ -85,7 +89,7 @@ pub data Effect (m : IdealNode) : Action → Option (List ℕ) → Applied → T
 -- an action has this effect, and leaves its agent sound
 pub record Acts (m : IdealNode) (action : Action) (given : Option (List ℕ)) (o : Applied) : Type 0 where
   pub effect : Effect m action given o
-  pub sound : IsRepresentable m.agent → IsRepresentable o.node.agent
+  pub sound : IsRepresentable m.agent → IsReady o.node.agent
 
 -- ---- nothing is entered
 
@@ -112,7 +116,7 @@ idles m action given j answer config life events queries asked idle = hears j []
 
 -- the agent stays as it is
 stays : {action : Action} {given : Option (List ℕ)} {answer : Answer} (m : IdealNode) → IsIdle m.agent given answer → Acts m action given (does_nothing m (only answer))
-stays {action} {given} {answer} m idle = record { effect = idles m action given m.agent answer refl refl refl refl refl idle; sound = λ g. g }
+stays {action} {given} {answer} m idle = record { effect = idles m action given m.agent answer refl refl refl refl refl idle; sound = λ g. ready m.agent g }
 
 -- only its snapshot differs
 snaps : {action : Action} {given : Option (List ℕ)} {answer : Answer} {s : SnapshotView} (m : IdealNode) → IsIdle m.agent given answer → Effect m action given (record { node = record { agent = with_snapshot s m.agent; handed = m.handed }; done = only answer })
@@ -134,7 +138,7 @@ acts-fire lower m given agent name payload coalesce (Some fault) is = stays m tt
 acts-fire lower m given agent name payload coalesce None is = record {
   effect = kept-or-failed (λ o. Effect m (Of agent (acts.Fire name payload coalesce)) given (called m o fire_gives)) m.agent (fired_as None m.agent (event_of name payload) coalesce)
       (fires agent name payload coalesce is) (λ d. snaps m tt);
-  sound = λ g. representable-fired lower m.agent (event_of name payload) coalesce None g is;
+  sound = λ g. ready-fired lower m.agent (event_of name payload) coalesce None (ready m.agent g) is;
 }
 
 -- what a delivery does, and that it leaves its agent sound
@@ -158,7 +162,7 @@ acts-event : Below → (m : IdealNode) (to number now : ℕ) (packet : List ℕ)
     → DeliveryActs m to number now packet (planned m.agent (received_as r m.agent e.time (event_of e.name e.payload) e.coalesce))
 acts-event lower m to number now packet e r is runs why = record {
   effect = by r why;
-  sound = λ g. representable-received lower m.agent e.time (event_of e.name e.payload) e.coalesce r g runs (lower.in_range packet (user_event e) is) why;
+  sound = λ g. ready-received lower m.agent e.time (event_of e.name e.payload) e.coalesce r (ready m.agent g) runs (lower.in_range packet (user_event e) is) why;
 }
   where
     by : (r : Option Reason) → admission m.agent e.time (event_of e.name e.payload) ≡ r → DeliveryEffect m to number now packet (planned m.agent (received_as r m.agent e.time (event_of e.name e.payload) e.coalesce))
@@ -169,7 +173,7 @@ acts-event lower m to number now packet e r is runs why = record {
 
 acts-query : Below → (m : IdealNode) (to number now : ℕ) (packet : List ℕ) (q : Query) (r : Option Reason) → decoded packet ≡ Ok (query q) → m.agent.snapshot.stopped ≡ false → query_admission m.agent q.time q.id ≡ r
     → DeliveryActs m to number now packet (planned m.agent (query_received_as false r m.agent now q))
-acts-query lower m to number now packet q r is runs why = record { effect = by r why; sound = λ g. representable-query_received lower m.agent now q r g runs (lower.in_range packet (query q) is).time why }
+acts-query lower m to number now packet q r is runs why = record { effect = by r why; sound = λ g. ready-query_received lower m.agent now q r (ready m.agent g) runs (lower.in_range packet (query q) is).time why }
   where
     by : (r : Option Reason) → query_admission m.agent q.time q.id ≡ r → DeliveryEffect m to number now packet (planned m.agent (query_received_as false r m.agent now q))
     by (Some reason) why = idles m _ _ _ _ refl refl refl refl refl (ignored m.agent packet (Ok (query q)) reason is tt)
@@ -182,8 +186,8 @@ acts-response m to number now packet r (Some q) is at = by (answer_ignore_reason
   where
     by-room : (full ack : Bool) → answer_ignore_reason now r q ≡ None → is_ack r ≡ ack → DeliveryActs m to number now packet (planned m.agent (counts_where full ack m.agent r q))
     by-room true ack none kind = stays m tt
-    by-room false true none kind = record { effect = counts to number now packet r q true is at none kind; sound = λ g. representable-counted m.agent now r q g at none }
-    by-room false false none kind = record { effect = counts to number now packet r q false is at none kind; sound = λ g. representable-counted m.agent now r q g at none }
+    by-room false true none kind = record { effect = counts to number now packet r q true is at none kind; sound = λ g. ready-counted m.agent now r q (ready m.agent g) at none }
+    by-room false false none kind = record { effect = counts to number now packet r q false is at none kind; sound = λ g. ready-counted m.agent now r q (ready m.agent g) at none }
 
     by : (s : Option Reason) → answer_ignore_reason now r q ≡ s → DeliveryActs m to number now packet (planned m.agent (response_received_as s m.agent r q))
     by (Some reason) none = stays m (ignored m.agent packet (Ok (query_response r)) reason is tt)
@@ -194,7 +198,7 @@ acts-asks : Below → (m : IdealNode) (given : Option (List ℕ)) (agent : ℕ) 
 acts-asks lower m given agent q (Some fault) is = stays m tt
 acts-asks lower m given agent q None is = record {
   effect = kept-or-failed (λ o. Effect m (Of agent (acts.Query q)) given (called m o query_gives)) m.agent (query_fired_as None m.agent q.moment (as_message m q)) (asks agent q is) (λ d. snaps m tt);
-  sound = λ g. representable-query_fired lower m.agent q.moment (as_message m q) None g refl (λ e. may-ask m.agent q.id q.name q.payload q.params is);
+  sound = λ g. ready-query_fired lower m.agent q.moment (as_message m q) None (ready m.agent g) refl (λ e. may-ask m.agent q.id q.name q.payload q.params is);
 }
 
 acts-responds : (m : IdealNode) (given : Option (List ℕ)) (agent number now : ℕ) (payload : List ℕ) (q : Option (Option Handed)) → slice_get m.handed number ≡ q
@@ -205,7 +209,7 @@ acts-responds m given agent number now payload (Some (Some h)) at = by (respond_
   where
     by : (r : Option RespondFault) → respond_fault h now payload ≡ r → Acts m (Of agent (acts.Respond number now payload)) given (responds_as r m number h payload)
     by (Some fault) is = stays m tt
-    by None is = record { effect = replies agent number now payload h at is; sound = λ g. g }
+    by None is = record { effect = replies agent number now payload h at is; sound = λ g. ready m.agent g }
 
 -- ---- deliveries
 
@@ -264,26 +268,69 @@ heard : (es : List (TimedEntry EventBody)) (i : IdealAgent) → (let o = merges_
 heard [] i = rests i i [] refl refl refl refl refl
 heard (e ∷ es) i = let o = planned i (receive_one i e) in heard-on i e es o (merges_events es) (heard-one i e es (admission i e.time e.key) refl) (heard es o.agent)
 
+-- the same but for its clocks, its least times and its snapshot
+record Rested (i j : IdealAgent) : Type 0 where
+  config : j.config ≡ i.config
+  life : j.life ≡ i.life
+  events : j.events.history ≡ i.events.history
+  queries : j.queries.history ≡ i.queries.history
+  asked : j.asked ≡ i.asked
+
+-- what it hears from there on, it hears
+hears-from : (i j k : IdealAgent) (es : List (TimedEntry EventBody)) (outs : List EventOut) → Rested i j → Hears j k es outs → Hears i k es outs
+hears-from i j k es outs r h = record {
+  config = h.config ∙ r.config;
+  life = h.life ∙ r.life;
+  events = subst (λ (l : List (Past EventBody)). Enters i.life i.config.per_time l k.events.history (map out_in outs)) r.events
+      (subst (λ (l : ℕ). Enters l i.config.per_time j.events.history k.events.history (map out_in outs)) r.life
+      (subst (λ (c : Config). Enters j.life c.per_time j.events.history k.events.history (map out_in outs)) r.config h.events));
+  queries = h.queries ∙ r.queries;
+  asked = h.asked ∙ r.asked;
+  among = h.among;
+}
+
+-- an agent that hears of another's state
+rested-heard : (i : IdealAgent) (s : PushPull) (join : Bool) → Rested i (planned i (hear i s join)).agent
+rested-heard i s join = by (told_least i.config s join)
+  where
+    line-rested : (line : List ℕ) (w : Writing) → Rested i (ended i (heard_by (Some line) i s join) w).agent
+    line-rested line Kept = record { config = refl; life = refl; events = refl; queries = refl; asked = refl }
+    line-rested line (Failed k) = record { config = refl; life = refl; events = refl; queries = refl; asked = refl }
+
+    by : (line : Option (List ℕ)) → Rested i (planned i (heard_by line i s join)).agent
+    by None = record { config = refl; life = refl; events = refl; queries = refl; asked = refl }
+    by (Some line) = line-rested line (will i (heard_by (Some line) i s join))
+
+pub heard-config : (i : IdealAgent) (s : PushPull) (join : Bool) → (planned i (hear i s join)).agent.config ≡ i.config
+heard-config i s join = (rested-heard i s join).config
+
+pub received-config : (i : IdealAgent) (e : TimedEntry EventBody) → (planned i (receive_one i e)).agent.config ≡ i.config
+received-config i e = (heard-one i e [] (admission i e.time e.key) refl).config
+
+merge-effect : (m : IdealNode) (to number : ℕ) (join : Bool) (packet : List ℕ) (s : PushPull) → decoded packet ≡ Ok (push_pull s) → (o : Step (Result (Unit {0}) MergeFault)) → Rested m.agent o.agent
+    → Effect m (Of to (acts.Merge number join)) (Some packet) (merges_heard m (events_of s.slots) o)
+merge-effect m to number join packet s is o r = by o.answer
+  where
+    h : (let n = merges_events (events_of s.slots) o.agent in Hears m.agent n.agent (events_given (Some packet)) n.events)
+    h =
+        let n : Merged = merges_events (events_of s.slots) o.agent in
+        subst (λ es. Hears m.agent n.agent es n.events) (ap events_brought (sym is)) (hears-from m.agent o.agent n.agent (events_of s.slots) n.events r (heard (events_of s.slots) o.agent))
+
+    merged : (failed : Bool) → (let n = merges_events (events_of s.slots) o.agent in Effect m (Of to (acts.Merge number join)) (Some packet)
+        (record { node = record { agent = n.agent; handed = m.handed }; done = record { answer = cond failed (lines.Refused SinkFault) lines.Merged; packets = []; events = n.events; handed = None } }))
+    merged true = hears _ _ _ h tt
+    merged false = hears _ _ _ h tt
+
+    by : (x : Result (Unit {0}) MergeFault) → Effect m (Of to (acts.Merge number join)) (Some packet) (merges_heard m (events_of s.slots) (record { agent = o.agent; answer = x }))
+    by (Ok done) = merged (merges_events (events_of s.slots) o.agent).failed
+    by (Err fault) = idles m (Of to (acts.Merge number join)) (Some packet) o.agent (lines.Refused (merge_refusal_of fault)) r.config r.life r.events r.queries r.asked tt
+
 acts-merge : Below → (m : IdealNode) (to number : ℕ) (join : Bool) (packet : List ℕ) (f : Option MergeFault) (r : Result Message WireFault) → decoded packet ≡ r → merge_refusal m.agent.snapshot r ≡ f
     → Acts m (Of to (acts.Merge number join)) (Some packet) (merges_as f m join r)
-acts-merge lower m to number join packet None (Ok (push_pull s)) is refuses = record { effect = by (merges_events (events_of s.slots) (joined s join m.agent)).failed; sound = λ g. representable-merged lower m.agent join packet s g is refuses }
-  where
-    h : (let o = merges_events (events_of s.slots) (joined s join m.agent) in Hears m.agent o.agent (events_given (Some packet)) o.events)
-    h =
-        let g = heard (events_of s.slots) (joined s join m.agent) in
-        record {
-          config = g.config;
-          life = g.life;
-          events = g.events;
-          queries = g.queries;
-          asked = g.asked;
-          among = subst (λ es. All (Contains es) (map out_in (merges_events (events_of s.slots) (joined s join m.agent)).events)) (ap events_brought (sym is)) g.among;
-        }
-
-    by : (failed : Bool) → (let o = merges_events (events_of s.slots) (joined s join m.agent) in Effect m (Of to (acts.Merge number join)) (Some packet)
-        (record { node = record { agent = o.agent; handed = m.handed }; done = record { answer = cond failed (lines.Refused SinkFault) lines.Merged; packets = []; events = o.events; handed = None } }))
-    by true = hears _ _ _ h tt
-    by false = hears _ _ _ h tt
+acts-merge lower m to number join packet None (Ok (push_pull s)) is refuses = record {
+  effect = merge-effect m to number join packet s is (planned m.agent (hear m.agent s join)) (rested-heard m.agent s join);
+  sound = λ g. ready-merged lower m join packet s (ready m.agent g) is refuses;
+}
 acts-merge lower m to number join packet (Some fault) r is refuses = stays m tt
 acts-merge lower m to number join packet None _ is refuses = stays m tt
 
@@ -300,7 +347,7 @@ acts-state m action given = by m.agent.snapshot.stopped (has_long (push_pull (st
         → Acts m action given (does_nothing m (state_gives (cond stopped (Err states.Stopped) (cond long (Err states.TooLong) (Ok (canonical (push_pull (state_of (view_of m.agent) [] []))))))))
     by true long is = stays m tt
     by false true is = stays m tt
-    by false false is = record { effect = tells is; sound = λ g. g }
+    by false false is = record { effect = tells is; sound = λ g. ready m.agent g }
 
 acts-saves : Below → (m : IdealNode) (action : Action) (given : Option (List ℕ)) → Acts m action given (saves m)
 acts-saves lower m action given = by m.agent.snapshot.stopped refl
@@ -309,7 +356,7 @@ acts-saves lower m action given = by m.agent.snapshot.stopped refl
     by true is = stays m tt
     by false is = record {
       effect = kept-or-failed (λ o. Effect m action given (called m o (note_gives lines.Saved))) m.agent (saving m.agent) (snaps m tt) (λ d. snaps m tt);
-      sound = λ g. representable-saved lower m.agent g is;
+      sound = λ g. ready-saved lower m.agent (ready m.agent g) is;
     }
 
 acts-compacts : Below → (m : IdealNode) (action : Action) (given : Option (List ℕ)) → Acts m action given (compacts m)
@@ -319,7 +366,7 @@ acts-compacts lower m action given = by m.agent.snapshot.stopped
     by true = stays m tt
     by false = record {
       effect = kept-or-failed (λ o. Effect m action given (called m o (note_gives lines.Compacted))) m.agent (compacting m.agent) (snaps m tt) (λ d. snaps m tt);
-      sound = λ g. representable-compacted lower m.agent g;
+      sound = λ g. ready-compacted lower m.agent (ready m.agent g);
     }
 
 -- ---- each action
@@ -331,14 +378,22 @@ acts-of lower m sent a acts.State = acts-state m (Of a acts.State) None
 acts-of lower m sent a (acts.Merge number join) = acts-merges lower m a number join (slice_get sent number)
 acts-of lower m sent a (acts.Query q) = acts-asks lower m None a q (query_fault m.agent q.id q.name q.payload q.params) refl
 acts-of lower m sent a (acts.Respond number now payload) = acts-responds m None a number now payload (slice_get m.handed number) refl
-acts-of lower m sent a (acts.Restart tail) = record { effect = reopens a tail; sound = λ g. representable-opened lower m.agent (text_after m.agent tail) g.consistent.sound (text-has lower m.agent tail g.consistent) }
-acts-of lower m sent a (acts.Break call n) = record { effect = snaps m tt; sound = representable-planned m.agent (plan_with call n) }
-acts-of lower m sent a (acts.Close now) = record { effect = closes_due a now; sound = representable-closed m.agent now }
+acts-of lower m sent a (acts.Restart tail) = record { effect = reopens a tail; sound = λ g. ready-opened lower m.agent (text_after m.agent tail) g.consistent.sound (text-past lower m.agent tail g) }
+acts-of lower m sent a (acts.Break call n) = record { effect = snaps m tt; sound = λ g. ready-planned m.agent (plan_with call n) (ready m.agent g) }
+acts-of lower m sent a (acts.Close now) = record { effect = closes_due a now; sound = λ g. ready-closed m.agent now (ready m.agent g) }
 acts-of lower m sent a acts.Save = acts-saves lower m (Of a acts.Save) None
 acts-of lower m sent a acts.Compact = acts-compacts lower m (Of a acts.Compact) None
 
 pub effect : Below → (m : IdealNode) (sent : List (List ℕ)) (a : ℕ) (act : Act) → Effect m (Of a act) (given_by sent act) (apply m sent act)
 effect lower m sent a act = (acts-of lower m sent a act).effect
 
-pub representable-apply : Below → (m : IdealNode) (sent : List (List ℕ)) (act : Act) → IsRepresentable m.agent → IsRepresentable (apply m sent act).node.agent
-representable-apply lower m sent act = (acts-of lower m sent 0 act).sound
+-- no action changes settings
+pub settings-kept : (m : IdealNode) (action : Action) (given : Option (List ℕ)) (o : Applied) → Effect m action given o → o.node.agent.config ≡ m.agent.config
+settings-kept m action given _ (hears j outs answer h idle) = h.config
+settings-kept m action given _ _ = refl
+
+pub representable-apply : Below → (m : IdealNode) (sent : List (List ℕ)) (act : Act) → CanTellAct m.agent.config act (given_by sent act) → IsRepresentable m.agent → IsRepresentable (apply m sent act).node.agent
+representable-apply lower m sent act told g =
+    let r = (acts-of lower m sent 0 act).sound g in
+    let same : (apply m sent act).node.agent.config ≡ m.agent.config = settings-kept m (Of 0 act) (given_by sent act) (apply m sent act) (effect lower m sent 0 act) in
+    record { consistent = r.consistent; durable = λ keeps. durable-apply lower m sent act g told (sym (ap (λ (c : Config). c.keep_events) same) ∙ keeps); events = r.events; queries = r.queries }

@@ -1,88 +1,20 @@
 -- Where the events come from that are handed out and sent.
-use Rattle.serf_model.proofs.Names.{zero, suc, ◌≡◌, ℕ, inl, inr, Bool, true, false, cond, List, [], ◌∷◌, ◌++◌, Option, Some, None, Result, refl, sym, ap, subst, ◌∙◌, map, All, Contains, slice_get, not, AllByRecursion, flat_map, option_to_list, append-nil, flat_map-append, All-nil, All-cons, All-head, All-tail, All-append, All-contains, All-map, All-weaker, All-contains_itself, Contains-append_left, Contains-append_right, WireFault, EventBody, canonical, Message, Query, query, push_pull, event_of, TimedEntry, Config, EventOut, event_packet, Past, query_at, ack_if_passed, ack_packet, all_pass, ack_flag, has_flag, no_broadcast_flag, response_packet, state_of, view_of}
+use Rattle.serf_model.proofs.Names.{◌≡◌, ℕ, inl, inr, true, false, cond, List, [], ◌∷◌, ◌++◌, Option, Some, None, refl, sym, ap, subst, ◌∙◌, arith, map, All, Contains, slice_get, flat_map, flat_map-append, All-nil, All-cons, All-head, All-tail, All-weaker, All-contains_itself, Contains-append_left, Contains-append_right, EventBody, TimedEntry, Config, EventOut}
 use Rattle.serf_model.specs.Below.{Below}
 use Rattle.serf_model.specs.declared.action.Action.{Action}
 use Rattle.serf_model.specs.declared.action.Act.{Act}
-use Rattle.serf_model.specs.declared.action.Act.TheVariants as acts
-use Rattle.serf_model.specs.declared.action.Action.TheVariants.{Of}
-use Rattle.serf_model.specs.Cluster.{IdealNode, Cluster, Applied, Done, Run, Stepped, apply, applied, injects, on_agent, after, start, first_node, with_handed, event_line}
-use Rattle.serf_model.specs.Promises.{WasFired, OnlyFired, CarriesOnlyFired}
-use Rattle.serf_model.specs.Trace.{Turn, fired_by, fired_in, injected_events, injected_in, injects_of, events_in_packet, events_brought, event_in, packet_given, given_by}
-use Rattle.serf_model.specs.HandOuts.{events_given}
-use Rattle.serf_model.proofs.Effects.{Effect, asks, effect, fires, hears, is_asked, passes_on, replies, tells, as_message}
-use Rattle.serf_model.proofs.StepCases.{step-cases}
-use Rattle.serf_model.proofs.TurnLaws.{at_each_nil, at_each_push, flat_map-push}
-use Rattle.serf_model.proofs.HistoryGrowth.{keeps-apply}
-use Rattle.serf_model.proofs.PerTimeBound.{enters-entries, entries, out_in}
+use Rattle.serf_model.specs.declared.action.Action.TheVariants.{Inject, Of}
+use Rattle.serf_model.specs.Cluster.{IdealNode, Cluster, Applied, Run, apply, applied, injects, on_agent, after, start, event_line}
+use Rattle.serf_model.specs.Promises.{WasFired, WasFiredOrTailed, OnlyFired, OnlyFiredOrTailed, CarriesOnlyFired, CarriesOnlyFiredOrTailed}
 use Rattle.serf_model.specs.Ready.{IsRepresentable}
-use Rattle.serf_model.proofs.CallsKept.{may-fire}
-use Rattle.serf_model.proofs.PacketEvents.{events_in_packet-event, events_in_packet-query, events_in_packet-response, state-carries}
-use Rattle.serf_model.proofs.RunLaws.{IsAfter, all-at, all-put}
-
--- all that is handed out has P, and all that packets carry that are sent
-record AllHave (P : TimedEntry EventBody → Type 0) (done : Done) : Type 0 where
-  events : All P (map out_in done.events)
-  packets : All (λ p. All P (events_in_packet p)) done.packets
-
-abbrev Carries : (TimedEntry EventBody → Type 0) → List ℕ → Type 0
-Carries P packet = All P (events_in_packet packet)
-
-pub one : {X : Type 0} (P : X → Type 0) (x : X) → P x → All P (x ∷ [])
-one P x h = All-cons P x [] h (All-nil P)
-
-none : (P : TimedEntry EventBody → Type 0) (packet : List ℕ) → events_in_packet packet ≡ [] → Carries P packet
-none P packet is = subst (All P) (sym is) (All-nil P)
-
--- what a query's ack has, if there is one
-pub ack-has : (Q : List ℕ → Type 0) (node : List ℕ) (q : Query) → Q (ack_packet node q) → All Q (option_to_list (ack_if_passed false node q))
-ack-has Q node q has = by (all_pass false q.filters node) (has_flag ack_flag q.flags)
-  where
-    by : (passes wants : Bool) → All Q (option_to_list (cond passes (cond wants (Some (ack_packet node q)) None) None))
-    by true true = one Q (ack_packet node q) has
-    by true false = All-nil Q
-    by false wants = All-nil Q
-
--- what is sent of a query that is new
-pub entered-has : (Q : List ℕ → Type 0) (node packet : List ℕ) (q : Query) (b : Bool) → Q packet → Q (ack_packet node q) → All Q (cond b (packet ∷ []) [] ++ option_to_list (ack_if_passed false node q))
-entered-has Q node packet q true here has = All-cons Q packet (option_to_list (ack_if_passed false node q)) here (ack-has Q node q has)
-entered-has Q node packet q false here has = ack-has Q node q has
-
-no-event-ack : (P : TimedEntry EventBody → Type 0) (node : List ℕ) (q : Query) → Carries P (ack_packet node q)
-no-event-ack P node q = none P (ack_packet node q) (events_in_packet-response q.time q.id node ack_flag [])
-
-brought : (P : TimedEntry EventBody → Type 0) (given : Option (List ℕ)) → ((packet : List ℕ) → given ≡ Some packet → Carries P packet) → All P (events_given given)
-brought P None carries = All-nil P
-brought P (Some packet) carries = carries packet refl
-
--- Given P of all that the agent entered, of all that its packet carries, and of what this action fires, all that it hands
--- out has P, and all that it sends carries.
-have-effect : Below → (P : TimedEntry EventBody → Type 0) (m : IdealNode) (action : Action) (given : Option (List ℕ)) (o : Applied) → Effect m action given o → IsRepresentable m.agent → All (λ p. P p.entry) m.agent.events.history
-    → ((packet : List ℕ) → given ≡ Some packet → Carries P packet) → All P (fired_by action o.done.answer) → AllHave P o.done
-have-effect lower P m action given o (hears j outs answer heard idle) g all carries fired = record {
-  events = All-weaker (Contains (events_given given)) P (λ e c. All-contains P (events_given given) e (brought P given carries) c) (map out_in outs) heard.among;
-  packets = All-nil (Carries P);
-}
-have-effect lower P m action given o (fires agent name payload coalesce is) g all carries fired =
-    let may = may-fire m.agent (event_of name payload) coalesce g.consistent.sound is in
-    record {
-      events = fired;
-      packets = one (Carries P) (event_packet m.agent.events.clock (event_of name payload) coalesce)
-          (subst (All P) (sym (events_in_packet-event lower m.agent.events.clock (event_of name payload) coalesce may.clock may.short)) fired);
-    }
-have-effect lower P m action given o (passes_on packet e is new) g all carries fired = record {
-  events = subst (λ (r : Result Message WireFault). All P (events_brought r)) is (carries packet refl);
-  packets = one (Carries P) packet (carries packet refl);
-}
-have-effect lower P m action given o (asks agent q may) g all carries fired =
-    let q : Query = as_message m q in
-    record { events = All-nil P; packets = All-cons (Carries P) (canonical (query q)) (option_to_list (ack_if_passed false m.agent.config.name q)) (none P (canonical (query q)) (events_in_packet-query q)) (ack-has (Carries P) m.agent.config.name q (no-event-ack P m.agent.config.name q)) }
-have-effect lower P m action given o (is_asked to number packet now q is new) g all carries fired =
-    record { events = All-nil P; packets = entered-has (Carries P) m.agent.config.name packet q (not (has_flag no_broadcast_flag q.flags)) (carries packet refl) (no-event-ack P m.agent.config.name q) }
-have-effect lower P m action given o (tells short) g all carries fired =
-    record { events = All-nil P; packets = one (Carries P) (canonical (push_pull (state_of (view_of m.agent) [] []))) (state-carries lower P m.agent g short all) }
-have-effect lower P m action given o (replies agent number now payload h at may) g all carries fired =
-    record { events = All-nil P; packets = one (Carries P) (response_packet h payload) (none P (response_packet h payload) (events_in_packet-response h.time h.id h.node 0 payload)) }
-have-effect lower P m action given o _ g all carries fired = record { events = All-nil P; packets = All-nil (Carries P) }
+use Rattle.serf_model.specs.Tails.{NoneKeeps, actor_keeps, keeps, tail_events, tailed_by, tailed_in}
+use Rattle.serf_model.specs.Trace.{Turn, actor_of, event_in, events_in_packet, fired_by, fired_in, injected_events, injected_in, injects_of}
+use Rattle.serf_model.proofs.PacketsHave.{AllHave, Carries}
+use Rattle.serf_model.proofs.PerTimeBound.{out_in}
+use Rattle.serf_model.proofs.RunLaws.{CanTellIt, IsAfter, all-at, none-keeps, settings-at, tells-at}
+use Rattle.serf_model.proofs.Spreading.{Spreads, spreads-applied, spreads-injected, spreads-weaker}
+use Rattle.serf_model.proofs.StartLaws.{spreads-start}
+use Rattle.serf_model.proofs.TurnLaws.{at_each_nil, at_each_push, flat_map-push}
 
 -- ---- what was fired stays fired
 
@@ -109,76 +41,61 @@ forges-now turns turn =
     All-weaker (Contains es) (WasFired (turns ++ turn ∷ []))
     (λ e h. inr (subst (λ (l : List (TimedEntry EventBody)). Contains l e) (sym (injected-push turns turn)) (Contains-append_right (injected_events turns) es e h))) es (All-contains_itself es)
 
--- ---- after a run all that agents entered, and all that packets carry, was fired
+-- ---- tails
 
-pub record IsFired (c : Cluster) (turns : List Turn) : Type 0 where
-  pub entered : AllByRecursion (λ m. All (λ p. WasFired turns p.entry) m.agent.events.history) c.nodes
-  pub packets : All (Carries (WasFired turns)) c.sent
-  pub handed_out : OnlyFired turns
-  pub carries : CarriesOnlyFired turns
+tails-push : (configs : List Config) (turns : List Turn) (turn : Turn) → tail_events configs (turns ++ turn ∷ []) ≡ tail_events configs turns ++ tailed_in configs turn
+tails-push configs turns turn = flat_map-push (tailed_in configs) turns turn
 
-abbrev OnlyFiredAt : List Turn → Turn → Type 0
-OnlyFiredAt before turn = All (λ e. WasFired (before ++ turn ∷ []) (event_in e)) turn.line.events
+-- an agent that keeps its events takes its tail back
+pub tailed-is : (configs : List Config) (b : ℕ) (config : Config) (turn : Turn) → actor_of turn.action ≡ Some b → slice_get configs b ≡ Some config → config.keep_events ≡ true → tailed_in configs turn ≡ tailed_by turn.action
+tailed-is configs b config turn actor at keeping =
+    ap (λ a. cond (actor_keeps configs a) (tailed_by turn.action) []) actor ∙ ap (λ c. cond (keeps c) (tailed_by turn.action) []) at ∙ ap (λ x. cond x (tailed_by turn.action) []) keeping
 
-abbrev CarriesAt : List Turn → Turn → Type 0
-CarriesAt before turn = All (λ packet. All (WasFired (before ++ turn ∷ [])) (events_in_packet packet)) turn.packets
+-- where no agent keeps its events, none takes a tail back
+none-keep : (configs : List Config) (r : Option Config) (a : ℕ) → NoneKeeps configs → slice_get configs a ≡ r → keeps r ≡ false
+none-keep configs None a none at = refl
+none-keep configs (Some c) a none at = none-keeps configs a c none at
 
-all-each : {X : Type 0} (P Q : X → Type 0) (xs : List X) → ((x : X) → P x → Q x) → AllByRecursion P xs → AllByRecursion Q xs
-all-each P Q [] up all = tt
-all-each P Q (x ∷ xs) up all = (up x all.0, all-each P Q xs up all.1)
+none-tailed : (configs : List Config) (turn : Turn) → NoneKeeps configs → tailed_in configs turn ≡ []
+none-tailed configs turn none = ap (λ x. cond x (tailed_by turn.action) []) (by (actor_of turn.action))
+  where
+    by : (a : Option ℕ) → actor_keeps configs a ≡ false
+    by None = refl
+    by (Some a) = none-keep configs (slice_get configs a) a none refl
 
-nodes-more : (turns : List Turn) (turn : Turn) (ms : List IdealNode) → AllByRecursion (λ m. All (λ p. WasFired turns p.entry) m.agent.events.history) ms → AllByRecursion (λ m. All (λ p. WasFired (turns ++ turn ∷ []) p.entry) m.agent.events.history) ms
-nodes-more turns turn ms all =
-    all-each (λ (m : IdealNode). All (λ (p : Past EventBody). WasFired turns p.entry) m.agent.events.history) (λ (m : IdealNode). All (λ (p : Past EventBody). WasFired (turns ++ turn ∷ []) p.entry) m.agent.events.history) ms
-    (λ m h. All-weaker (λ (p : Past EventBody). WasFired turns p.entry) (λ (p : Past EventBody). WasFired (turns ++ turn ∷ []) p.entry) (λ p w. was-fired-more turns turn p.entry w) m.agent.events.history h) all
+pub no-tails : (configs : List Config) (turns : List Turn) → NoneKeeps configs → tail_events configs turns ≡ []
+no-tails configs [] none = refl
+no-tails configs (t ∷ ts) none = ap (λ l. l ++ tail_events configs ts) (none-tailed configs t none) ∙ no-tails configs ts none
 
-packets-more : (turns : List Turn) (turn : Turn) (ps : List (List ℕ)) → All (Carries (WasFired turns)) ps → All (Carries (WasFired (turns ++ turn ∷ []))) ps
-packets-more turns turn ps all =
-    All-weaker (Carries (WasFired turns)) (Carries (WasFired (turns ++ turn ∷ []))) (λ p h. All-weaker (WasFired turns) (WasFired (turns ++ turn ∷ [])) (was-fired-more turns turn) (events_in_packet p) h) ps all
+-- ---- what was fired or stood in a tail stays so
 
--- a packet among those sent
-sent-at : {X : Type 0} (P : X → Type 0) (xs : List X) (k : ℕ) (x : X) → All P xs → slice_get xs k ≡ Some x → P x
-sent-at P [] k x all is = absurd (cc is)
-sent-at P (y ∷ ys) zero x all is = let same : y ≡ x = cc is in subst P same (All-head P y ys all)
-sent-at P (y ∷ ys) (suc k) x all is = sent-at P ys k x (All-tail P y ys all) is
+was-more : (configs : List Config) (turns : List Turn) (turn : Turn) (e : TimedEntry EventBody) → WasFiredOrTailed configs turns e → WasFiredOrTailed configs (turns ++ turn ∷ []) e
+was-more configs turns turn e (inl h) = inl (was-fired-more turns turn e h)
+was-more configs turns turn e (inr h) = inr (subst (λ (l : List (TimedEntry EventBody)). Contains l e) (sym (tails-push configs turns turn)) (Contains-append_left (tail_events configs turns) (tailed_in configs turn) e h))
 
-pub given-sent : (P : List ℕ → Type 0) (sent : List (List ℕ)) (action : Action) (packet : List ℕ) → All P sent → packet_given sent action ≡ Some packet → P packet
-given-sent P sent (Of a (acts.Deliver k now)) packet all is = sent-at P sent k packet all is
-given-sent P sent (Of a (acts.Merge k join)) packet all is = sent-at P sent k packet all is
-given-sent P sent _ packet all is = absurd (cc is)
+tails-now : (configs : List Config) (turns : List Turn) (turn : Turn) → tailed_in configs turn ≡ tailed_by turn.action → All (WasFiredOrTailed configs (turns ++ turn ∷ [])) (tailed_by turn.action)
+tails-now configs turns turn is =
+    let es = tailed_by turn.action in
+    All-weaker (Contains es) (WasFiredOrTailed configs (turns ++ turn ∷ []))
+    (λ e h. inr (subst (λ (l : List (TimedEntry EventBody)). Contains l e) (sym (tails-push configs turns turn ∙ ap (λ l. tail_events configs turns ++ l) is)) (Contains-append_right (tail_events configs turns) es e h))) es (All-contains_itself es)
+
+-- ---- after a run all that agents entered, and all that packets carry, was fired, or a tail brought it
+
+pub record IsFired (configs : List Config) (c : Cluster) (turns : List Turn) : Type 0 where
+  pub spreads : Spreads (WasFiredOrTailed configs turns) c
+  pub handed_out : OnlyFiredOrTailed configs turns
+  pub carries : CarriesOnlyFiredOrTailed configs turns
+
+abbrev OnlyFiredAt : List Config → List Turn → Turn → Type 0
+OnlyFiredAt configs before turn = All (λ e. WasFiredOrTailed configs (before ++ turn ∷ []) (event_in e)) turn.line.events
+
+abbrev CarriesAt : List Config → List Turn → Turn → Type 0
+CarriesAt configs before turn = All (λ packet. All (WasFiredOrTailed configs (before ++ turn ∷ [])) (events_in_packet packet)) turn.packets
 
 -- the lines of what was handed out
 lines-have : (P : TimedEntry EventBody → Type 0) (a : ℕ) (outs : List EventOut) → All P (map out_in outs) → All (λ e. P (event_in e)) (map (event_line a) outs)
 lines-have P a [] all = All-nil (λ e. P (event_in e))
 lines-have P a (o ∷ os) all = All-cons (λ e. P (event_in e)) (event_line a o) (map (event_line a) os) (All-head P (out_in o) (map out_in os) all) (lines-have P a os (All-tail P (out_in o) (map out_in os) all))
-
--- the entries that an agent has after a call
-entries-have : (P : TimedEntry EventBody → Type 0) (h : List (Past EventBody)) → All (λ p. P p.entry) h → All P (entries h)
-entries-have P h all = All-map P (λ (p : Past EventBody). p.entry) h all
-
-have-entries : (P : TimedEntry EventBody → Type 0) (h : List (Past EventBody)) → All P (entries h) → All (λ p. P p.entry) h
-have-entries P [] all = All-nil (λ p. P p.entry)
-have-entries P (p ∷ ps) all = All-cons (λ (p : Past EventBody). P p.entry) p ps (All-head P p.entry (entries ps) all) (have-entries P ps (All-tail P p.entry (entries ps) all))
-
-fired-applied : (c : Cluster) (turns : List Turn) (b : ℕ) (act : Act) (m : IdealNode) (o : Applied) → IsFired c turns → slice_get c.nodes b ≡ Some m
-    → entries o.node.agent.events.history ≡ entries m.agent.events.history ++ map out_in o.done.events
-    → ((P : TimedEntry EventBody → Type 0) → All (λ p. P p.entry) m.agent.events.history → ((packet : List ℕ) → given_by c.sent act ≡ Some packet → Carries P packet) → All P (fired_by (Of b act) o.done.answer) → AllHave P o.done)
-    → IsFired (applied c b act o).cluster (turns ++ (applied c b act o).turn ∷ [])
-fired-applied c turns b act m o h at grows have =
-    let turn : Turn = (applied c b act o).turn in
-    let P : TimedEntry EventBody → Type 0 = WasFired (turns ++ turn ∷ []) in
-    let E : IdealNode → Type 0 = λ m. All (λ p. P p.entry) m.agent.events.history in
-    let nodes : AllByRecursion E c.nodes = nodes-more turns turn c.nodes h.entered in
-    let packets : All (Carries P) c.sent = packets-more turns turn c.sent h.packets in
-    let old : E m = all-at E c.nodes b m nodes at in
-    let has : AllHave P o.done = have P old (λ packet is. given-sent (Carries P) c.sent (Of b act) packet packets is) (fires-now turns turn) in
-    record {
-      entered = all-put E c.nodes b (with_handed o.done.handed o.node) nodes
-          (have-entries P o.node.agent.events.history (subst (All P) (sym grows) (All-append P (entries m.agent.events.history) (map out_in o.done.events) (entries-have P m.agent.events.history old) has.events)));
-      packets = All-append (Carries P) c.sent o.done.packets packets has.packets;
-      handed_out = at_each_push OnlyFiredAt turns turn h.handed_out (lines-have P b o.done.events has.events);
-      carries = at_each_push CarriesAt turns turn h.carries has.packets;
-    }
 
 all-front : {X : Type 0} (P : X → Type 0) (xs ys : List X) → All P (xs ++ ys) → All P xs
 all-front P [] ys all = All-nil P
@@ -192,33 +109,71 @@ pub all-parts : {X Y : Type 0} (P : Y → Type 0) (f : X → List Y) (xs : List 
 all-parts P f [] all = All-nil (λ x. All P (f x))
 all-parts P f (x ∷ xs) all = All-cons (λ y. All P (f y)) x xs (all-front P (f x) (flat_map f xs) all) (all-parts P f xs (all-back P (f x) (flat_map f xs) all))
 
--- a turn that leaves the agents, and hands no event out
-fired-still : (c : Cluster) (turns : List Turn) (s : Stepped) → IsFired c turns → s.cluster.nodes ≡ c.nodes → s.cluster.sent ≡ c.sent ++ s.turn.packets → s.turn.line.events ≡ []
-    → All (Carries (WasFired (turns ++ s.turn ∷ []))) s.turn.packets → IsFired s.cluster (turns ++ s.turn ∷ [])
-fired-still c turns s h nodes sent no_events carry =
-    let P : TimedEntry EventBody → Type 0 = WasFired (turns ++ s.turn ∷ []) in
+-- what all these packets carry, one by one
+parts-carry : (P : TimedEntry EventBody → Type 0) (packets : List (List ℕ)) → All P (flat_map events_in_packet packets) → All (Carries P) packets
+parts-carry P packets all = all-parts P events_in_packet packets all
+
+fired-acts : Below → (configs : List Config) (c : Cluster) (turns : List Turn) (b : ℕ) (act : Act) (m : IdealNode) → IsAfter configs c turns → CanTellIt configs (Of b act) → IsFired configs c turns → slice_get c.nodes b ≡ Some m
+    → (let s = applied c b act (apply m c.sent act) in IsFired configs s.cluster (turns ++ s.turn ∷ []))
+fired-acts lower configs c turns b act m h tells f at =
+    let o : Applied = apply m c.sent act in
+    let turn : Turn = (applied c b act (apply m c.sent act)).turn in
+    let P : TimedEntry EventBody → Type 0 = WasFiredOrTailed configs (turns ++ turn ∷ []) in
+    let representable = all-at (λ m. IsRepresentable m.agent) c.nodes b m h.representable at in
+    let old : Spreads P c = spreads-weaker (WasFiredOrTailed configs turns) P c (was-more configs turns turn) f.spreads in
+    let fired : All P (fired_by turn.action turn.line.answer) = All-weaker (WasFired (turns ++ turn ∷ [])) P (λ e w. inl w) (fired_by turn.action turn.line.answer) (fires-now turns turn) in
+    let both = spreads-applied lower P c b act m representable (tells-at configs c turns b act m h tells at) at old fired
+    (λ keeping. tails-now configs turns turn (tailed-is configs b m.agent.config turn refl (settings-at configs c turns b m h at) keeping)) in
+    let has : AllHave P o.done = both.1 in
     record {
-      entered = subst (AllByRecursion (λ (m : IdealNode). All (λ (p : Past EventBody). P p.entry) m.agent.events.history)) (sym nodes) (nodes-more turns s.turn c.nodes h.entered);
-      packets = subst (All (Carries P)) (sym sent) (All-append (Carries P) c.sent s.turn.packets (packets-more turns s.turn c.sent h.packets) carry);
-      handed_out = at_each_push OnlyFiredAt turns s.turn h.handed_out (subst (All (λ e. P (event_in e))) (sym no_events) (All-nil (λ e. P (event_in e))));
-      carries = at_each_push CarriesAt turns s.turn h.carries carry;
+      spreads = both.0;
+      handed_out = at_each_push (OnlyFiredAt configs) turns turn f.handed_out (lines-have P b o.done.events has.events);
+      carries = at_each_push (CarriesAt configs) turns turn f.carries has.packets;
     }
 
-fired-acts : Below → (c : Cluster) (turns : List Turn) (b : ℕ) (act : Act) (m : IdealNode) → IsAfter c turns → IsFired c turns → slice_get c.nodes b ≡ Some m → (let s = applied c b act (apply m c.sent act) in IsFired s.cluster (turns ++ s.turn ∷ []))
-fired-acts lower c turns b act m h f at =
-    let representable = all-at (λ m. IsRepresentable m.agent) c.nodes b m h.representable at in
-    fired-applied c turns b act m (apply m c.sent act) f at (enters-entries (keeps-apply lower m c.sent b act representable.consistent.sound).events)
-    (λ P old carries fired. have-effect lower P m (Of b act) (given_by c.sent act) (apply m c.sent act) (effect lower m c.sent b act) representable old carries fired)
+pub fired-step : Below → (configs : List Config) (r : Run) (action : Action) → CanTellIt configs action → IsAfter configs r.cluster r.turns → IsFired configs r.cluster r.turns → IsFired configs (after r action).cluster (after r action).turns
+fired-step lower configs r (Inject bytes) tells h f =
+    let c : Cluster = r.cluster in
+    let turn : Turn = (injects r.cluster bytes).turn in
+    let P : TimedEntry EventBody → Type 0 = WasFiredOrTailed configs (r.turns ++ turn ∷ []) in
+    let now : All P (flat_map events_in_packet (bytes ∷ [])) = All-weaker (WasFired (r.turns ++ turn ∷ [])) P (λ e w. inl w) (flat_map events_in_packet (bytes ∷ [])) (forges-now r.turns turn) in
+    let carry : All (Carries P) (bytes ∷ []) = parts-carry P (bytes ∷ []) now in
+    record {
+      spreads = spreads-injected P c bytes (spreads-weaker (WasFiredOrTailed configs r.turns) P c (was-more configs r.turns turn) f.spreads) (All-head (Carries P) bytes [] carry);
+      handed_out = at_each_push (OnlyFiredAt configs) r.turns turn f.handed_out (All-nil (λ e. P (event_in e)));
+      carries = at_each_push (CarriesAt configs) r.turns turn f.carries carry;
+    }
+fired-step lower configs r (Of b act) tells h f = by (slice_get r.cluster.nodes b) refl
+  where
+    by : (n : Option IdealNode) → slice_get r.cluster.nodes b ≡ n → (let s = on_agent r.cluster b act n in IsFired configs s.cluster (r.turns ++ s.turn ∷ []))
+    by None at =
+        let turn : Turn = (on_agent r.cluster b act None).turn in
+        let P : TimedEntry EventBody → Type 0 = WasFiredOrTailed configs (r.turns ++ turn ∷ []) in
+        record {
+          spreads = spreads-weaker (WasFiredOrTailed configs r.turns) P r.cluster (was-more configs r.turns turn) f.spreads;
+          handed_out = at_each_push (OnlyFiredAt configs) r.turns turn f.handed_out (All-nil (λ e. P (event_in e)));
+          carries = at_each_push (CarriesAt configs) r.turns turn f.carries (All-nil (Carries P));
+        }
+    by (Some m) at = fired-acts lower configs r.cluster r.turns b act m h tells f at
 
-pub fired-step : Below → (r : Run) (action : Action) → IsAfter r.cluster r.turns → IsFired r.cluster r.turns → IsFired (after r action).cluster (after r action).turns
-fired-step lower r action h f =
-    step-cases (λ s. IsFired s.cluster (r.turns ++ s.turn ∷ [])) r.cluster action
-    (λ bytes. let now = injects r.cluster bytes in fired-still r.cluster r.turns now f refl refl refl (all-parts (WasFired (r.turns ++ now.turn ∷ [])) events_in_packet (bytes ∷ []) (forges-now r.turns now.turn)))
-    (λ b act at. fired-still r.cluster r.turns (on_agent r.cluster b act None) f refl (sym (append-nil r.cluster.sent)) refl (All-nil (Carries (WasFired (r.turns ++ (on_agent r.cluster b act None).turn ∷ []))))) (λ b act m is at. fired-acts lower r.cluster r.turns b act m h f at)
+pub fired-start : Below → (configs : List Config) → IsFired configs (start configs).cluster []
+fired-start lower configs = record { spreads = spreads-start lower (WasFiredOrTailed configs []) configs; handed_out = at_each_nil (OnlyFiredAt configs); carries = at_each_nil (CarriesAt configs) }
 
-none-entered : (configs : List Config) → AllByRecursion (λ m. All (λ p. WasFired [] p.entry) m.agent.events.history) (map first_node configs)
-none-entered [] = tt
-none-entered (c ∷ cs) = (All-nil (λ (p : Past EventBody). WasFired [] p.entry), none-entered cs)
+-- ---- where no agent keeps its events
 
-pub fired-start : (configs : List Config) → IsFired (start configs).cluster []
-fired-start configs = record { entered = none-entered configs; packets = All-nil (Carries (WasFired [])); handed_out = at_each_nil OnlyFiredAt; carries = at_each_nil CarriesAt }
+pub in-none : {X : Type 0} (x : X) → Contains [] x → ⊥
+in-none x h = absurd (let lt = h.1 in omega arith)
+
+pub was-fired : (configs : List Config) (turns : List Turn) (e : TimedEntry EventBody) → NoneKeeps configs → WasFiredOrTailed configs turns e → WasFired turns e
+was-fired configs turns e none (inl h) = h
+was-fired configs turns e none (inr h) = absurd (in-none e (subst (λ (l : List (TimedEntry EventBody)). Contains l e) (no-tails configs turns none) h))
+
+pub fired-alone : (configs : List Config) (turns : List Turn) → NoneKeeps configs → OnlyFiredOrTailed configs turns → OnlyFired turns
+fired-alone configs turns none h before turn rest is =
+    All-weaker (λ e. WasFiredOrTailed configs (before ++ turn ∷ []) (event_in e)) (λ e. WasFired (before ++ turn ∷ []) (event_in e)) (λ e w. was-fired configs (before ++ turn ∷ []) (event_in e) none w) turn.line.events (h before turn rest is)
+
+pub carries-alone : (configs : List Config) (turns : List Turn) → NoneKeeps configs → CarriesOnlyFiredOrTailed configs turns → CarriesOnlyFired turns
+carries-alone configs turns none h before turn rest is =
+    let W : TimedEntry EventBody → Type 0 = WasFired (before ++ turn ∷ []) in
+    let T : TimedEntry EventBody → Type 0 = WasFiredOrTailed configs (before ++ turn ∷ []) in
+    All-weaker (Carries T) (Carries W) (λ p all. All-weaker T W (λ e w. was-fired configs (before ++ turn ∷ []) e none w) (events_in_packet p) all) turn.packets (h before turn rest is)

@@ -9,12 +9,11 @@ use Rattle.serf_model.specs.declared.line.Answer.{Answer}
 use Rattle.serf_model.specs.declared.line.Answer.TheVariants as answers
 use Rattle.serf_model.specs.declared.line.EventLine.{EventLine}
 use Rattle.serf_model.specs.declared.line.HandedLine.{HandedLine}
-use Rattle.serf_model.specs.declared.line.Refusal.TheVariants.{NoAgent}
-use Rattle.serf_model.specs.Cluster.{Applied, Cluster, IdealNode, Run, after, applied, apply, event_line, handed_line, injects, line_only, run_of, start, step}
+use Rattle.serf_model.specs.Cluster.{Applied, Cluster, IdealNode, Run, after, applied, apply, event_line, handed_line, run_of, start, step}
 use Rattle.serf_model.specs.HandOuts.{HandsOutEntered, HandsOutGiven, IsHandedOf, MessagesFired, NewIsHanded, OnlyToActor, events_given, message_entered, message_fired, messages_fired, new_in, query_message, says_new, message_at}
 use Rattle.serf_model.specs.Runs.{HasShortQueries}
 use Rattle.serf_model.specs.Sizes.{HasSizes}
-use Rattle.serf_model.specs.Trace.{Turn, actor_of, event_in, events_brought, events_in_packet, fired_by, injected_in, injects_of, packet_given, queried_in, query_packets, given_by}
+use Rattle.serf_model.specs.Trace.{Turn, actor_of, event_in, events_brought, events_in_packet, fired_by, injected_in, queried_in, query_packets, given_by}
 use Rattle.serf_model.proofs.Effects.{Effect, IsIdle, asks, counts, effect, fires, hears, is_asked, passes_on, as_message}
 use Rattle.serf_model.proofs.PerAgent.{Each}
 use Rattle.serf_model.proofs.PerTimeBound.{out_in}

@@ -1,17 +1,18 @@
 -- A query is handed to an agent once, where it enters.
-use Rattle.serf_model.proofs.Names.{zero, suc, ◌≡◌, ◌≢◌, ℕ, ◌<◌, ◌==◌, ◌+◌, ◌⊎◌, inl, inr, Bool, true, false, cond, List, [], ◌∷◌, ◌++◌, Option, Some, None, refl, sym, ap, subst, ◌∙◌, arith, map, length, get_or, All, AllPairs, Contains, filter, flat_map, option_map, option_to_list, append-nil, map-append, All-nil, All-push, All-weaker, Contains-append_left, Contains-push, filter-append, all_pairs_push, Query, TimedEntry, Config, Handed, query_at, handed_query, handed_if_passed, all_pass}
+use Rattle.serf_model.proofs.Names.{◌≡◌, ◌≢◌, ℕ, ◌==◌, ◌⊎◌, inl, inr, Bool, true, false, cond, List, [], ◌∷◌, ◌++◌, Option, Some, None, refl, sym, ap, subst, ◌∙◌, arith, map, length, AllPairs, Contains, filter, flat_map, option_map, option_to_list, map-append, All-nil, filter-append, Query, TimedEntry, Config, Handed, handed_query, handed_if_passed, all_pass}
 use Rattle.serf_model.specs.Below.{Below}
 use Rattle.serf_model.specs.declared.action.Action.{Action}
 use Rattle.serf_model.specs.declared.action.Act.{Act}
 use Rattle.serf_model.specs.declared.action.Action.TheVariants.{Of}
 use Rattle.serf_model.specs.declared.line.HandedLine.{HandedLine}
 use Rattle.serf_model.specs.Cluster.{Applied, IdealNode, Cluster, Done, Run, apply, applied, after, handed_line, step}
-use Rattle.serf_model.specs.Trace.{Turn, actor_of, entered_by, handed_in, is_agent, packet_given, queries_at, queries_to, query_brought, given_by}
+use Rattle.serf_model.specs.Trace.{Turn, entered_by, handed_in, queries_at, queries_to, query_brought, given_by}
 use Rattle.serf_model.proofs.Effects.{Effect, asks, effect, is_asked, as_message}
 use Rattle.serf_model.proofs.StepCases.{step-cases}
 use Rattle.serf_model.proofs.TurnLaws.{flat_map-push}
 use Rattle.serf_model.proofs.OnceLaws.{query-once}
-use Rattle.serf_model.proofs.RunLaws.{IsAfter, added, after-step, by-push}
+use Rattle.serf_model.proofs.RunLaws.{CanTellIt, IsAfter, added, after-step, by-push}
+use Rattle.serf_model.proofs.Within.{IsWithin, within-more}
 
 abbrev pub only_query : ℕ → ℕ → List (TimedEntry ℕ)
 only_query t id = record { time = t; key = id } ∷ []
@@ -50,43 +51,6 @@ queries_to-push a turns turn =
 abbrev entered : Turn → List (TimedEntry ℕ)
 entered t = entered_by t.action t.given t.line.answer
 
--- the last of a list without equal pairs differs from the others
-last-at : {X : Type 0} (ys : List X) (x d : X) → get_or (ys ++ x ∷ []) (length ys) d ≡ x
-last-at [] x d = refl
-last-at (y ∷ ys) x d = last-at ys x d
-
-front-at : {X : Type 0} (ys : List X) (x d : X) (k : ℕ) → k < length ys → get_or (ys ++ x ∷ []) k d ≡ get_or ys k d
-front-at [] x d k h = absurd (omega arith)
-front-at (y ∷ ys) x d zero h = refl
-front-at (y ∷ ys) x d (suc k) h = front-at ys x d k (omega arith)
-
-length-push : {X : Type 0} (ys : List X) (x : X) → length (ys ++ x ∷ []) ≡ length ys + 1
-length-push [] x = refl
-length-push (y ∷ ys) x = let h = length-push ys x in omega arith
-
-pub fresh-last : {X : Type 0} (ys : List X) (x y : X) → AllPairs (λ a b. a ≢ b) (ys ++ x ∷ []) → Contains ys y → y ≢ x
-fresh-last ys x y all h same =
-    all h.0 (length ys) y h.1 (let l = length-push ys x in omega arith) (front-at ys x y h.0 h.1 ∙ h.2 ∙ same ∙ sym (last-at ys x y))
-
--- a list that grows by what another grows by, or not, has no equal pairs, where that has none
-pub record IsWithin {X : Type 0} (all some : List X) : Type 0 where
-  pub within : All (Contains all) some
-  pub once : AllPairs (λ x y. x ≢ y) some
-
-pub within-more : {X : Type 0} (all some one new : List X) → IsWithin all some → AllPairs (λ x y. x ≢ y) (all ++ one) → (new ≡ []) ⊎ ((x : X) × (new ≡ x ∷ []) × (one ≡ x ∷ [])) → IsWithin (all ++ one) (some ++ new)
-within-more all some one new h once (inl none) =
-    subst (IsWithin (all ++ one)) (sym (ap (λ l. some ++ l) none ∙ append-nil some))
-    (record { within = All-weaker (Contains all) (Contains (all ++ one)) (λ x c. Contains-append_left all one x c) some h.within; once = h.once })
-within-more {X} all some one new h once (inr adds) =
-    let x : X = adds.0 in
-    let pairs : AllPairs (λ x y. x ≢ y) (all ++ adds.0 ∷ []) = subst (λ l. AllPairs (λ x y. x ≢ y) (all ++ l)) adds.2 once in
-    let differs : All (λ y. y ≢ adds.0) some = All-weaker (Contains all) (λ y. y ≢ adds.0) (λ y c. fresh-last all adds.0 y pairs c) some h.within in
-    let more : All (Contains (all ++ adds.0 ∷ [])) some = All-weaker (Contains all) (Contains (all ++ adds.0 ∷ [])) (λ y c. Contains-append_left all (adds.0 ∷ []) y c) some h.within in
-    subst (λ l. IsWithin (all ++ l) (some ++ new)) (sym adds.2) (subst (λ l. IsWithin (all ++ adds.0 ∷ []) (some ++ l)) (sym adds.1) (record {
-      within = All-push (Contains (all ++ adds.0 ∷ [])) some adds.0 more (Contains-push all adds.0);
-      once = all_pairs_push (λ x y. x ≢ y) some adds.0 h.once differs;
-    }))
-
 -- what was handed out was entered, and once
 abbrev pub IsHanded : List Turn → Type 0
 IsHanded turns = (a : ℕ) → IsWithin (queries_at a turns) (queries_to a turns)
@@ -113,10 +77,10 @@ adds-applied lower c b act m a = by (apply m c.sent act).done.handed refl (b == 
 adds-step : Below → (c : Cluster) (action : Action) (a : ℕ) → Adds a (step c action).turn
 adds-step lower c action a = step-cases (λ s. Adds a s.turn) c action (λ bytes. inl refl) (λ b act at. inl refl) (λ b act m is at. adds-applied lower c b act m a)
 
-pub handed-step : Below → (r : Run) (action : Action) → IsAfter r.cluster r.turns → IsHanded r.turns → IsHanded (after r action).turns
-handed-step lower r action h all a =
+pub handed-step : Below → (configs : List Config) (r : Run) (action : Action) → CanTellIt configs action → IsAfter configs r.cluster r.turns → IsHanded r.turns → IsHanded (after r action).turns
+handed-step lower configs r action tells h all a =
     let turn : Turn = (step r.cluster action).turn in
-    let once = query-once (after r action).cluster (after r action).turns (after-step lower r action h) in
+    let once = query-once configs (after r action).cluster (after r action).turns (after-step lower configs r action tells h) in
     let new = map handed_in (filter (mine a) (option_to_list turn.line.handed)) in
     let entered_now = by-push entered a r.turns turn in
     subst (λ l. IsWithin l (queries_to a (r.turns ++ turn ∷ []))) (sym entered_now)

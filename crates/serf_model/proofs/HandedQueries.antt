@@ -1,5 +1,5 @@
 -- Which queries an agent can answer, and which it acked.
-use Rattle.serf_model.proofs.Names.{zero, suc, ◌≡◌, ◌≢◌, ℕ, ◌⊎◌, inl, inr, true, false, cond, List, [], ◌∷◌, ◌++◌, length, Option, Some, None, refl, sym, ap, subst, ◌∙◌, map, set, AllPairs, Contains, slice_get, flat_map, option_map, option_to_list, append-nil, map-append, Contains-append_left, Contains-push, filter-append, fold_push, Query, QueryResponse, TimedEntry, Config, Handed, deadline_of, is_ack, query_at}
+use Rattle.serf_model.proofs.Names.{zero, suc, ◌≡◌, ◌≢◌, ℕ, ◌⊎◌, inl, inr, true, false, cond, List, [], ◌∷◌, ◌++◌, length, Option, Some, None, refl, sym, ap, subst, ◌∙◌, map, set, AllPairs, Contains, slice_get, flat_map, option_map, option_to_list, append-nil, map-append, Contains-append_left, Contains-push, filter-append, fold_push, Query, QueryResponse, TimedEntry, Config, Handed, deadline_of, is_ack}
 use Rattle.std.specs.Prelude.{filter}
 use Rattle.serf_model.specs.Below.{Below}
 use Rattle.serf_model.specs.declared.action.Action.{Action}
@@ -9,9 +9,10 @@ use Rattle.serf_model.specs.declared.line.HandedLine.{HandedLine}
 use Rattle.serf_model.specs.AnswerPromises.{answers_in, query_answered, reply_deadline}
 use Rattle.serf_model.specs.Bounds.{is_restarted}
 use Rattle.serf_model.specs.Cluster.{Applied, Cluster, Done, IdealNode, applied, apply, handed_line, with_handed}
-use Rattle.serf_model.specs.Trace.{Turn, entered_by, handed_in, packet_given, given_by}
+use Rattle.serf_model.specs.Trace.{Turn, entered_by, handed_in, given_by}
 use Rattle.serf_model.specs.HandOuts.{query_message}
-use Rattle.serf_model.proofs.HandedLaws.{IsWithin, hands-apply, within-more}
+use Rattle.serf_model.proofs.HandedLaws.{hands-apply}
+use Rattle.serf_model.proofs.Within.{IsWithin, within-more}
 use Rattle.serf_model.proofs.HandOutLaws.{passed-on}
 use Rattle.serf_model.proofs.PresentLife.{last_life, lives_on}
 use Rattle.serf_model.proofs.Effects.{Effect, asks, counts, effect, hears, idle-enters, is_asked, reopens, replies, as_message}

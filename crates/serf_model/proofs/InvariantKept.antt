@@ -1,22 +1,32 @@
 -- A merge, a snapshot and a restart leave their agent sound, with clocks that are 64 bits, over a sink that tells and has a plan.
-use Rattle.serf_model.proofs.Names.{◌≡◌, ℕ, ◌-◌, ◌^◌, ◌<◌, ◌≤◌, Bool, true, false, nat_le, List, [], ◌∷◌, ◌++◌, Option, Some, None, IsSome, unwrap_or, Result, Ok, Err, inl, inr, refl, ◌∙◌, arith, AllByRecursion, option_map, cases_Bool, All-nil, All-weaker, EventBody, decoded, PushPull, push_pull, IsRangedPushPull, IsTimed, TimedEntry, ClockKind, is_whole, last_clock, FailurePlan, fresh_device, SnapshotView, Writing, Kept, Failed, IsObservable, last_line, noted, will_replace, opened, Call, Notes, Replaces, Step, planned, ended, will, IdealAgent, IsSound, Config, Outcome, ReceiveFault, Reason, is_sound, unopened, IsInText, events_of, events_of_slot, receive_one, joined, merge_refusal, admission, received_as, SlotContent, empty, held, NoteFault}
+use Rattle.serf_model.proofs.Names.{◌≡◌, ◌⊎◌, Contains, MergeFault, Past, ℕ, ◌-◌, ◌^◌, ◌<◌, ◌≤◌, Bool, true, false, nat_le, List, [], ◌∷◌, ◌++◌, Option, Some, None, IsSome, unwrap_or, Result, Ok, Err, inl, inr, refl, subst, ◌∙◌, arith, AllByRecursion, option_map, cases_Bool, All-nil, All-weaker, EventBody, decoded, PushPull, push_pull, IsRangedPushPull, IsTimed, TimedEntry, ClockKind, is_whole, last_clock, FailurePlan, fresh_device, SnapshotView, Writing, Kept, Failed, IsObservable, last_line, opened, Call, Notes, Replaces, Step, planned, ended, will, IdealAgent, IsSound, Config, Outcome, ReceiveFault, Reason, is_sound, unopened, IsInText, view_of, events_of, events_of_slot, receive_one, joined, merge_refusal, admission, received_as, SlotContent, empty, held, NoteFault}
 use Rattle.serf_snap.specs.declared.kind.ClockKind.TheVariants as kinds
 use Rattle.serf_snap.specs.declared.snapshot.NoteFault.TheVariants as notes
 use Rattle.serf_agent.specs.declared.outcome.MergeFault.TheVariants as merges
+use Rattle.serf_agent.specs.Events.{told_event}
+use Rattle.serf_agent.specs.KeptLives.{IsDurable}
+use Rattle.serf_agent.specs.KeptRestart.{HasKept}
+use Rattle.serf_agent.specs.KeptTexts.{kept_events, kept_queries, whatever}
+use Rattle.serf_agent.specs.Restart.{HasPast, restarted_by}
+use Rattle.serf_agent.specs.States.{hear, heard_by, told_least, told_lines}
+use Rattle.serf_snap.specs.EventLines.{least_in}
+use Rattle.serf_agent.specs.Told.{noted_with, will_replace_with}
 use Rattle.serf_model.specs.Below.{Below}
 use Rattle.serf_model.specs.Ready.{IsConsistent, IsRepresentable}
-use Rattle.serf_model.specs.Cluster.{Merged, merges_events, merges_on, reopened, text_after, opened_first, with_plan}
-use Rattle.serf_model.proofs.CallsKept.{DoesReplace, does-replace, representable-notes, representable-received}
+use Rattle.serf_model.proofs.ReadyLaws.{IsReady}
+use Rattle.serf_model.specs.Cluster.{IdealNode, Merged, merges_events, merges_heard, merges_on, reopened, text_after, opened_first, with_plan}
+use Rattle.serf_model.proofs.CallsKept.{DoesReplace, does-replace, ready-notes, ready-received}
 use Rattle.serf_model.proofs.PerTimeBound.{none-if}
 
-stopped-noted : (kind : ClockKind) (t : ℕ) (s : SnapshotView) → (noted kind t s Kept).stopped ≡ s.stopped
-stopped-noted kind t s = elim (cases_Bool (nat_le t (last_line kind s))) [ inl low ↦ rw low refl | inr high ↦ rw high refl ]
+stopped-noted : (kind : ClockKind) (t : ℕ) (line : Option (List ℕ)) (s : SnapshotView) → (noted_with kind t line s Kept).stopped ≡ s.stopped
+stopped-noted kind t (Some line) s = refl
+stopped-noted kind t None s = elim (cases_Bool (nat_le t (last_line kind s))) [ inl low ↦ rw low refl | inr high ↦ rw high refl ]
 
 -- ---- merges
 
 -- an agent that is stopped receives no more events
-pub representable-joined : Below → (m : PushPull) (join : Bool) (i : IdealAgent) → IsRepresentable i → IsRangedPushPull m → IsRepresentable (joined m join i)
-representable-joined lower m join i g r = record {
+pub ready-joined : Below → (m : PushPull) (join : Bool) (i : IdealAgent) → IsReady i → IsRangedPushPull m → IsReady (joined m join i)
+ready-joined lower m join i g r = record {
   consistent = record { sound = lower.sound.joins m join i g.consistent.sound (omega (arith, r.member_clock)); observable = g.consistent.observable };
   events = omega (arith, g.events, r.event_clock);
   queries = omega (arith, g.queries, r.query_clock);
@@ -29,22 +39,22 @@ runs-on i t what coalesce (Some reason) outcome runs is = runs
 runs-on i t what coalesce None outcome runs is = by (will i (received_as None i t what coalesce)) is
   where
     by : (w : Writing) → (ended i (received_as None i t what coalesce) w).answer ≡ Ok outcome → (ended i (received_as None i t what coalesce) w).agent.snapshot.stopped ≡ false
-    by Kept is = stopped-noted kinds.Event t i.snapshot ∙ runs
+    by Kept is = stopped-noted kinds.Event t (told_event i.config t what) i.snapshot ∙ runs
     by (Failed k) is = absurd (cc is)
 
-representable-on : (o : Step (Result Outcome ReceiveFault)) (rest : IdealAgent → Merged) → IsRepresentable o.agent → ((outcome : Outcome) → o.answer ≡ Ok outcome → IsRepresentable (rest o.agent).agent) → IsRepresentable (merges_on o rest).agent
-representable-on o rest g more = by o.answer refl
+ready-on : (o : Step (Result Outcome ReceiveFault)) (rest : IdealAgent → Merged) → IsReady o.agent → ((outcome : Outcome) → o.answer ≡ Ok outcome → IsReady (rest o.agent).agent) → IsReady (merges_on o rest).agent
+ready-on o rest g more = by o.answer refl
   where
-    by : (r : Result Outcome ReceiveFault) → o.answer ≡ r → IsRepresentable (merges_on (record { agent = o.agent; answer = r }) rest).agent
+    by : (r : Result Outcome ReceiveFault) → o.answer ≡ r → IsReady (merges_on (record { agent = o.agent; answer = r }) rest).agent
     by (Ok outcome) is = more outcome is
     by (Err fault) is = g
 
-representable-merges : Below → (es : List (TimedEntry EventBody)) (i : IdealAgent) → IsRepresentable i → i.snapshot.stopped ≡ false → AllByRecursion (λ e. e.time < 2 ^ 64 - 1) es → IsRepresentable (merges_events es i).agent
-representable-merges lower [] i g runs times = g
-representable-merges lower (e ∷ es) i g runs times =
-    let first = representable-received lower i e.time e.key false (admission i e.time e.key) g runs times.0 refl in
-    representable-on (planned i (receive_one i e)) (merges_events es) first
-    (λ outcome is. representable-merges lower es (planned i (receive_one i e)).agent first (runs-on i e.time e.key false (admission i e.time e.key) outcome runs is) times.1)
+ready-merges : Below → (es : List (TimedEntry EventBody)) (i : IdealAgent) → IsReady i → i.snapshot.stopped ≡ false → AllByRecursion (λ e. e.time < 2 ^ 64 - 1) es → IsReady (merges_events es i).agent
+ready-merges lower [] i g runs times = g
+ready-merges lower (e ∷ es) i g runs times =
+    let first = ready-received lower i e.time e.key false (admission i e.time e.key) g runs times.0 refl in
+    ready-on (planned i (receive_one i e)) (merges_events es) first
+    (λ outcome is. ready-merges lower es (planned i (receive_one i e)).agent first (runs-on i e.time e.key false (admission i e.time e.key) outcome runs is) times.1)
 
 all-append : {X : Type 0} (P : X → Type 0) (xs ys : List X) → AllByRecursion P xs → AllByRecursion P ys → AllByRecursion P (xs ++ ys)
 all-append P [] ys p q = q
@@ -60,8 +70,8 @@ times-of (empty ∷ ss) times = times-of ss times.1
 times-of (held t es ∷ ss) times = all-append (λ (e : TimedEntry EventBody). e.time < 2 ^ 64 - 1) (events_of_slot (held t es)) (events_of ss) (times-slot t es times.0) (times-of ss times.1)
 
 -- and so of what a packet spells
-pub joined-spelled : Below → (i : IdealAgent) (packet : List ℕ) (m : PushPull) (join : Bool) → IsRepresentable i → decoded packet ≡ Ok (push_pull m) → IsRepresentable (joined m join i)
-joined-spelled lower i packet m join g is = representable-joined lower m join i g (lower.in_range packet (push_pull m) is)
+pub joined-spelled : Below → (i : IdealAgent) (packet : List ℕ) (m : PushPull) (join : Bool) → IsReady i → decoded packet ≡ Ok (push_pull m) → IsReady (joined m join i)
+joined-spelled lower i packet m join g is = ready-joined lower m join i g (lower.in_range packet (push_pull m) is)
 
 pub times-spelled : Below → (packet : List ℕ) (m : PushPull) → decoded packet ≡ Ok (push_pull m) → AllByRecursion (λ (e : TimedEntry EventBody). e.time < 2 ^ 64 - 1) (events_of m.slots)
 times-spelled lower packet m is = let ranged = lower.in_range packet (push_pull m) is in times-of m.slots ranged.slots
@@ -70,31 +80,67 @@ times-spelled lower packet m is = let ranged = lower.in_range packet (push_pull 
 pub unopened-sound : Below → (config : Config) → is_sound config ≡ true → IsSound (unopened config (opened [] (fresh_device [])))
 unopened-sound lower config ok = lower.sound.begins config [] (fresh_device []) ok (omega arith)
 
-pub representable-merged : Below → (i : IdealAgent) (join : Bool) (packet : List ℕ) (s : PushPull) → IsRepresentable i → decoded packet ≡ Ok (push_pull s) → merge_refusal i.snapshot (Ok (push_pull s)) ≡ None
-    → IsRepresentable (merges_events (events_of s.slots) (joined s join i)).agent
-representable-merged lower i join packet s g is refuses =
+-- an agent that hears of another's state, where it isn't stopped
+pub ready-heard : Below → (i : IdealAgent) (m : PushPull) (join : Bool) → IsReady i → i.snapshot.stopped ≡ false → IsRangedPushPull m → IsReady (planned i (hear i m join)).agent
+ready-heard lower i m join g runs r = by (told_least i.config m join) refl
+  where
+    by : (line : Option (List ℕ)) → told_least i.config m join ≡ line → IsReady (planned i (heard_by line i m join)).agent
+    by None is = ready-joined lower m join i g r
+    by (Some line) is =
+        ready-notes lower {R = Result (Unit {0}) MergeFault} i kinds.Event 0 (Some line) (record { agent = joined m join i; answer = Ok tt }) (Err merges.SinkFault) g
+        (λ observable. record {
+          consistent = record {
+            sound = subst (λ (o : Option (List ℕ)). IsSound (ended i (heard_by o i m join) Kept).agent) is (lower.sound.hears m join i g.consistent.sound runs (omega (arith, r.member_clock)));
+            observable = observable;
+          };
+          events = omega (arith, g.events, r.event_clock);
+          queries = omega (arith, g.queries, r.query_clock);
+        })
+
+-- and where it did, it isn't stopped by its line
+pub hears-on : (i : IdealAgent) (m : PushPull) (join : Bool) (done : Unit {0}) → i.snapshot.stopped ≡ false → (planned i (hear i m join)).answer ≡ Ok done → (planned i (hear i m join)).agent.snapshot.stopped ≡ false
+hears-on i m join done runs is = by (told_least i.config m join) is
+  where
+    line-on : (line : List ℕ) (w : Writing) → (ended i (heard_by (Some line) i m join) w).answer ≡ Ok done → (ended i (heard_by (Some line) i m join) w).agent.snapshot.stopped ≡ false
+    line-on line Kept is = runs
+    line-on line (Failed k) is = absurd (cc is)
+
+    by : (line : Option (List ℕ)) → (planned i (heard_by line i m join)).answer ≡ Ok done → (planned i (heard_by line i m join)).agent.snapshot.stopped ≡ false
+    by None is = runs
+    by (Some line) is = line-on line (will i (heard_by (Some line) i m join)) is
+
+pub ready-merged : Below → (m : IdealNode) (join : Bool) (packet : List ℕ) (s : PushPull) → IsReady m.agent → decoded packet ≡ Ok (push_pull s) → merge_refusal m.agent.snapshot (Ok (push_pull s)) ≡ None
+    → IsReady (merges_heard m (events_of s.slots) (planned m.agent (hear m.agent s join))).node.agent
+ready-merged lower m join packet s g is refuses =
     let ranged = lower.in_range packet (push_pull s) is in
-    let runs = none-if i.snapshot.stopped merges.Stopped None refuses in
-    representable-merges lower (events_of s.slots) (joined s join i) (representable-joined lower s join i g ranged) runs.0 (times-of s.slots ranged.slots)
+    let runs = none-if m.agent.snapshot.stopped merges.Stopped None refuses in
+    let o : Step (Result (Unit {0}) MergeFault) = planned m.agent (hear m.agent s join) in
+    by o.answer (ready-heard lower m.agent s join g runs.0 ranged) (λ done says. hears-on m.agent s join done runs.0 says) (times-of s.slots ranged.slots)
+  where
+    by : (r : Result (Unit {0}) MergeFault) → IsReady (planned m.agent (hear m.agent s join)).agent → ((done : Unit {0}) → r ≡ Ok done → (planned m.agent (hear m.agent s join)).agent.snapshot.stopped ≡ false)
+        → AllByRecursion (λ (e : TimedEntry EventBody). e.time < 2 ^ 64 - 1) (events_of s.slots)
+        → IsReady (merges_heard m (events_of s.slots) (record { agent = (planned m.agent (hear m.agent s join)).agent; answer = r })).node.agent
+    by (Ok done) heard runs times = ready-merges lower (events_of s.slots) (planned m.agent (hear m.agent s join)).agent heard (runs done refl) times
+    by (Err fault) heard runs times = heard
 
 -- ---- snapshots
 
 -- what an agent does that saves, and that compacts
 abbrev pub saving : IdealAgent → Call (Result (Unit {0}) NoteFault)
-saving i = Notes kinds.Member (i.member_clock - 1) (record { agent = i; answer = Ok tt }) (Err notes.SinkFault)
+saving i = Notes kinds.Member (i.member_clock - 1) None (record { agent = i; answer = Ok tt }) (Err notes.SinkFault)
 
 abbrev pub compacting : IdealAgent → Call (Result (Unit {0}) NoteFault)
-compacting i = Replaces (record { agent = i; answer = Ok tt }) (Err notes.SinkFault)
+compacting i = Replaces (told_lines (view_of i)) (record { agent = i; answer = Ok tt }) (Err notes.SinkFault)
 
-pub representable-saved : Below → (i : IdealAgent) → IsRepresentable i → i.snapshot.stopped ≡ false → IsRepresentable (planned i (saving i)).agent
-representable-saved lower i g is =
-    representable-notes lower {R = Result (Unit {0}) NoteFault} i kinds.Member (i.member_clock - 1) (record { agent = i; answer = Ok tt }) (Err notes.SinkFault) g
+pub ready-saved : Below → (i : IdealAgent) → IsReady i → i.snapshot.stopped ≡ false → IsReady (planned i (saving i)).agent
+ready-saved lower i g is =
+    ready-notes lower {R = Result (Unit {0}) NoteFault} i kinds.Member (i.member_clock - 1) None (record { agent = i; answer = Ok tt }) (Err notes.SinkFault) g
     (λ observable. record { consistent = record { sound = lower.sound.saves (i.member_clock - 1) i g.consistent.sound is (omega (arith, g.consistent.sound.member_clock)); observable = observable }; events = g.events; queries = g.queries })
 
-pub representable-compacted : Below → (i : IdealAgent) → IsRepresentable i → IsRepresentable (planned i (compacting i)).agent
-representable-compacted lower i g = by (will_replace i.snapshot) (does-replace i.snapshot g.consistent.observable)
+pub ready-compacted : Below → (i : IdealAgent) → IsReady i → IsReady (planned i (compacting i)).agent
+ready-compacted lower i g = by (will_replace_with (told_lines (view_of i)) i.snapshot) (does-replace (told_lines (view_of i)) i.snapshot g.consistent.observable)
   where
-    by : (w : Writing) → DoesReplace i.snapshot w → IsRepresentable (ended i (compacting i) w).agent
+    by : (w : Writing) → DoesReplace (told_lines (view_of i)) i.snapshot w → IsReady (ended i (compacting i) w).agent
     by Kept d = record { consistent = record { sound = lower.sound.compacts Kept i g.consistent.sound d.may; observable = d.observable }; events = g.events; queries = g.queries }
     by (Failed k) d = record { consistent = record { sound = lower.sound.compacts (Failed k) i g.consistent.sound d.may; observable = d.observable }; events = g.events; queries = g.queries }
 
@@ -123,19 +169,70 @@ text-has lower i tail consistent = by i.snapshot.durable refl consistent.observa
           queries = All-weaker (λ p. p.entry.time ≤ i.snapshot.query_clock) (λ p. p.entry.time ≤ last_clock kinds.Query (durable ++ tail)) (λ p h. omega arith) i.queries.history s.queries.noted;
         }
 
-pub representable-opened : Below → (i : IdealAgent) (text : List ℕ) → IsSound i → IsInText i text → IsRepresentable (reopened i text)
-representable-opened lower i text sound within =
+-- what is durable and a tail have all that a keeping agent entered
+pub text-kept : Below → (i : IdealAgent) (tail : List ℕ) → IsConsistent i → IsDurable i → HasKept i (text_after i tail)
+text-kept lower i tail consistent durable = by i.snapshot.durable refl consistent.observable.durable
+  where
+    by : (k : Option (List ℕ)) → i.snapshot.durable ≡ k → IsSome k → HasKept i (unwrap_or k [] ++ tail)
+    by None is none = absurd (cc none)
+    by (Some text) is some =
+        let had : HasKept i text = durable.kept text is in
+        record { events = lower.keeps.event_texts.grows i.events.history text tail had.events; queries = lower.keeps.query_texts.grows i.queries.history text tail had.queries }
+
+-- and so they have all that its next life needs
+pub text-past : Below → (i : IdealAgent) (tail : List ℕ) → IsRepresentable i → HasPast i.config i (text_after i tail)
+text-past lower i tail g = record { times = text-has lower i tail g.consistent; kept = λ keeps. text-kept lower i tail g.consistent (g.durable keeps) }
+
+-- the clocks of an agent that is opened again
+event-opened : Below → (i : IdealAgent) (text : List ℕ) (keeps : Bool) → (restarted_by keeps text (opened text (fresh_device text)) i).events.clock ≤ 2 ^ 64 - 1
+event-opened lower i text true = let last = lower.clock_below kinds.Event text in let least = lower.keeps.least kinds.Event text in omega (arith, last, least.1)
+event-opened lower i text false = let last = lower.clock_below kinds.Event text in omega (arith, last)
+
+query-opened : Below → (i : IdealAgent) (text : List ℕ) (keeps : Bool) → (restarted_by keeps text (opened text (fresh_device text)) i).queries.clock ≤ 2 ^ 64 - 1
+query-opened lower i text true = let last = lower.clock_below kinds.Query text in let least = lower.keeps.least kinds.Query text in omega (arith, last, least.1)
+query-opened lower i text false = let last = lower.clock_below kinds.Query text in omega (arith, last)
+
+pub ready-opened : Below → (i : IdealAgent) (text : List ℕ) → IsSound i → HasPast i.config i text → IsReady (reopened i text)
+ready-opened lower i text sound past =
     let member_clock : last_clock kinds.Member text < 2 ^ 64 - 1 = lower.clock_below kinds.Member text in
-    let event_clock = lower.clock_below kinds.Event text in
-    let query_clock = lower.clock_below kinds.Query text in
-    record { consistent = record { sound = lower.sound.restarts i text (fresh_device text) sound within member_clock; observable = observable-opened text }; events = omega arith; queries = omega arith }
+    record {
+      consistent = record { sound = lower.sound.restarts i text (fresh_device text) sound past member_clock; observable = observable-opened text };
+      events = event-opened lower i text i.config.keep_events;
+      queries = query-opened lower i text i.config.keep_events;
+    }
+
+-- the agent before its first life has entered nothing
+pub past-unopened : (config : Config) → (let i = unopened config (opened [] (fresh_device [])) in HasPast i.config i [])
+past-unopened config = record {
+  times = record { events = All-nil (λ p. p.entry.time ≤ 0); queries = All-nil (λ p. p.entry.time ≤ 0) };
+  kept = λ keeps. record {
+    events = All-nil (λ (p : Past EventBody). (p.entry.time < least_in kinds.Event []) ⊎ Contains (kept_events whatever []) p.entry);
+    queries = All-nil (λ (p : Past ℕ). (p.entry.time < least_in kinds.Query []) ⊎ Contains (kept_queries whatever []) p.entry);
+  };
+}
 
 pub representable-opened_first : Below → (config : Config) → is_sound config ≡ true → IsRepresentable (opened_first config)
 representable-opened_first lower config ok =
-    representable-opened lower (unopened config (opened [] (fresh_device []))) [] (lower.sound.begins config [] (fresh_device []) ok (omega arith)) (record { events = All-nil (λ p. p.entry.time ≤ 0); queries = All-nil (λ p. p.entry.time ≤ 0) })
+    let first = ready-opened lower (unopened config (opened [] (fresh_device []))) [] (lower.sound.begins config [] (fresh_device []) ok (omega arith)) (past-unopened config) in
+    record { consistent = first.consistent; durable = λ keeps. lower.keeps.begins config [] (fresh_device []); events = first.events; queries = first.queries }
 
-pub representable-planned : (i : IdealAgent) (change : FailurePlan → FailurePlan) → IsRepresentable i → IsRepresentable (with_plan change i)
-representable-planned i change g =
+-- before its first life an agent has entered nothing, and the empty text keeps nothing
+pub first-events : (config : Config) → (opened_first config).events.history ≡ []
+first-events config = by config.keep_events
+  where
+    by : (b : Bool) → (restarted_by b [] (opened [] (fresh_device [])) (unopened config (opened [] (fresh_device [])))).events.history ≡ []
+    by true = refl
+    by false = refl
+
+pub first-queries : (config : Config) → (opened_first config).queries.history ≡ []
+first-queries config = by config.keep_events
+  where
+    by : (b : Bool) → (restarted_by b [] (opened [] (fresh_device [])) (unopened config (opened [] (fresh_device [])))).queries.history ≡ []
+    by true = refl
+    by false = refl
+
+pub ready-planned : (i : IdealAgent) (change : FailurePlan → FailurePlan) → IsReady i → IsReady (with_plan change i)
+ready-planned i change g =
     let s = g.consistent.sound in
     record {
       consistent = record {

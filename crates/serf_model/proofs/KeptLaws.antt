@@ -7,6 +7,7 @@ use Rattle.serf_model.specs.Cluster.{Run, run_of, start}
 use Rattle.serf_model.specs.Kept.{KeepsPromises}
 use Rattle.serf_model.specs.Runs.{AreConfigs}
 use Rattle.serf_model.specs.Sizes.{HasSizes}
+use Rattle.serf_model.specs.Tails.{CanTell}
 use Rattle.serf_model.proofs.AnswerLaws.{acked-once, replied-once}
 use Rattle.serf_model.proofs.AnswerPromiseLaws.{counting-run, served-run}
 use Rattle.serf_model.proofs.BoundLaws.{events-bounded, queries-bounded}
@@ -18,19 +19,22 @@ use Rattle.serf_model.proofs.SettingsKept.{all-short}
 use Rattle.serf_model.proofs.SentPromises.{open-sent}
 use Rattle.serf_model.proofs.TurnLaws.{at_each_nil}
 
-pub kept : Below → SlotLaws EventBody → SlotLaws ℕ → (configs : List Config) (actions : List Action) → AreConfigs configs → All HasSizes actions → KeepsPromises configs (run_of configs actions)
-kept lower event_laws query_laws configs actions ok sized =
+pub kept : Below → SlotLaws EventBody → SlotLaws ℕ → (configs : List Config) (actions : List Action) → AreConfigs configs → CanTell configs actions → All HasSizes actions → KeepsPromises configs (run_of configs actions)
+kept lower event_laws query_laws configs actions ok told sized =
     let r : Run = run_of configs actions in
     let short = all-short configs ok in
-    let going = promised lower configs actions ok in
+    let going = promised lower configs actions ok told in
     let out = handing-out lower configs actions in
-    let counting = counting-run lower configs actions ok in
-    let served = served-run lower configs actions sized ok in
+    let counting = counting-run lower configs actions ok told in
+    let served = served-run lower configs actions sized ok told in
     record {
       once = going.once;
       fired = going.only_fired;
       later = going.later;
       held = going.held;
+      fired_alone = going.fired_alone;
+      held_alone = going.held_alone;
+      kept = going.kept;
       query_once = going.query_once;
       query_later = going.query_later;
       query_handed = going.query_handed;
@@ -49,8 +53,8 @@ kept lower event_laws query_laws configs actions ok sized =
       answers_made = served.made;
       acked_once = acked-once configs r.cluster r.turns served;
       replied_once = replied-once configs r.cluster r.turns served;
-      events_bounded = events-bounded lower event_laws query_laws configs actions ok;
-      queries_bounded = queries-bounded lower event_laws query_laws configs actions ok;
+      events_bounded = events-bounded lower event_laws query_laws configs actions ok told;
+      queries_bounded = queries-bounded lower event_laws query_laws configs actions ok told;
     }
 
 -- of no turns anything holds
@@ -60,6 +64,9 @@ kept-start configs = record {
   fired = at_each_nil _;
   later = at_each_nil _;
   held = (at_each_nil _, at_each_nil _);
+  fired_alone = λ none. at_each_nil _;
+  held_alone = λ none. (at_each_nil _, at_each_nil _);
+  kept = at_each_nil _;
   query_once = λ a i j d lt within. absurd (omega arith);
   query_later = at_each_nil _;
   query_handed = λ a i j d lt within. absurd (omega arith);

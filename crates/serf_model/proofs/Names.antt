@@ -16,7 +16,8 @@ pub use Rattle.std.specs.List.{AllByRecursion, AllZip, filter, flat_map, fold, l
 pub use Rattle.std.specs.Option.{option_map, option_to_list}
 pub use Rattle.std.specs.Prelude.{All, AllPairs, Contains, is_some, not, pos, slice_get}
 pub use Rattle.std.specs.Str.{bytes_eq}
-pub use Rattle.serf_agent.specs.Calls.{Call, Ends, MayNote, Notes, Replaces, Step, answers, ended, planned, will, will_note}
+pub use Rattle.serf_agent.specs.Calls.{Call, Ends, Notes, Replaces, Step, answers, ended, planned, will}
+pub use Rattle.serf_agent.specs.Told.{MayNote, will_note}
 pub use Rattle.serf_agent.specs.Config.{is_sound}
 pub use Rattle.serf_agent.specs.Events.{admission, drawn, event_entered, event_out, event_packet, fire_fault, fired_as, is_too_large, received_as}
 pub use Rattle.serf_agent.specs.Events.{texts_len}

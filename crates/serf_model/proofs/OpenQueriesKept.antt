@@ -1,6 +1,6 @@
 -- What an answer to an open query, and a deadline, leave sound.
 use Rattle.serf_model.proofs.Names.{zero, suc, ◌≡◌, ◌≢◌, ℕ, ◌<◌, ◌==◌, nat_lt, Bool, true, false, cond, List, [], ◌∷◌, ◌++◌, Some, None, refl, sym, ap, subst, ◌∙◌, arith, map, length, All, AllPairs, not, list_any, filter, all_pairs_push, bytes_eq, bytes_eq-Decides, length-map, get_or-map, or_parts, true≢false, All-nil, All-map, All-cons, All-head, All-tail, All-filter, QueryResponse, IdealAgent, with_asked, IsOpenQuerySound, OtherId, Closed, AckNotAsked, AckTwice, ResponseTwice, OpenQuery, Response, asked_at, with_asked_at, counted, is_ack, has_acked, has_responded, answer_ignore_reason, ack_ignore_reason, response_ignore_reason, is_due, close_due}
-use Rattle.serf_model.specs.Ready.{IsRepresentable}
+use Rattle.serf_model.proofs.ReadyLaws.{IsReady}
 use Rattle.serf_model.proofs.AnswersByTime.{asked-found, pairs-rest}
 use Rattle.serf_model.proofs.PerTimeBound.{none-if}
 
@@ -44,8 +44,8 @@ sound-asked_at P t x (p ∷ ps) px all = by (t == p.0) (sound-asked_at P t x ps 
     by true rest = All-cons (λ (p : ℕ × OpenQuery). P p.1) (p.0, x) ps px (All-tail (λ (p : ℕ × OpenQuery). P p.1) p ps all)
     by false rest = All-cons (λ (p : ℕ × OpenQuery). P p.1) p (with_asked_at t x ps) (All-head (λ (p : ℕ × OpenQuery). P p.1) p ps all) rest
 
-representable-asked : (i : IdealAgent) (asked : List (ℕ × OpenQuery)) → IsRepresentable i → All (λ p. p.0 < i.queries.clock) asked → AllPairs (λ p q. p.0 ≢ q.0) asked → All (λ p. IsOpenQuerySound p.1) asked → IsRepresentable (with_asked asked i)
-representable-asked i asked g below distinct sound =
+ready-asked : (i : IdealAgent) (asked : List (ℕ × OpenQuery)) → IsReady i → All (λ p. p.0 < i.queries.clock) asked → AllPairs (λ p q. p.0 ≢ q.0) asked → All (λ p. IsOpenQuerySound p.1) asked → IsReady (with_asked asked i)
+ready-asked i asked g below distinct sound =
     let s = g.consistent.sound in
     record {
       consistent = record {
@@ -81,12 +81,12 @@ sound-counted i now r q s is =
         let fresh = none-if (has_responded q r.from) ResponseTwice None e in
         record { acks = s.acks; responses = all_pairs_push (λ (a b : Response). a.from ≢ b.from) q.responses (record { from = r.from; payload = r.payload }) s.responses (fresh-name (λ (a : Response). a.from) q.responses r.from fresh.0) }
 
-pub representable-counted : (i : IdealAgent) (now : ℕ) (r : QueryResponse) (q : OpenQuery) → IsRepresentable i → asked_at r.time i.asked ≡ Some q → answer_ignore_reason now r q ≡ None → IsRepresentable (with_asked (with_asked_at r.time (counted r q) i.asked) i)
-representable-counted i now r q g at is =
+pub ready-counted : (i : IdealAgent) (now : ℕ) (r : QueryResponse) (q : OpenQuery) → IsReady i → asked_at r.time i.asked ≡ Some q → answer_ignore_reason now r q ≡ None → IsReady (with_asked (with_asked_at r.time (counted r q) i.asked) i)
+ready-counted i now r q g at is =
     let s = g.consistent.sound in
     let same = keys-asked_at r.time (counted r q) i.asked in
     let l : List (ℕ × OpenQuery) = with_asked_at r.time (counted r q) i.asked in
-    representable-asked i l g
+    ready-asked i l g
     (all-keys (λ t. t < i.queries.clock) l (subst (All (λ t. t < i.queries.clock)) (sym same) (keys-all (λ t. t < i.queries.clock) i.asked s.asked_below)))
     (pairs-keys l (subst (AllPairs (λ s t. s ≢ t)) (sym same) (keys-pairs i.asked s.asked_distinct)))
     (sound-asked_at IsOpenQuerySound r.time (counted r q) i.asked (sound-counted i now r q (asked-found (λ p. IsOpenQuerySound p.1) r.time i.asked q s.asked_sound at) is) s.asked_sound)
@@ -108,8 +108,8 @@ pairs-filter {X} R test (x ∷ xs) all = by (test x) (pairs-filter R test xs (pa
     by true rest = pairs-cons R x (filter test xs) (All-filter test (λ y. R x y) xs far) rest
     by false rest = rest
 
-pub representable-closed : (i : IdealAgent) (now : ℕ) → IsRepresentable i → IsRepresentable (close_due i now).agent
-representable-closed i now g =
+pub ready-closed : (i : IdealAgent) (now : ℕ) → IsReady i → IsReady (close_due i now).agent
+ready-closed i now g =
     let s = g.consistent.sound in
     let keep : ℕ × OpenQuery → Bool = λ q. not (is_due now q) in
-    representable-asked i (filter keep i.asked) g (All-filter keep (λ p. p.0 < i.queries.clock) i.asked s.asked_below) (pairs-filter (λ p q. p.0 ≢ q.0) keep i.asked s.asked_distinct) (All-filter keep (λ p. IsOpenQuerySound p.1) i.asked s.asked_sound)
+    ready-asked i (filter keep i.asked) g (All-filter keep (λ p. p.0 < i.queries.clock) i.asked s.asked_below) (pairs-filter (λ p q. p.0 ≢ q.0) keep i.asked s.asked_distinct) (All-filter keep (λ p. IsOpenQuerySound p.1) i.asked s.asked_sound)

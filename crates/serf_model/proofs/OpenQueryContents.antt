@@ -1,5 +1,5 @@
 -- What an agent's open queries hold is what its turns counted.
-use Rattle.serf_model.proofs.Names.{◌≡◌, ◌≢◌, ℕ, ◌<◌, ◌≤◌, ◌==◌, nat_lt, Bool, true, false, cond, List, [], ◌∷◌, ◌++◌, Option, Some, None, Result, Ok, refl, sym, ap, subst, ◌∙◌, map, All, AllPairs, Contains, flat_map, option_to_list, eqb-true, eq-eqb, ltb-false, not-false, append-nil, map-append, All-nil, All-push, All-weaker, All-map, All-filter, All-contains, Contains-append_left, Contains-push, all_pairs_push, fold_push, WireFault, decoded, Message, QueryResponse, query_response, TimedEntry, Response, OpenQuery, QueryParams, OtherId, Closed, AckNotAsked, AckTwice, ResponseTwice, IdealAgent, Past, ack_flag, ack_ignore_reason, answer_ignore_reason, asked_at, counted, deadline_of, flags_of, has_acked, has_flag, has_responded, is_ack, is_due, opened_query, query_at, response_ignore_reason, with_asked_at}
+use Rattle.serf_model.proofs.Names.{◌≡◌, ◌≢◌, ℕ, ◌<◌, ◌≤◌, ◌==◌, nat_lt, Bool, true, false, cond, List, [], ◌∷◌, ◌++◌, Option, Some, None, Result, Ok, refl, sym, ap, subst, ◌∙◌, map, All, AllPairs, Contains, flat_map, option_to_list, eqb-true, eq-eqb, ltb-false, not-false, append-nil, map-append, All-nil, All-push, All-weaker, All-map, All-filter, All-contains, Contains-append_left, Contains-push, all_pairs_push, fold_push, WireFault, decoded, Message, QueryResponse, query_response, TimedEntry, Response, OpenQuery, OtherId, Closed, AckNotAsked, AckTwice, ResponseTwice, IdealAgent, Past, ack_flag, ack_ignore_reason, answer_ignore_reason, asked_at, counted, deadline_of, flags_of, has_acked, has_flag, has_responded, is_ack, is_due, opened_query, query_at, response_ignore_reason, with_asked_at}
 use Rattle.std.proofs.Common.{not}
 use Rattle.serf_model.specs.declared.action.Action.{Action}
 use Rattle.serf_model.specs.declared.action.Act.TheVariants as acts
@@ -107,14 +107,16 @@ flags-ask false true = refl
 flags-ask false false = refl
 
 -- all that was counted is to times below the clock
-past-below : (ts : List Turn) (i : IdealAgent) (ack : Bool) → IsRepresentable i → entries i.queries.history ≡ queries_in ts → HasCounted ts i → All (λ r. r.time < i.queries.clock) (counted_in ack ts)
+past-below : (ts : List Turn) (i : IdealAgent) (ack : Bool) → IsRepresentable i → All (Contains (entries i.queries.history)) (queries_in ts) → HasCounted ts i → All (λ r. r.time < i.queries.clock) (counted_in ack ts)
 past-below ts i ack representable same h =
+    let history : All (λ e. e.time < i.queries.clock) (entries i.queries.history) =
+    All-map (λ (e : TimedEntry ℕ). e.time < i.queries.clock) (λ (p : Past ℕ). p.entry) i.queries.history representable.consistent.sound.queries.below_clock in
     let below : All (λ e. e.time < i.queries.clock) (queries_in ts) =
-    subst (All (λ e. e.time < i.queries.clock)) same (All-map (λ (e : TimedEntry ℕ). e.time < i.queries.clock) (λ (p : Past ℕ). p.entry) i.queries.history representable.consistent.sound.queries.below_clock) in
+    All-weaker (Contains (entries i.queries.history)) (λ e. e.time < i.queries.clock) (λ e c. All-contains (λ (e : TimedEntry ℕ). e.time < i.queries.clock) (entries i.queries.history) e history c) (queries_in ts) same in
     All-weaker (λ r. Contains (queries_in ts) (query_answered r)) (λ r. r.time < i.queries.clock) (λ r c. All-contains (λ (e : TimedEntry ℕ). e.time < i.queries.clock) (queries_in ts) (query_answered r) below c)
     (counted_in ack ts) (h.past ack)
 
-has-counted-asks : (ts : List Turn) (t : Turn) (i j : IdealAgent) (agent : ℕ) (q : NewQuery) → IsRepresentable i → entries i.queries.history ≡ queries_in ts → HasCounted ts i
+has-counted-asks : (ts : List Turn) (t : Turn) (i j : IdealAgent) (agent : ℕ) (q : NewQuery) → IsRepresentable i → All (Contains (entries i.queries.history)) (queries_in ts) → HasCounted ts i
     → t.action ≡ Of agent (acts.Query q) → t.line.answer ≡ lines.Queried i.queries.clock
     → j.asked ≡ i.asked ++ (i.queries.clock, opened_query q.moment (query_at i.queries.clock i.config.name q.id q.name q.payload q.params)) ∷ [] → HasCounted (ts ++ t ∷ []) j
 has-counted-asks ts t i j agent q representable same h action answer is =
@@ -273,7 +275,7 @@ idle-counts i given lines.Response ack idle = absurd idle
 idle-counts i given _ ack idle = refl
 
 pub has-counted-effect : (ts : List Turn) (m : IdealNode) (action : Action) (given : Option (List ℕ)) (o : Applied) (line : Line) (packets : List (List ℕ)) → Effect m action given o → line.answer ≡ o.done.answer → IsRepresentable m.agent
-    → entries m.agent.queries.history ≡ queries_in ts → HasCounted ts m.agent → HasCounted (ts ++ turn_of action given line packets ∷ []) o.node.agent
+    → All (Contains (entries m.agent.queries.history)) (queries_in ts) → HasCounted ts m.agent → HasCounted (ts ++ turn_of action given line packets ∷ []) o.node.agent
 has-counted-effect ts m action given o line packets (hears j outs answer heard idle) says representable same h =
     has-counted-on ts (turn_of action given line packets) m.agent j h (ap is_restarted says ∙ (idle-enters m.agent action given answer idle).1) (λ ack. ap (is_counted ack) says ∙ idle-counts m.agent given answer ack idle) (subst (All (IsOpen ts)) (sym heard.asked) h.asked)
 has-counted-effect ts m action given o line packets (closes_due agent now) says representable same h =

@@ -78,7 +78,7 @@ slots-timed (s ∷ ss) all =
     let first : s.time < 2 ^ 64 - 1 = All-head (λ (s : SlotOf EventBody). s.time < 2 ^ 64 - 1) s ss all in
     (omega arith, slots-timed ss (All-tail (λ (s : SlotOf EventBody). s.time < 2 ^ 64 - 1) s ss all))
 
-in-life : (P : TimedEntry EventBody → Type 0) (life : ℕ) (h : List (Past EventBody)) → All (λ p. P p.entry) h → All P (of_life life h)
+pub in-life : (P : TimedEntry EventBody → Type 0) (life : ℕ) (h : List (Past EventBody)) → All (λ p. P p.entry) h → All P (of_life life h)
 in-life P life h all = All-map P (λ (p : Past EventBody). p.entry) _ (All-filter (λ (p : Past EventBody). p.life == life) (λ p. P p.entry) h all)
 
 state-ranged : Below → (i : IdealAgent) → IsRepresentable i → IsRangedPushPull (state_of (view_of i) [] [])
@@ -96,7 +96,7 @@ state-ranged lower i g =
     }
 
 -- what holds of each entry holds of what each slot holds, at the slot's time
-slots-each : Below → (P : TimedEntry EventBody → Type 0) (n : ℕ) (es : List (TimedEntry EventBody)) → All P es → All (λ s. All (λ what. P (record { time = s.time; key = what })) s.held) (slots_of n es)
+pub slots-each : Below → (P : TimedEntry EventBody → Type 0) (n : ℕ) (es : List (TimedEntry EventBody)) → All P es → All (λ s. All (λ what. P (record { time = s.time; key = what })) s.held) (slots_of n es)
 slots-each lower P n es each =
     All-weaker _ _ (λ s held. All-weaker _ _ (λ what there. All-contains P es (record { time = s.time; key = what }) each there) s.held held) (slots_of n es) (lower.slots.only_entered n es)
 

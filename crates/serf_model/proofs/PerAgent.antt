@@ -58,7 +58,7 @@ each-step P r action all keeps =
     (λ b act at. each-still P c r.turns (on_agent c b act None) all refl (λ a m is. ne_eqb b a (λ e. let no : None ≡ Some m = sym at ∙ ap (slice_get c.nodes) e ∙ is in cc)))
     (λ b act m is at. each-applied P c r.turns b act m (apply m c.sent act) all at (keeps b act m is at (all b m at)))
 
-joined-at : (configs : List Config) (a : ℕ) (m : IdealNode) → slice_get (map first_node configs) a ≡ Some m → (config : Config) × (slice_get configs a ≡ Some config) × (first_node config ≡ m)
+pub joined-at : (configs : List Config) (a : ℕ) (m : IdealNode) → slice_get (map first_node configs) a ≡ Some m → (config : Config) × (slice_get configs a ≡ Some config) × (first_node config ≡ m)
 joined-at [] a m is = absurd (cc is)
 joined-at (c ∷ cs) zero m is = let same : first_node c ≡ m = cc is in (c, refl, same)
 joined-at (c ∷ cs) (suc a) m is = joined-at cs a m is

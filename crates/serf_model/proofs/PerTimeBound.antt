@@ -62,7 +62,7 @@ enters-none life k old new same = record { grows = same ∙ sym (append-nil old)
 pub enters-nothing : {K : Type 0} {life k : ℕ} {old : List (Past K)} → Enters life k old old []
 enters-nothing {K} {life} {k} {old} = enters-none life k old old refl
 
-at_most-push : {K : Type 0} (k : ℕ) (es : List (TimedEntry K)) (e : TimedEntry K) → count_at es e.time < k → AtMostOfOneTime k es → AtMostOfOneTime k (es ++ e ∷ [])
+pub at_most-push : {K : Type 0} (k : ℕ) (es : List (TimedEntry K)) (e : TimedEntry K) → count_at es e.time < k → AtMostOfOneTime k es → AtMostOfOneTime k (es ++ e ∷ [])
 at_most-push {K} k es e free all t = subst (λ hs. length hs ≤ k) (sym (held_at-append t es e)) (by (e.time == t) refl)
   where
     by : (b : Bool) → (e.time == t) ≡ b → length (held_at t es ++ cond b (e.key ∷ []) []) ≤ k
@@ -128,7 +128,7 @@ clock-room c life t h ok below = rw (none-at life t h below) (some-of-time c ok)
 
 -- ---- lives
 
-none-of-next : {K : Type 0} (life : ℕ) (h : List (Past K)) → All (λ p. p.life ≤ life) h → of_life (life + 1) h ≡ []
+pub none-of-next : {K : Type 0} (life : ℕ) (h : List (Past K)) → All (λ p. p.life ≤ life) h → of_life (life + 1) h ≡ []
 none-of-next life [] all = refl
 none-of-next {K} life (p ∷ h) all =
     let old : p.life ≤ life = All-head (λ p. p.life ≤ life) p h all in

@@ -11,7 +11,7 @@ use Rattle.serf_model.specs.Cluster.{Applied, Cluster, Done, IdealNode, Run, app
 use Rattle.serf_model.specs.Runs.{HasShortQueries}
 use Rattle.serf_model.specs.Sizes.{HasSizes, IsSized}
 use Rattle.serf_model.specs.Queried.{QueryOnlyFired, WasQueried, queried_by, queries_fired, queries_injected}
-use Rattle.serf_model.specs.Trace.{Turn, entered_by, injected_in, injects_of, packet_given, queried_in, query_brought, query_packets, given_by}
+use Rattle.serf_model.specs.Trace.{Turn, entered_by, injected_in, injects_of, queried_in, query_brought, query_packets, given_by}
 use Rattle.serf_model.proofs.QueryOrigins.{IsAsked, WasAsked, asked-start, asked-step}
 use Rattle.serf_model.proofs.FiredLaws.{all-parts}
 use Rattle.serf_model.proofs.CallsKept.{may-ask}

@@ -1,5 +1,5 @@
 -- Where the queries come from that enter as packets.
-use Rattle.serf_model.proofs.Names.{◌≡◌, ℕ, ◌⊎◌, inl, inr, true, false, List, [], ◌∷◌, ◌++◌, Option, Some, None, refl, sym, ap, subst, ◌∙◌, All, Contains, not, option_to_list, append-nil, All-nil, All-cons, All-head, All-append, All-weaker, All-contains_itself, Contains-append_left, Contains-append_right, canonical, decoded, PushPull, Query, query, push_pull, event_of, Config, event_packet, query_at, ack_if_passed, ack_packet, ack_flag, has_flag, no_broadcast_flag, response_packet, state_of, view_of}
+use Rattle.serf_model.proofs.Names.{◌≡◌, ℕ, ◌⊎◌, inl, inr, true, false, List, [], ◌∷◌, ◌++◌, Option, Some, None, refl, sym, ap, subst, ◌∙◌, All, Contains, not, option_to_list, append-nil, All-nil, All-cons, All-head, All-append, All-weaker, All-contains_itself, Contains-append_left, Contains-append_right, canonical, decoded, PushPull, Query, query, push_pull, event_of, Config, event_packet, ack_if_passed, ack_packet, ack_flag, has_flag, no_broadcast_flag, response_packet, state_of, view_of}
 use Rattle.serf_model.specs.Below.{Below}
 use Rattle.serf_model.specs.declared.action.Action.{Action}
 use Rattle.serf_model.specs.declared.action.Act.{Act}
@@ -7,12 +7,12 @@ use Rattle.serf_model.specs.declared.action.Action.TheVariants.{Of}
 use Rattle.serf_model.specs.declared.line.Answer.TheVariants as lines
 use Rattle.serf_model.specs.Cluster.{Applied, IdealNode, Cluster, Done, Run, Stepped, apply, applied, after, injects, on_agent, start}
 use Rattle.serf_model.specs.Promises.{QueryFired}
-use Rattle.serf_model.specs.Trace.{Turn, injected_in, injects_of, packet_given, queried_in, query_brought, query_packets, given_by}
+use Rattle.serf_model.specs.Trace.{Turn, injected_in, injects_of, queried_in, query_brought, query_packets, given_by}
 use Rattle.serf_model.proofs.Effects.{Effect, IsIdle, asks, counts, effect, fires, hears, is_asked, passes_on, replies, tells, as_message}
 use Rattle.serf_model.proofs.StepCases.{step-cases}
 use Rattle.serf_model.proofs.TurnLaws.{at_each_nil, at_each_push, flat_map-push}
 use Rattle.serf_model.proofs.PacketEvents.{no-query-event, no-query-state, no-query-response}
-use Rattle.serf_model.proofs.FiredLaws.{ack-has, entered-has, given-sent, one}
+use Rattle.serf_model.proofs.PacketsHave.{ack-has, entered-has, given-sent, one}
 
 -- this packet was sent as a query's own, or was injected
 abbrev pub WasAsked : List Turn → List ℕ → Type 0

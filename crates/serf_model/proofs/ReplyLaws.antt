@@ -7,9 +7,10 @@ use Rattle.serf_model.specs.declared.action.Act.{Act}
 use Rattle.serf_model.specs.declared.action.Action.TheVariants.{Of}
 use Rattle.serf_model.specs.AnswerPromises.{answers_in, query_answered}
 use Rattle.serf_model.specs.Cluster.{Applied, Cluster, IdealNode, applied, apply, with_handed}
-use Rattle.serf_model.specs.Trace.{Turn, entered_by, packet_given, given_by}
+use Rattle.serf_model.specs.Trace.{Turn, entered_by, given_by}
 use Rattle.serf_model.proofs.Effects.{Effect, counts, effect, hears, replies}
-use Rattle.serf_model.proofs.HandedLaws.{IsWithin, fresh-last, hands-apply}
+use Rattle.serf_model.proofs.HandedLaws.{hands-apply}
+use Rattle.serf_model.proofs.Within.{IsWithin, fresh-last}
 use Rattle.serf_model.proofs.HandedQueries.{pushed-at, stood}
 use Rattle.serf_model.proofs.OpenQueryContents.{queries_in}
 use Rattle.serf_model.proofs.SendLaws.{Makes, makes_ack, makes_none, makes_reply}

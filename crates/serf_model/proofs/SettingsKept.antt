@@ -1,20 +1,16 @@
 -- Each agent has its settings, at each step.
-use Rattle.serf_model.proofs.Names.{◌≡◌, ℕ, true, List, [], ◌∷◌, ◌∙◌, Option, Some, refl, sym, ap, slice_get, All, AllByRecursion, All-nil, All-cons, recursion_from_All, Config, is_sound}
+use Rattle.serf_model.proofs.Names.{◌≡◌, ℕ, true, List, [], ◌∷◌, ◌∙◌, Some, sym, ap, slice_get, All, AllByRecursion, All-nil, All-cons, recursion_from_All, Config, is_sound}
 use Rattle.serf_model.specs.Below.{Below}
 use Rattle.serf_model.specs.declared.action.Action.{Action}
 use Rattle.serf_model.specs.declared.action.Action.TheVariants.{Of}
-use Rattle.serf_model.specs.Cluster.{Applied, IdealNode, Run, after, apply, start}
+use Rattle.serf_model.specs.Cluster.{IdealNode, Run, after, apply, start}
 use Rattle.serf_model.specs.Runs.{AreConfigs, HasShortQueries}
 use Rattle.serf_model.specs.Trace.{Turn, given_by}
 use Rattle.serf_model.proofs.CallsKept.{query_limit-short}
-use Rattle.serf_model.proofs.Effects.{Effect, effect, hears}
+use Rattle.serf_model.proofs.Effects.{effect, settings-kept}
 use Rattle.serf_model.proofs.PerAgent.{Each, each-start, each-step}
 use Rattle.serf_model.proofs.RunLaws.{all-at}
 use Rattle.serf_model.proofs.StartLaws.{all-sound}
-
-settings-kept : (m : IdealNode) (action : Action) (given : Option (List ℕ)) (o : Applied) → Effect m action given o → o.node.agent.config ≡ m.agent.config
-settings-kept m action given _ (hears j outs answer h idle) = h.config
-settings-kept m action given _ _ = refl
 
 -- each agent has its settings
 abbrev pub HasSettings : List Config → ℕ → List Turn → IdealNode → Type 0

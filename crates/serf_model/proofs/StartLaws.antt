@@ -1,11 +1,16 @@
 -- A cluster that has done nothing.
-use Rattle.serf_model.proofs.Names.{zero, suc, ◌≡◌, ℕ, ◌+◌, ◌≤◌, nat_lt, Bool, true, false, cond, List, [], ◌∷◌, Some, None, refl, arith, map, length, not, slice_get, AllByRecursion, position_or_len, ltb-false, Config, is_sound}
+use Rattle.serf_model.proofs.Names.{◌≡◌, inr, sym, ap, subst, Contains, All, All-nil, EventBody, TimedEntry, Past, unopened, opened, fresh_device, ◌+◌, ◌≤◌, nat_lt, Bool, true, false, cond, List, [], ◌∷◌, Some, None, refl, arith, map, length, not, slice_get, AllByRecursion, position_or_len, ltb-false, Config, is_sound}
 use Rattle.serf_model.specs.Below.{Below}
-use Rattle.serf_model.specs.Cluster.{first_node, start}
+use Rattle.serf_model.specs.Cluster.{first_node, opened_first, start}
 use Rattle.serf_model.specs.Ready.{AreRepresentable, IsRepresentable}
 use Rattle.serf_model.specs.Runs.{AreConfigs, NoneBadIsSound}
-use Rattle.serf_model.proofs.InvariantKept.{representable-opened_first}
-use Rattle.serf_model.proofs.RunLaws.{IsAfter, events_at, queries_of}
+use Rattle.serf_model.proofs.HistoryGrowth.{Says}
+use Rattle.serf_model.proofs.InvariantKept.{first-events, representable-opened_first}
+use Rattle.serf_model.proofs.PacketsHave.{Carries}
+use Rattle.serf_model.proofs.RunLaws.{IsAfter, Told, events_at, queries_of}
+use Rattle.serf_model.proofs.SaysKept.{says-reopened}
+use Rattle.serf_model.proofs.Spreading.{Spreads}
+use Rattle.serf_model.proofs.Within.{IsWithin}
 
 -- settings of which none is bad are sound
 none-bad : (configs : List Config) → length configs ≤ position_or_len (λ c. not (is_sound c)) configs → AllByRecursion (λ c. is_sound c ≡ true) configs
@@ -28,21 +33,37 @@ representable-first_node : Below → (configs : List Config) → AllByRecursion 
 representable-first_node lower [] ok = tt
 representable-first_node lower (c ∷ cs) ok = (representable-opened_first lower c ok.0, representable-first_node lower cs ok.1)
 
-no-events : (configs : List Config) (a : ℕ) → events_at (slice_get (map first_node configs) a) ≡ []
-no-events [] a = refl
-no-events (c ∷ cs) zero = refl
-no-events (c ∷ cs) (suc a) = no-events cs a
+-- each agent has its settings
+first-settings : (configs : List Config) → map (λ m. m.agent.config) (map first_node configs) ≡ configs
+first-settings [] = refl
+first-settings (c ∷ cs) = ap (λ l. c ∷ l) (first-settings cs)
 
-no-queries : (configs : List Config) (a : ℕ) → queries_of (slice_get (map first_node configs) a) ≡ []
-no-queries [] a = refl
-no-queries (c ∷ cs) zero = refl
-no-queries (c ∷ cs) (suc a) = no-queries cs a
+-- nothing was entered, no text says an event, and nothing was sent
+pub says-first : Below → (P : TimedEntry EventBody → Type 0) (c : Config) → Says P (opened_first c)
+says-first lower P c = record {
+  entered = subst (All (λ (p : Past EventBody). P p.entry)) (sym (first-events c)) (All-nil (λ (p : Past EventBody). P p.entry));
+  durable = λ keeps. says-reopened lower P (unopened c (opened [] (fresh_device []))) [] (All-nil P);
+}
 
-after-sound : Below → (configs : List Config) → AllByRecursion (λ c. is_sound c ≡ true) configs → IsAfter (start configs).cluster []
-after-sound lower configs ok = record { representable = representable-first_node lower configs ok; events = no-events configs; queries = no-queries configs; sent = refl }
+says-nodes : Below → (P : TimedEntry EventBody → Type 0) (configs : List Config) → AllByRecursion (λ m. Says P m.agent) (map first_node configs)
+says-nodes lower P [] = tt
+says-nodes lower P (c ∷ cs) = (says-first lower P c, says-nodes lower P cs)
 
-pub after-start : Below → (configs : List Config) → AreConfigs configs → IsAfter (start configs).cluster []
-after-start lower configs ok = after-sound lower configs (all-sound configs ok.sound)
+pub spreads-start : Below → (P : TimedEntry EventBody → Type 0) (configs : List Config) → Spreads P (start configs).cluster
+spreads-start lower P configs = record { agents = says-nodes lower P configs; packets = All-nil (Carries P) }
+
+within-none : {X : Type 0} (xs : List X) → IsWithin xs []
+within-none xs = record { within = All-nil (Contains xs); once = λ i j d lt within. absurd (omega arith) }
+
+pub after-start : Below → (configs : List Config) → AreConfigs configs → IsAfter configs (start configs).cluster []
+after-start lower configs ok = record {
+  representable = representable-first_node lower configs (all-sound configs ok.sound);
+  settings = first-settings configs;
+  told = inr (spreads-start lower Told configs);
+  events = λ a. within-none (events_at (slice_get (map first_node configs) a));
+  queries = λ a. within-none (queries_of (slice_get (map first_node configs) a));
+  sent = refl;
+}
 
 -- the agents of a cluster that has done nothing
 pub representable-start : Below → (configs : List Config) → AreConfigs configs → AreRepresentable (start configs).cluster

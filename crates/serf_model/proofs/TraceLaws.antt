@@ -1,11 +1,11 @@
 -- The turns of a run are read off its actions and its trace.
-use Rattle.serf_model.proofs.Names.{suc, ◌≡◌, ℕ, ◌+◌, List, [], ◌∷◌, ◌++◌, refl, sym, ap, ◌∙◌, map, length, take, drop, append_assoc, length-append, fold, append-nil, map-append}
+use Rattle.serf_model.proofs.Names.{suc, None, ◌≡◌, ℕ, ◌+◌, List, [], ◌∷◌, ◌++◌, refl, sym, ap, ◌∙◌, map, length, take, drop, append_assoc, length-append, fold, append-nil, map-append}
 use Rattle.serf_model.specs.declared.action.Action.{Action}
-use Rattle.serf_model.specs.Cluster.{Cluster, Run, apply, step, after, trace_of, numbers_from}
+use Rattle.serf_model.specs.Cluster.{Cluster, Run, applied, apply, injects, on_agent, step, after, trace_of, numbers_from}
 use Rattle.serf_model.specs.Trace.{Turn, AtEach, sent_in, turns_from, turns_of, packet_given}
 use Rattle.serf_model.proofs.StepCases.{step-cases}
 use Rattle.serf_model.proofs.TurnLaws.{at_each_nil, at_each_push, flat_map-push}
-use Rattle.serf_model.proofs.RunLaws.{IsAfter, turn-action, turn-given}
+use Rattle.serf_model.proofs.RunLaws.{turn-action, turn-given}
 
 take-front : {X : Type 0} (xs ys : List X) → take (length xs) (xs ++ ys) ≡ xs
 take-front [] ys = refl
@@ -55,12 +55,21 @@ count-step : (c : Cluster) (action : Action) → length (step c action).turn.lin
 count-step c action =
     step-cases (λ s. length s.turn.line.sent ≡ length s.turn.packets) c action (λ bytes. refl) (λ b act at. refl) (λ b act m is at. length-numbers (length c.sent) (apply m c.sent act).done.packets)
 
-pub read-step : (r : Run) (action : Action) → IsAfter r.cluster r.turns → AtEach IsRead r.turns → AtEach IsRead (after r action).turns
+sent-more : {sent new : List (List ℕ)} (turns : List Turn) (turn : Turn) → new ≡ sent ++ turn.packets → sent ≡ sent_in turns → new ≡ sent_in (turns ++ turn ∷ [])
+sent-more {sent} {new} turns turn is h = is ∙ ap (λ l. l ++ turn.packets) h ∙ sym (flat_map-push (λ (t : Turn). t.packets) turns turn)
+
+pub read-step : (r : Run) (action : Action) → r.cluster.sent ≡ sent_in r.turns → AtEach IsRead r.turns → AtEach IsRead (after r action).turns
 read-step r action h all =
     at_each_push IsRead r.turns (step r.cluster action).turn all (record {
-      given = turn-given r.cluster action ∙ ap (λ l. packet_given l action) h.sent ∙ ap (packet_given (sent_in r.turns)) (sym (turn-action r.cluster action));
+      given = turn-given r.cluster action ∙ ap (λ l. packet_given l action) h ∙ ap (packet_given (sent_in r.turns)) (sym (turn-action r.cluster action));
       count = count-step r.cluster action;
     })
+
+-- what was sent is what the turns say
+pub sent-step : (r : Run) (action : Action) → r.cluster.sent ≡ sent_in r.turns → (after r action).cluster.sent ≡ sent_in (after r action).turns
+sent-step r action h =
+    step-cases (λ s. s.cluster.sent ≡ sent_in (r.turns ++ s.turn ∷ [])) r.cluster action (λ bytes. sent-more r.turns (injects r.cluster bytes).turn refl h)
+    (λ b act at. sent-more r.turns (on_agent r.cluster b act None).turn (sym (append-nil r.cluster.sent)) h) (λ b act m is at. sent-more r.turns (applied r.cluster b act (apply m r.cluster.sent act)).turn refl h)
 
 pub read-start : AtEach IsRead []
 read-start = at_each_nil IsRead
@@ -68,10 +77,10 @@ read-start = at_each_nil IsRead
 pub actions-step : (r : Run) (action : Action) → map (λ t. t.action) (after r action).turns ≡ map (λ t. t.action) r.turns ++ action ∷ []
 actions-step r action = map-append (λ (t : Turn). t.action) r.turns _ ∙ ap (λ a. map (λ (t : Turn). t.action) r.turns ++ a ∷ []) (turn-action r.cluster action)
 
-pub reads : (r : Run) (actions more : List Action) → IsAfter r.cluster r.turns → AtEach IsRead r.turns → map (λ t. t.action) r.turns ++ more ≡ actions → turns_of actions (trace_of r) ≡ r.turns
+pub reads : (r : Run) (actions more : List Action) → r.cluster.sent ≡ sent_in r.turns → AtEach IsRead r.turns → map (λ t. t.action) r.turns ++ more ≡ actions → turns_of actions (trace_of r) ≡ r.turns
 reads r actions more h all same =
     ap (λ (l : List Action). turns_from 0 r.cluster.sent l (map (λ (t : Turn). t.line) r.turns)) (sym same)
-    ∙ ap (λ l. turns_from 0 l (map (λ (t : Turn). t.action) r.turns ++ more) (map (λ (t : Turn). t.line) r.turns)) h.sent
+    ∙ ap (λ l. turns_from 0 l (map (λ (t : Turn). t.action) r.turns ++ more) (map (λ (t : Turn). t.line) r.turns)) h
     ∙ reads-from [] r.turns more all
 
 -- a run's turns have its actions

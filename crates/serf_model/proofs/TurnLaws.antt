@@ -1,11 +1,20 @@
 -- Lists of turns that grow.
-use Rattle.serf_model.proofs.Names.{◌≡◌, List, [], ◌∷◌, ◌++◌, refl, ap, subst, ◌∙◌, ◌⊎◌, inl, inr, fold, flat_map, append-nil, flat_map-append}
+use Rattle.serf_model.proofs.Names.{◌≡◌, List, [], ◌∷◌, ◌++◌, refl, ap, subst, ◌∙◌, ◌⊎◌, inl, inr, AllByRecursion, fold, flat_map, append-nil, flat_map-append}
 use Rattle.serf_model.specs.Trace.{Turn, AtEach}
 
 -- what each step keeps holds in the end
 pub fold_keeps : {A B : Type 0} (P : B → Type 0) (f : B → A → B) (b : B) (xs : List A) → P b → ((c : B) (x : A) → P c → P (f c x)) → P (fold f b xs)
 fold_keeps P f b [] p step = p
 fold_keeps P f b (x ∷ xs) p step = fold_keeps P f (f b x) xs (step b x p) step
+
+-- what each step keeps at elements of this kind holds in the end
+pub fold_keeps_at : {A B : Type 0} (P : B → Type 0) (Q : A → Type 0) (f : B → A → B) (b : B) (xs : List A) → P b → AllByRecursion Q xs → ((c : B) (x : A) → Q x → P c → P (f c x)) → P (fold f b xs)
+fold_keeps_at P Q f b [] p all step = p
+fold_keeps_at P Q f b (x ∷ xs) p all step = fold_keeps_at P Q f (f b x) xs (step b x all.0 p) all.1 step
+
+pub both-each : {A : Type 0} (P Q : A → Type 0) (xs : List A) → AllByRecursion P xs → AllByRecursion Q xs → AllByRecursion (λ x. P x × Q x) xs
+both-each P Q [] p q = tt
+both-each P Q (x ∷ xs) p q = ((p.0, q.0), both-each P Q xs p.1 q.1)
 
 -- where a list with one more is cut at an element, that is the last one or stands before it
 pub cut_last : {X : Type 0} (xs : List X) (x : X) (before : List X) (y : X) (rest : List X) → xs ++ x ∷ [] ≡ before ++ y ∷ rest

@@ -1,8 +1,10 @@
 -- For each promise a small list of turns that breaks it, and the proof that the promise refuses this list. A definition
 -- that is changed so that it promises nothing doesn't pass here.
-use Rattle.serf_model.proofs.Names.{◌≡◌, ◌≢◌, ℕ, ◌<◌, ◌≤◌, ◌+◌, inl, inr, Bool, true, false, List, [], ◌∷◌, ◌++◌, Option, Some, None, Ok, refl, sym, ap, subst, ◌∙◌, arith, cond, length, map, pos, All, AllPairs, Contains, not, slice_get, slice_index_or, option_to_list, WireFault, decoded, Message, Query, QueryResponse, UserEvent, query, query_response, user_event, event_of, TimedEntry, Config, OpenQuery, QueryParams, deadline_of, is_ack, query_at}
+use Rattle.serf_model.proofs.Names.{◌≡◌, ◌≢◌, ℕ, ◌<◌, ◌≤◌, ◌+◌, inl, inr, Bool, true, false, List, [], ◌∷◌, ◌++◌, Option, Some, None, Ok, refl, sym, ap, subst, ◌∙◌, arith, cond, observed, length, map, pos, All, All-cons, All-nil, AllPairs, Contains, not, slice_get, slice_index_or, option_to_list, WireFault, EventBody, decoded, Message, PushPull, Query, QueryResponse, UserEvent, push_pull, query, query_response, user_event, events_of, event_of, TimedEntry, Config, OpenQuery, QueryParams, deadline_of, is_ack, query_at}
 use Rattle.std.specs.Prelude.{Result, filter}
 use Rattle.serf_agent.specs.declared.outcome.Reason.TheVariants as reasons
+use Rattle.serf_agent.specs.Events.{texts_len}
+use Rattle.serf_agent.specs.Kept.{HasMet, IsMet}
 use Rattle.serf_model.specs.declared.action.Action.{Action}
 use Rattle.serf_model.specs.declared.action.Act.TheVariants as acts
 use Rattle.serf_model.specs.declared.action.Action.TheVariants.{Of}
@@ -14,9 +16,11 @@ use Rattle.serf_model.specs.AnswerPromises.{AckedOnce, AnswersMade, CountedInTim
 use Rattle.serf_model.specs.Bounds.{EventsBounded, QueriesBounded}
 use Rattle.serf_model.specs.Cluster.{IdealNode}
 use Rattle.serf_model.specs.HandOuts.{HandsOutEntered, HandsOutGiven, MessagesFired, NewIsHanded, OnlyToActor, messages_fired, query_message}
-use Rattle.serf_model.specs.Promises.{Held, Later, Once, OnlyFired, QueryFired, QueryHandedOnce, QueryLater, QueryOnce, WasFired}
+use Rattle.serf_model.specs.NotMissed.{IsToCome, Kept, clock_told, least_told}
+use Rattle.serf_model.specs.Promises.{Held, HeldOrTailed, Later, Once, OnlyFired, OnlyFiredOrTailed, WasFiredOrTailed, QueryFired, QueryHandedOnce, QueryLater, QueryOnce, WasFired}
 use Rattle.serf_model.specs.Queried.{QueryOnlyFired, WasQueried}
-use Rattle.serf_model.specs.Trace.{Turn, events_brought, query_brought}
+use Rattle.serf_model.specs.Tails.{actor_keeps, keeps, tail_events, tailed_by, tailed_in, tails_to}
+use Rattle.serf_model.specs.Trace.{Turn, actor_of, events_brought, query_brought}
 
 -- ---- turns
 
@@ -27,6 +31,10 @@ turn action answer events handed = record { action = action; line = record { ans
 -- a packet is delivered to an agent
 abbrev delivery : ℕ → List ℕ → Answer → Option HandedLine → Turn
 delivery a packet answer handed = record { action = Of a (acts.Deliver 0 0); line = record { answer = answer; sent = []; events = []; handed = handed }; given = Some packet; packets = [] }
+
+-- agent 0 merges a state, not by a join
+abbrev merging : List ℕ → Turn
+merging packet = record { action = Of 0 (acts.Merge 0 false); line = record { answer = answers.Merged; sent = []; events = []; handed = None }; given = Some packet; packets = [] }
 
 -- agent 0 sends a packet, whatever it does
 abbrev sending : Action → Answer → List ℕ → Turn
@@ -83,6 +91,132 @@ carries-refuses packet e reads h =
       | inl fired ↦ in-none _ fired
       | inr brought ↦ in-none _ brought
     ]
+
+-- a turn that opens nobody brings no tail, whatever the settings are
+no-tail : (configs : List Config) (turn : Turn) → tailed_by turn.action ≡ [] → tailed_in configs turn ≡ []
+no-tail configs turn none = ap (λ l. cond (actor_keeps configs (actor_of turn.action)) l []) none ∙ by (actor_keeps configs (actor_of turn.action))
+  where
+    by : (b : Bool) → cond {A = List (TimedEntry EventBody)} b [] [] ≡ []
+    by true = refl
+    by false = refl
+
+not-tailed : (configs : List Config) (turn : Turn) (e : TimedEntry EventBody) → tailed_in configs turn ≡ [] → Contains (tail_events configs (turn ∷ [])) e → ⊥
+not-tailed configs turn e none h = in-none e (subst (λ (l : List (TimedEntry EventBody)). Contains l e) (ap (λ l. l ++ []) none) h)
+
+-- an event is handed out that nobody fired, and that stands in no tail
+tailed-refuses : (configs : List Config) → OnlyFiredOrTailed configs (turn (Of 0 (acts.Close 0)) (answers.Closed 0) (handed_event 0 1 ∷ []) None ∷ []) → ⊥
+tailed-refuses configs h =
+    let wrong : Turn = turn (Of 0 (acts.Close 0)) (answers.Closed 0) (handed_event 0 1 ∷ []) None in
+    elim (h [] wrong [] refl 0 (handed_event 0 1) (omega arith)) [
+      | inl (inl fired) ↦ in-none _ fired
+      | inl (inr brought) ↦ in-none _ brought
+      | inr tailed ↦ not-tailed configs wrong _ (no-tail configs wrong refl) tailed
+    ]
+
+-- an agent that keeps no events hands out what its tail says
+untold-refuses : (configs : List Config) (config : Config) (tail : List ℕ) → slice_get configs 0 ≡ Some config → config.keep_events ≡ false
+    → OnlyFiredOrTailed configs (turn (Of 0 (acts.Restart tail)) (answers.Restarted 1 1 1) (handed_event 0 1 ∷ []) None ∷ []) → ⊥
+untold-refuses configs config tail at none h =
+    let wrong : Turn = turn (Of 0 (acts.Restart tail)) (answers.Restarted 1 1 1) (handed_event 0 1 ∷ []) None in
+    let drops : tailed_in configs wrong ≡ [] = ap (λ c. cond (keeps c) (tailed_by wrong.action) []) at ∙ ap (λ b. cond b (tailed_by wrong.action) []) none in
+    elim (h [] wrong [] refl 0 (handed_event 0 1) (omega arith)) [
+      | inl (inl fired) ↦ in-none _ fired
+      | inl (inr brought) ↦ in-none _ brought
+      | inr tailed ↦ not-tailed configs wrong _ drops tailed
+    ]
+
+-- a packet carries an event that nobody fired, and that stands in no tail
+carries_tailed-refuses : (configs : List Config) (packet : List ℕ) (e : UserEvent) → decoded packet ≡ Ok (user_event e) → HeldOrTailed configs (sending (Of 0 acts.State) answers.State packet ∷ []) → ⊥
+carries_tailed-refuses configs packet e reads h =
+    let wrong : Turn = sending (Of 0 acts.State) answers.State packet in
+    let all : All (WasFiredOrTailed configs (wrong ∷ [])) (events_brought (decoded packet)) = h.0 [] wrong [] refl 0 packet (omega arith) in
+    let found : WasFiredOrTailed configs (wrong ∷ []) (record { time = e.time; key = event_of e.name e.payload }) =
+    subst (λ r. All (WasFiredOrTailed configs (wrong ∷ [])) (events_brought r)) reads all 0 (record { time = e.time; key = event_of e.name e.payload }) (omega arith) in
+    elim found [
+      | inl (inl fired) ↦ in-none _ fired
+      | inl (inr brought) ↦ in-none _ brought
+      | inr tailed ↦ not-tailed configs wrong _ (no-tail configs wrong refl) tailed
+    ]
+
+-- an agent ignores an event as seen that only another agent's tail says
+seen_tailed-refuses : (configs : List Config) (tail packet : List ℕ) (e : UserEvent) → decoded packet ≡ Ok (user_event e)
+    → HeldOrTailed configs (turn (Of 1 (acts.Restart tail)) (answers.Restarted 1 1 1) [] None ∷ delivery 0 packet (answers.Ignored reasons.Seen) None ∷ []) → ⊥
+seen_tailed-refuses configs tail packet e reads h =
+    let before : List Turn = turn (Of 1 (acts.Restart tail)) (answers.Restarted 1 1 1) [] None ∷ [] in
+    elim (h.1 before (delivery 0 packet (answers.Ignored reasons.Seen) None) [] refl 0 packet e refl refl refl reads) [
+      | inl handed ↦ in-none _ handed
+      | inr tailed ↦ in-none _ tailed
+    ]
+
+-- where nothing was handed out and no tail says anything, nothing was met
+unmet : (stood : List (TimedEntry EventBody)) (k t : ℕ) → 0 < k → ((e : TimedEntry EventBody) → Contains stood e → ⊥) → HasMet k t [] stood → ⊥
+unmet stood k t some none h = by h.events h.many h.met
+  where
+    by : (es : List (TimedEntry EventBody)) → k ≤ length es → All (λ e. (e.time ≡ t) × IsMet [] stood e) es → ⊥
+    by [] many met = absurd (omega (arith, some, many))
+    by (x ∷ xs) many met = elim ((met 0 x (omega arith)).1) [
+      | inl handed ↦ in-none x handed
+      | inr tailed ↦ none x tailed
+    ]
+
+-- an agent that keeps its events was opened again, and ignores an event that is new to it and within its window
+kept-refuses : (configs : List Config) (c : Config) (packet : List ℕ) (e : UserEvent) → slice_get configs 0 ≡ Some c → c.keep_events ≡ true → 0 < c.per_time → decoded packet ≡ Ok (user_event e) → 0 < e.time → texts_len (event_of e.name e.payload) ≤ 9216
+    → observed 5 e.time ≤ e.time + c.event_buffer → Kept configs (turn (Of 0 (acts.Restart [])) (answers.Restarted 1 5 1) [] None ∷ delivery 0 packet (answers.Ignored reasons.BelowMinimum) None ∷ []) → ⊥
+kept-refuses configs c packet e at on few reads some short young h =
+    let there : Contains (events_brought (decoded packet)) entry = subst (λ r. Contains (events_brought r) entry) (sym reads) (0, omega arith, refl) in
+    elim (h (restart ∷ []) ignored [] refl 0 c entry at on refl refl there come) [
+      | inl found ↦ in-none entry found
+      | inr (inl full) ↦ unmet (tails_to configs 0 (restart ∷ [])) c.per_time e.time few none full
+      | inr (inr later) ↦ unmet (tails_to configs 0 (restart ∷ [])) (c.per_time + 1) later.0 (omega arith) none later.2
+    ]
+  where
+    restart : Turn
+    restart = turn (Of 0 (acts.Restart [])) (answers.Restarted 1 5 1) [] None
+
+    ignored : Turn
+    ignored = delivery 0 packet (answers.Ignored reasons.BelowMinimum) None
+
+    entry : TimedEntry EventBody
+    entry = record { time = e.time; key = event_of e.name e.payload }
+
+    none : (x : TimedEntry EventBody) → Contains (tails_to configs 0 (restart ∷ [])) x → ⊥
+    none x tailed = not-tailed configs restart x (no-tail configs restart refl) tailed
+
+    unmet-by : IsMet [] (tails_to configs 0 (restart ∷ [])) entry → ⊥
+    unmet-by (inl handed) = in-none entry handed
+    unmet-by (inr tailed) = none entry tailed
+
+    come : IsToCome configs 0 c (restart ∷ []) ignored entry
+    come = record {
+      some = some;
+      short = short;
+      young = subst (λ r. clock_told 5 (acts.Deliver 0 0) r ≤ e.time + c.event_buffer) (sym reads) young;
+      told = All-cons (λ (t : Turn). least_told c t ≤ e.time) restart (ignored ∷ []) (omega (arith, some)) (All-cons (λ (t : Turn). least_told c t ≤ e.time) ignored [] (omega arith) (All-nil (λ (t : Turn). least_told c t ≤ e.time)));
+      new = λ met. unmet-by met;
+    }
+
+-- an agent that keeps its events merges a state, and hands out none of its events
+kept-refuses_state : (configs : List Config) (c : Config) (packet : List ℕ) (m : PushPull) (e : TimedEntry EventBody) → slice_get configs 0 ≡ Some c → c.keep_events ≡ true → 0 < c.per_time → decoded packet ≡ Ok (push_pull m) → Contains (events_of m.slots) e → 0 < e.time → texts_len e.key ≤ 9216
+    → clock_told 1 (acts.Merge 0 false) (Ok (push_pull m)) ≤ e.time + c.event_buffer → Kept configs (merging packet ∷ []) → ⊥
+kept-refuses_state configs c packet m e at on few reads carries some short young h =
+    elim (h [] (merging packet) [] refl 0 c e at on refl refl (subst (λ r. Contains (events_brought r) e) (sym reads) carries) come) [
+      | inl found ↦ in-none e found
+      | inr (inl full) ↦ unmet [] c.per_time e.time few in-none full
+      | inr (inr later) ↦ unmet [] (c.per_time + 1) later.0 (omega arith) in-none later.2
+    ]
+  where
+    unmet-by : IsMet [] [] e → ⊥
+    unmet-by (inl handed) = in-none e handed
+    unmet-by (inr tailed) = in-none e tailed
+
+    come : IsToCome configs 0 c [] (merging packet) e
+    come = record {
+      some = some;
+      short = short;
+      young = subst (λ r. clock_told 1 (acts.Merge 0 false) r ≤ e.time + c.event_buffer) (sym reads) young;
+      told = All-cons (λ (t : Turn). least_told c t ≤ e.time) (merging packet) [] (omega arith) (All-nil (λ (t : Turn). least_told c t ≤ e.time));
+      new = λ met. unmet-by met;
+    }
 
 -- a turn hands out to an agent that doesn't act
 to_actor-refuses : OnlyToActor (turn (Of 0 (acts.Fire [] [] false)) (answers.Fired 1) (handed_event 0 1 ∷ handed_event 1 1 ∷ []) None ∷ []) → ⊥

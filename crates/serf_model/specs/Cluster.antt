@@ -37,7 +37,7 @@ use Rattle.serf_agent.specs.Events.{fire}
 use Rattle.serf_agent.specs.Queries.{fire_query, close_due, respond_fault, response_packet}
 use Rattle.serf_agent.specs.Receive.{receive}
 use Rattle.serf_agent.specs.Restart.{restarted, unopened}
-use Rattle.serf_agent.specs.States.{send_state, joined, events_of, receive_one, handed_by, merge_refusal, save, compact}
+use Rattle.serf_agent.specs.States.{send_state, hear, events_of, receive_one, handed_by, merge_refusal, save, compact}
 use Rattle.serf_agent.specs.View.{view_of}
 use Rattle.serf_model.specs.declared.action.Act.{Act}
 use Rattle.serf_model.specs.declared.action.Act.TheVariants as acts
@@ -182,9 +182,17 @@ merge_gives m o = record {
   done = record { answer = if o.failed then answers.Refused SinkFault else answers.Merged; packets = []; events = o.events; handed = None };
 }
 
+-- a state was heard of, and then its events are received; or the line of what was heard of failed
+abbrev pub merges_heard : IdealNode → List (TimedEntry EventBody) → Step (Result (Unit {0}) MergeFault) → Applied
+merges_heard m events step = by step.answer
+  where
+    by : Result (Unit {0}) MergeFault → Applied
+    by (Ok done) = merge_gives m (merges_events events step.agent)
+    by (Err fault) = record { node = record { agent = step.agent; handed = m.handed }; done = refused (merge_refusal_of fault) }
+
 abbrev pub merges_as : Option MergeFault → IdealNode → Bool → Result Message WireFault → Applied
 merges_as (Some fault) m join r = does_nothing m (refused (merge_refusal_of fault))
-merges_as None m join (Ok (push_pull p)) = merge_gives m (merges_events (events_of p.slots) (joined p join m.agent))
+merges_as None m join (Ok (push_pull p)) = merges_heard m (events_of p.slots) (planned m.agent (hear m.agent p join))
 merges_as None m join _ = does_nothing m (refused NotPushPull)
 
 abbrev pub merges_packet : IdealNode → Bool → Result Message WireFault → Applied
@@ -255,7 +263,7 @@ text_after i tail = unwrap_or i.snapshot.durable [] ++ tail
 
 -- the agent in a new life, over a new sink that keeps this text
 abbrev pub reopened : IdealAgent → List ℕ → IdealAgent
-reopened i text = restarted (opened text (fresh_device text)) i
+reopened i text = restarted text (opened text (fresh_device text)) i
 
 abbrev pub restart_gives : IdealAgent → Done
 restart_gives i = only (answers.Restarted i.member_clock i.events.clock i.queries.clock)

@@ -5,16 +5,23 @@ use Rattle.serf_model.specs.AnswerPromises.{AckedOnce, AnswersMade, CountedInTim
 use Rattle.serf_model.specs.Bounds.{EventsBounded, QueriesBounded}
 use Rattle.serf_model.specs.Cluster.{Run}
 use Rattle.serf_model.specs.HandOuts.{HandsOutEntered, HandsOutGiven, MessagesFired, NewIsHanded, OnlyToActor}
-use Rattle.serf_model.specs.Promises.{Held, Later, Once, OnlyFired, QueryFired, QueryHandedOnce, QueryLater, QueryOnce}
+use Rattle.serf_model.specs.NotMissed.{Kept}
+use Rattle.serf_model.specs.Promises.{Held, HeldOrTailed, Later, Once, OnlyFired, OnlyFiredOrTailed, QueryFired, QueryHandedOnce, QueryLater, QueryOnce}
 use Rattle.serf_model.specs.Queried.{QueryOnlyFired}
+use Rattle.serf_model.specs.Tails.{NoneKeeps}
 
 -- A run of agents of these settings keeps all promises.
 pub record KeepsPromises (configs : List Config) (r : Run) : Type 0 where
   -- events
   pub once : Once r.turns
-  pub fired : OnlyFired r.turns
+  pub fired : OnlyFiredOrTailed configs r.turns
   pub later : Later r.turns
-  pub held : Held r.turns
+  pub held : HeldOrTailed configs r.turns
+  -- and where no agent keeps its events, no tail brings any
+  pub fired_alone : NoneKeeps configs → OnlyFired r.turns
+  pub held_alone : NoneKeeps configs → Held r.turns
+  -- and what agents that keep their events don't miss
+  pub kept : Kept configs r.turns
   -- queries
   pub query_once : QueryOnce r.turns
   pub query_later : QueryLater r.turns

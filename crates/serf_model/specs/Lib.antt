@@ -9,7 +9,9 @@ pub mod Queried
 pub mod AnswerPromises
 pub mod Bounds
 pub mod HandOuts
+pub mod Tails
 pub mod Alone
+pub mod NotMissed
 pub mod Kept
 pub mod Merging
 pub mod Below

@@ -6,8 +6,10 @@ use Rattle.serf_wire.specs.Decoded.{decoded}
 use Rattle.serf_wire.specs.Message.{UserEvent, user_event}
 use Rattle.serf_window.specs.Texts.{event_of}
 use Rattle.serf_window.specs.Window.{TimedEntry}
+use Rattle.serf_agent.specs.declared.config.Config.{Config}
 use Rattle.serf_agent.specs.declared.outcome.Reason.TheVariants as reasons
 use Rattle.serf_model.specs.declared.line.Answer.TheVariants as answers
+use Rattle.serf_model.specs.Tails.{tail_events, tails_to}
 use Rattle.serf_model.specs.Trace.{Turn, AtEach, actor_of, event_in, events_to, fired_in, injected_events, events_in_packet, injected_in, queried_in, queries_at, queries_to}
 
 -- Events
@@ -42,6 +44,33 @@ SeenWasHanded turns =
 -- What a push/pull holds, and what is ignored as seen.
 abbrev pub Held : List Turn → Type 0
 Held turns = CarriesOnlyFired turns × SeenWasHanded turns
+
+-- Events, where agents keep them over a restart: what a restart takes back of its tail nobody may have fired.
+
+-- some agent fired this event at its time, or an injected packet carries it, or its line stands in the tail of a restart of an
+-- agent that keeps its events
+abbrev pub WasFiredOrTailed : List Config → List Turn → TimedEntry EventBody → Type 0
+WasFiredOrTailed configs turns e = WasFired turns e ⊎ Contains (tail_events configs turns) e
+
+-- Each event that is handed out was fired at its time, or an injected packet or such a tail brings it.
+abbrev pub OnlyFiredOrTailed : List Config → List Turn → Type 0
+OnlyFiredOrTailed configs turns = AtEach (λ before turn. All (λ e. WasFiredOrTailed configs (before ++ turn ∷ []) (event_in e)) turn.line.events) turns
+
+-- And so is each event that a packet carries.
+abbrev pub CarriesOnlyFiredOrTailed : List Config → List Turn → Type 0
+CarriesOnlyFiredOrTailed configs turns =
+    AtEach (λ before turn. All (λ packet. All (WasFiredOrTailed configs (before ++ turn ∷ [])) (events_in_packet packet)) turn.packets) turns
+
+-- An event is ignored as seen only where it was handed to this agent before, or stood in a tail that it was opened on.
+abbrev pub SeenWasHandedOrTailed : List Config → List Turn → Type 0
+SeenWasHandedOrTailed configs turns =
+    AtEach (λ before turn. (a : ℕ) (packet : List ℕ) (e : UserEvent) → actor_of turn.action ≡ Some a → turn.line.answer ≡ answers.Ignored reasons.Seen
+    → turn.given ≡ Some packet → decoded packet ≡ Ok (user_event e)
+    → Contains (events_to a before) (record { time = e.time; key = event_of e.name e.payload })
+    ⊎ Contains (tails_to configs a before) (record { time = e.time; key = event_of e.name e.payload })) turns
+
+abbrev pub HeldOrTailed : List Config → List Turn → Type 0
+HeldOrTailed configs turns = CarriesOnlyFiredOrTailed configs turns × SeenWasHandedOrTailed configs turns
 
 -- Queries
 

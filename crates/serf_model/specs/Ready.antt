@@ -1,9 +1,10 @@
 -- What is true of each agent of a cluster, whatever was done in it.
-use Rattle.std.specs.Prelude.{◌≤◌}
+use Rattle.std.specs.Prelude.{◌≡◌, ◌≤◌, true}
 use Rattle.std.specs.List.{AllByRecursion}
 use Rattle.serf_lamport.specs.Clock.{greatest_clock}
 use Rattle.serf_snap.specs.Notes.{IsObservable}
 use Rattle.serf_agent.specs.Ideal.{IdealAgent}
+use Rattle.serf_agent.specs.KeptLives.{IsDurable}
 use Rattle.serf_agent.specs.Sound.{IsSound}
 use Rattle.serf_model.specs.Cluster.{Cluster}
 
@@ -12,9 +13,10 @@ pub record IsConsistent (i : IdealAgent) : Type 0 where
   pub sound : IsSound i
   pub observable : IsObservable i.snapshot
 
--- and its clocks are numbers of 64 bits
+-- its clocks are numbers of 64 bits, and where it keeps its events all that it entered is durable
 pub record IsRepresentable (i : IdealAgent) : Type 0 where
   pub consistent : IsConsistent i
+  pub durable : i.config.keep_events ≡ true → IsDurable i
   pub events : i.events.clock ≤ greatest_clock
   pub queries : i.queries.clock ≤ greatest_clock
 

@@ -5,7 +5,9 @@ ghost use Rattle.serf_snap.specs.Device.{fresh_device};
 ghost use Rattle.serf_snap.specs.Notes.{opened};
 ghost use Rattle.serf_agent.specs.Config.{is_sound};
 ghost use Rattle.serf_agent.specs.declared.config.Config.{Config};
-ghost use Rattle.serf_agent.specs.Restart.{IsInText, unopened};
+ghost use Rattle.serf_agent.specs.KeptTexts.{IsTold};
+ghost use Rattle.serf_wire.specs.Bytes.{AreBytes};
+ghost use Rattle.serf_agent.specs.Restart.{HasPast, IsInText, unopened};
 ghost use Rattle.serf_agent.specs.Sound.{IsSound};
 ghost use Rattle.serf_model.specs.declared.action.Act.{Act};
 ghost use Rattle.serf_model.specs.declared.action.Action.{Action};
@@ -16,18 +18,22 @@ ghost use Rattle.serf_model.specs.Bounds.{EventsBounded, QueriesBounded};
 ghost use Rattle.serf_model.specs.Cluster.{IdealNode, apply, delivers, merges_given, run_of, start, text_after, trace_of};
 ghost use Rattle.serf_model.specs.HandOuts.{HandsOutEntered, HandsOutGiven, MessagesFired, NewIsHanded, OnlyToActor};
 ghost use Rattle.serf_model.specs.Kept.{KeepsPromises};
+ghost use Rattle.serf_model.specs.NotMissed.{Kept};
 ghost use Rattle.serf_model.specs.Merging.{MergesRepresentable};
-ghost use Rattle.serf_model.specs.Promises.{Held, Later, Once, OnlyFired, QueryFired, QueryHandedOnce, QueryLater, QueryOnce};
+ghost use Rattle.serf_model.specs.Promises.{Held, HeldOrTailed, Later, Once, OnlyFired, OnlyFiredOrTailed, QueryFired, QueryHandedOnce, QueryLater, QueryOnce};
 ghost use Rattle.serf_model.specs.Queried.{QueryOnlyFired};
 ghost use Rattle.serf_model.specs.Ready.{AreRepresentable, IsRepresentable};
 ghost use Rattle.serf_model.specs.Runs.{AreConfigs, HasShortQueries, NoneBadIsSound};
 ghost use Rattle.serf_model.specs.Sizes.{HasSizes};
-ghost use Rattle.serf_model.specs.Trace.{turns_by, turns_of};
+ghost use Rattle.serf_model.specs.Tails.{CanTell, CanTellAct, NoneKeeps};
+ghost use Rattle.serf_model.specs.Trace.{events_in_packet, given_by, turns_by, turns_of};
 
-use serf_agent::{short_packets, sound_steps};
-use serf_snap::text_laws;
+use serf_agent::{keeping_laws, kept_life_promises, kept_text_laws, short_packets, sound_steps};
+use serf_snap::{
+    event_line_laws, kept_note_laws, least_time_laws, read_laws, said_laws, text_laws,
+};
 use serf_window::slot_laws;
-use serf_wire::{canonical_packets, decoded_ranges, exact_decoding};
+use serf_wire::{canonical_packets, decoded_ranges, decoded_texts, exact_decoding};
 
 /// What the crates below promise, as far as a run rests on it. Does nothing.
 fn laws_below()
@@ -40,33 +46,51 @@ fn laws_below()
     text_laws();
     short_packets();
     sound_steps();
+    event_line_laws();
+    kept_note_laws();
+    least_time_laws();
+    read_laws();
+    said_laws();
+    kept_text_laws();
+    keeping_laws();
+    kept_life_promises();
 }
 
 /// Every run keeps every promise, whatever its settings and its actions are. Does nothing.
 ///
 /// `promises` says them all at once, of agents that can make a cluster and of actions whose numbers have their types'
-/// sizes (`HasSizes`). The other clauses say each promise by itself, of what it rests on.
+/// sizes (`HasSizes`). Where an agent keeps its events, what the actions bring has to be such as a line can tell: texts of
+/// bytes, and IDs of queries below 2^32 (`CanTell`). The other clauses say each promise by itself, of what it rests on.
 pub fn run_promises()
     ensures promises { (configs : List Config) (actions : List Action) → AreConfigs configs
-        → All HasSizes actions → KeepsPromises configs (run_of configs actions) }
+        → CanTell configs actions → All HasSizes actions
+        → KeepsPromises configs (run_of configs actions) }
     // A run of no action keeps them whatever the settings are.
     ensures start { (configs : List Config) → KeepsPromises configs (start configs) }
 
     // What the turns of every run keep.
     ensures once { (configs : List Config) (actions : List Action) → AreConfigs configs
-        → Once (run_of configs actions).turns }
+        → CanTell configs actions → Once (run_of configs actions).turns }
     ensures fired { (configs : List Config) (actions : List Action) → AreConfigs configs
-        → OnlyFired (run_of configs actions).turns }
+        → CanTell configs actions → OnlyFiredOrTailed configs (run_of configs actions).turns }
     ensures later { (configs : List Config) (actions : List Action) → AreConfigs configs
-        → Later (run_of configs actions).turns }
+        → CanTell configs actions → Later (run_of configs actions).turns }
     ensures held { (configs : List Config) (actions : List Action) → AreConfigs configs
-        → Held (run_of configs actions).turns }
+        → CanTell configs actions → HeldOrTailed configs (run_of configs actions).turns }
+    // Where no agent keeps its events, no tail of a restart brings any.
+    ensures fired_alone { (configs : List Config) (actions : List Action) → AreConfigs configs
+        → NoneKeeps configs → OnlyFired (run_of configs actions).turns }
+    ensures held_alone { (configs : List Config) (actions : List Action) → AreConfigs configs
+        → NoneKeeps configs → Held (run_of configs actions).turns }
+    // What agents that keep their events don't miss.
+    ensures kept { (configs : List Config) (actions : List Action) → AreConfigs configs
+        → CanTell configs actions → Kept configs (run_of configs actions).turns }
     ensures query_once { (configs : List Config) (actions : List Action) → AreConfigs configs
-        → QueryOnce (run_of configs actions).turns }
+        → CanTell configs actions → QueryOnce (run_of configs actions).turns }
     ensures query_later { (configs : List Config) (actions : List Action) → AreConfigs configs
-        → QueryLater (run_of configs actions).turns }
+        → CanTell configs actions → QueryLater (run_of configs actions).turns }
     ensures query_handed { (configs : List Config) (actions : List Action) → AreConfigs configs
-        → QueryHandedOnce (run_of configs actions).turns }
+        → CanTell configs actions → QueryHandedOnce (run_of configs actions).turns }
     ensures query_fired { (configs : List Config) (actions : List Action)
         → QueryFired (run_of configs actions).turns }
     ensures query_only_fired { (configs : List Config) (actions : List Action)
@@ -88,27 +112,30 @@ pub fn run_promises()
 
     // What they keep of acks and responses.
     ensures counted_once { (configs : List Config) (actions : List Action) → AreConfigs configs
-        → CountedOnce (run_of configs actions).turns }
+        → CanTell configs actions → CountedOnce (run_of configs actions).turns }
     ensures counted_in_time { (configs : List Config) (actions : List Action) → AreConfigs configs
-        → CountedInTime (run_of configs actions).turns }
+        → CanTell configs actions → CountedInTime (run_of configs actions).turns }
     ensures counted_sent { (configs : List Config) (actions : List Action) → AreConfigs configs
-        → CountedSent (run_of configs actions).turns }
+        → CanTell configs actions → CountedSent (run_of configs actions).turns }
     ensures answers_made { (configs : List Config) (actions : List Action) → All HasSizes actions
-        → AreConfigs configs → AnswersMade configs (run_of configs actions).turns }
+        → AreConfigs configs → CanTell configs actions
+        → AnswersMade configs (run_of configs actions).turns }
     ensures replied_once { (configs : List Config) (actions : List Action) → All HasSizes actions
-        → AreConfigs configs → RepliedOnce (run_of configs actions).turns }
+        → AreConfigs configs → CanTell configs actions
+        → RepliedOnce (run_of configs actions).turns }
     ensures acked_once { (configs : List Config) (actions : List Action) → All HasSizes actions
-        → AreConfigs configs → AckedOnce (run_of configs actions).turns }
+        → AreConfigs configs → CanTell configs actions
+        → AckedOnce (run_of configs actions).turns }
 
     // What each agent's windows hold, by its settings.
     ensures events_bounded { (configs : List Config) (actions : List Action) → AreConfigs configs
-        → EventsBounded configs (run_of configs actions).turns }
+        → CanTell configs actions → EventsBounded configs (run_of configs actions).turns }
     ensures queries_bounded { (configs : List Config) (actions : List Action) → AreConfigs configs
-        → QueriesBounded configs (run_of configs actions).turns }
+        → CanTell configs actions → QueriesBounded configs (run_of configs actions).turns }
 
     // After it the agents' open queries hold what was counted.
     ensures open_queries { (configs : List Config) (actions : List Action) → AreConfigs configs
-        → OpenQueriesHold (run_of configs actions) }
+        → CanTell configs actions → OpenQueriesHold (run_of configs actions) }
 {
     laws_below();
     slot_laws();
@@ -131,20 +158,31 @@ pub fn agents_alone()
         → IsAlone config a (turns_by a (run_of configs actions).turns) m }
 {}
 
-/// The agents of a cluster that has done nothing are representable, and what an agent does leaves it representable. An
-/// agent before its first life is sound. What a representable agent's sink keeps has the times of all that entered,
-/// whatever tail comes after. Does nothing.
+/// The agents of a cluster that has done nothing are representable, and what an agent does leaves it representable, where it
+/// can tell what that brings. An agent before its first life is sound. What a representable agent's sink keeps has the times
+/// of all that entered, and all that its next life needs, whatever tail comes after. Does nothing.
 pub fn representable_agents()
     ensures start { (configs : List Config) → AreConfigs configs
         → AreRepresentable (start configs).cluster }
     ensures apply { (m : IdealNode) (sent : List (List ℕ)) (act : Act)
-        → IsRepresentable m.agent → IsRepresentable (apply m sent act).node.agent }
+        → CanTellAct m.agent.config act (given_by sent act) → IsRepresentable m.agent
+        → IsRepresentable (apply m sent act).node.agent }
     ensures unopened { (config : Config) → is_sound config ≡ true
         → IsSound (unopened config (opened [] (fresh_device []))) }
     ensures text { (m : IdealNode) (tail : List ℕ) → IsRepresentable m.agent
         → IsInText m.agent (text_after m.agent tail) }
+    ensures past { (m : IdealNode) (tail : List ℕ) → IsRepresentable m.agent
+        → HasPast m.agent.config m.agent (text_after m.agent tail) }
 {
     laws_below();
+}
+
+/// The events that a packet of bytes carries can be told in lines. Does nothing.
+pub fn told_packets()
+    ensures { (packet : List ℕ) → AreBytes packet
+        → All (λ e. IsTold e.key) (events_in_packet packet) }
+{
+    decoded_texts();
 }
 
 /// Settings of which none is bad are sound, each of them. Does nothing.

@@ -22,7 +22,7 @@ pub use common::is_common_turn;
 pub use fault::{NewFault, RunFault};
 pub use laws::{
     agents_alone, handed_queries, merged_agents, representable_agents, run_promises,
-    sound_settings, turns_shown,
+    sound_settings, told_packets, turns_shown,
 };
 pub use line::{Answer, EventLine, HandedLine, Line, Refusal};
 pub use lists::{EventLines, Lines, Numbers};

@@ -28,6 +28,7 @@ kind-plain kinds.PerTime = record { some = omega arith; plain = refl }
 kind-plain kinds.Compactions = record { some = omega arith; plain = refl }
 kind-plain kinds.Gossip = record { some = omega arith; plain = refl }
 kind-plain kinds.Spellings = record { some = omega arith; plain = refl }
+kind-plain kinds.Kept = record { some = omega arith; plain = refl }
 kind-plain kinds.Rounds = record { some = omega arith; plain = refl }
 
 kind-short : (k : Kind) → length (kind_name k) ≤ 20
@@ -44,6 +45,7 @@ kind-short kinds.PerTime = omega arith
 kind-short kinds.Compactions = omega arith
 kind-short kinds.Gossip = omega arith
 kind-short kinds.Spellings = omega arith
+kind-short kinds.Kept = omega arith
 kind-short kinds.Rounds = omega arith
 
 rounds-plain : NumbersAreWords → (is : Bool) (ask : Ask) (behind : List (List ℕ)) → HasNumbers ask → AllByRecursion IsWord behind

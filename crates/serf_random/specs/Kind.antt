@@ -18,6 +18,7 @@ kind_name kinds.PerTime = codes "per-time"
 kind_name kinds.Compactions = codes "compactions"
 kind_name kinds.Gossip = codes "gossip"
 kind_name kinds.Spellings = codes "spellings"
+kind_name kinds.Kept = codes "kept"
 kind_name kinds.Rounds = codes "rounds"
 
 -- the kind that has a name
@@ -36,6 +37,7 @@ kind_of name =
     else if bytes_eq name (codes "compactions") then Some kinds.Compactions
     else if bytes_eq name (codes "gossip") then Some kinds.Gossip
     else if bytes_eq name (codes "spellings") then Some kinds.Spellings
+    else if bytes_eq name (codes "kept") then Some kinds.Kept
     else if bytes_eq name (codes "rounds") then Some kinds.Rounds
     else None
 

@@ -11,16 +11,36 @@ use crate::comment::{know_numbers, put_comment};
 use crate::cut::add_common;
 use crate::make::{Made, random_schedule};
 use crate::rounds::in_rounds;
+use serf_agent::Config;
 use serf_schedule::{Schedule, comments_skipped, know_read_back};
 use serf_text::MAX_SCHEDULE_BYTES;
+use serf_world::{Roster, RosterFault};
 use std::alloc::{AllocError, Global};
+
+/// These agents, none of which keeps its events over a restart: that is a rule of this project's own.
+fn without_kept(alloc: Global, agents: Roster) -> Result<Roster, AllocError> {
+    let mut without = Roster::new(alloc);
+    for config in agents.into_vec() {
+        let config = Config {
+            keep_events: false,
+            ..config
+        };
+        match without.add(alloc, config) {
+            Err(RosterFault::OutOfMemory) => return Err(AllocError),
+            // Each is as it was in a roster, but for this setting: no other fault comes.
+            _ => {}
+        }
+    }
+    Ok(without)
+}
 
 /// A random schedule as it was asked for, of which what rests on a rule of this project's own is left out, and its text.
 ///
-/// Of the actions of [`random_schedule`] those are left out, in rounds, whose turns aren't common
-/// ([`serf_model::is_common_turn`]), and at last all from the first such on. The text begins with a comment that
-/// says what was asked for and whose rules are kept, and stands for just this schedule, so that it is never refused. It
-/// has at most so many actions as were asked for, and at most 16,777,216 bytes. `AllocError` comes where memory runs out.
+/// No agent keeps its events over a restart. Of the actions of [`random_schedule`] those are left out, in rounds,
+/// whose turns aren't common ([`serf_model::is_common_turn`]), and at last all from the first such on. The text begins
+/// with a comment that says what was asked for and whose rules are kept, and stands for just this schedule, so that it
+/// is never refused. It has at most so many actions as were asked for, and at most 16,777,216 bytes. `AllocError` comes
+/// where memory runs out.
 pub fn common_schedule(alloc: Global, ask: &Ask) -> Result<Made, AllocError>
     // Each turn of its run is common.
     ensures common { IfOk result (λ made. AreCommon (parsed_of made.schedule)) }
@@ -36,7 +56,7 @@ pub fn common_schedule(alloc: Global, ask: &Ask) -> Result<Made, AllocError>
     let Schedule { agents, actions } = schedule;
     let mut text = Vec::new(alloc);
     put_comment(&mut text, ask)?;
-    let agents = add_agents(alloc, &mut text, agents)?;
+    let agents = add_agents(alloc, &mut text, without_kept(alloc, agents)?)?;
     let left = in_rounds(alloc, &agents, actions)?;
     let kept = add_common(alloc, agents.try_clone(alloc)?, left, &mut text)?;
     let schedule = Schedule {

@@ -33,6 +33,8 @@ pub enum Kind {
     Gossip,
     /// Strangers' packets in any spelling that the grammar takes, and just beyond it.
     Spellings,
+    /// Agents that keep their events, opened again on lines of such agents, whole and torn.
+    Kept,
     /// Rounds of gossip: in each, agents send what is new to them to a few others at random.
     Rounds,
 }
@@ -62,6 +64,7 @@ impl Kind {
             Kind::Compactions => b"compactions",
             Kind::Gossip => b"gossip",
             Kind::Spellings => b"spellings",
+            Kind::Kept => b"kept",
             Kind::Rounds => b"rounds",
         }
     }
@@ -96,6 +99,8 @@ impl Kind {
             Some(Kind::Gossip)
         } else if is_name(name, b"spellings") {
             Some(Kind::Spellings)
+        } else if is_name(name, b"kept") {
+            Some(Kind::Kept)
         } else if is_name(name, b"rounds") {
             Some(Kind::Rounds)
         } else {

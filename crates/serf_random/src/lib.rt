@@ -32,6 +32,7 @@ mod settings;
 mod sizes;
 mod spelled;
 mod strangers;
+mod tails;
 mod times;
 mod verb;
 mod walk;

@@ -2,9 +2,10 @@
 
 use crate::filters::filters;
 use crate::kind::Kind;
-use crate::player::{LastQuery, Player};
+use crate::player::{LastQuery, Next, Player};
 use crate::pools::{long_text, name, payload, tail};
 use crate::sizes::{event_filling, query_filling, response_filling};
+use crate::tails::kept_tail;
 use crate::verb::Verb;
 use serf_agent::QueryParams;
 use serf_model::{Act, Action, Answer, Boxed, Line, NewQuery, SinkCall};
@@ -161,7 +162,23 @@ fn respond(alloc: Global, player: &mut Player) -> Result<Action, AllocError> {
     })
 }
 
+/// An agent is opened again on a tail of such agents' lines, and gets older packets again.
+fn restart_kept(alloc: Global, player: &mut Player) -> Result<Action, AllocError> {
+    let agent = player.agent();
+    let act = Act::Restart {
+        tail: Bytes::from_vec(kept_tail(alloc, player, agent)?),
+    };
+    player.next = Some(Next::Again {
+        to: agent,
+        more: player.dice.below(4),
+    });
+    Ok(Action::Of { agent, act })
+}
+
 fn restart(alloc: Global, player: &mut Player) -> Result<Action, AllocError> {
+    if player.kind == Kind::Kept {
+        return restart_kept(alloc, player);
+    }
     let agent = player.agent();
     let time = match player.world.agent(agent) {
         Some(one) => one.event_time(),
@@ -173,6 +190,7 @@ fn restart(alloc: Global, player: &mut Player) -> Result<Action, AllocError> {
     Ok(Action::Of { agent, act })
 }
 
+/// A call of an agent's disk is to fail. Where agents keep their events, it joins another one next, one time in three.
 fn fail(player: &mut Player) -> Action {
     let calls = [
         SinkCall::Append,
@@ -180,8 +198,12 @@ fn fail(player: &mut Player) -> Action {
         SinkCall::ReplaceOld,
         SinkCall::ReplaceNew,
     ];
+    let agent = player.agent();
+    if player.kind == Kind::Kept && player.dice.one_in(3) {
+        player.next = Some(Next::Join { to: agent });
+    }
     Action::Of {
-        agent: player.agent(),
+        agent,
         act: Act::Break {
             call: player.dice.pick(&calls, SinkCall::Flush),
             count: player.dice.below(3).saturating_add(1),

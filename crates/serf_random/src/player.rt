@@ -14,17 +14,21 @@ use serf_model::{Act, Action, Line};
 use serf_world::{Roster, StepFault, World};
 use std::alloc::{AllocError, Global};
 
-/// What follows an action: the packet that it sent goes on.
-#[derive(Clone, Copy, Debug)]
+/// What follows an action: mostly the packet that it sent goes on.
+#[derive(Clone, Copy)]
 pub(crate) enum Next {
     /// An agent gets the last packet.
     Deliver { to: u64 },
     /// An agent merges the last packet.
     Merge { to: u64, join: bool },
+    /// An agent gets an older packet, and so many more behind it.
+    Again { to: u64, more: u64 },
+    /// An agent sends its state, which this one joins then.
+    Join { to: u64 },
 }
 
 /// The last query that an agent fired.
-#[derive(Clone, Copy, Debug)]
+#[derive(Clone, Copy)]
 pub(crate) struct LastQuery {
     pub(crate) agent: u64,
     pub(crate) time: u64,
@@ -34,7 +38,7 @@ pub(crate) struct LastQuery {
 }
 
 /// The query that was handed out last.
-#[derive(Clone, Copy, Debug)]
+#[derive(Clone, Copy)]
 pub(crate) struct LastHanded {
     pub(crate) agent: u64,
     /// How many were handed to this agent before.
@@ -136,6 +140,34 @@ impl Player {
                 agent: to,
                 act: Act::Merge { packet, join },
             },
+            Next::Again { to, more } => self.again(to, more),
+            Next::Join { to } => self.join(to),
+        }
+    }
+
+    /// An agent sends its state, which another one joins next.
+    fn join(&mut self, to: u64) -> Action {
+        self.next = Some(Next::Merge { to, join: true });
+        Action::Of {
+            agent: self.agent(),
+            act: Act::State,
+        }
+    }
+
+    /// An agent gets an older packet, and more of them next.
+    fn again(&mut self, to: u64, more: u64) -> Action {
+        if more > 0 {
+            self.next = Some(Next::Again {
+                to,
+                more: more.saturating_sub(1),
+            });
+        }
+        Action::Of {
+            agent: to,
+            act: Act::Deliver {
+                packet: self.older(),
+                now: self.moment(),
+            },
         }
     }
 
@@ -235,6 +267,15 @@ impl Player {
         }
         let back = self.dice.pick(&[2, 4, 8, 40], 8);
         sent.saturating_sub(1).saturating_sub(self.dice.below(back))
+    }
+
+    /// One of the last packets, now and then one of all that were sent.
+    pub(crate) fn older(&mut self) -> u64 {
+        if self.dice.one_in(6) {
+            let sent = self.world.sent().len() as u64;
+            return self.dice.below(sent);
+        }
+        self.recent()
     }
 
     fn repeat(&mut self) -> Action {

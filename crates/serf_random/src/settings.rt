@@ -17,6 +17,7 @@ use std::alloc::{AllocError, Global};
 fn slots(dice: &mut Dice, kind: Kind) -> u64 {
     match kind {
         Kind::Tiny => dice.below(3).saturating_add(1),
+        Kind::Kept => dice.below(8).saturating_add(1),
         Kind::Gossip => 64,
         _ => dice.pick(&[1, 2, 3, 4, 4, 8, 8, 16, 512], 4),
     }
@@ -26,6 +27,7 @@ fn slots(dice: &mut Dice, kind: Kind) -> u64 {
 fn per_time(dice: &mut Dice, kind: Kind) -> u64 {
     match kind {
         Kind::PerTime => dice.below(4).saturating_add(1),
+        Kind::Kept => dice.pick(&[1, 1, 2, 2, 3, 4, 1_024], 1_024),
         Kind::Gossip => 1_024,
         _ => dice.pick(&[1, 2, 3, 1_024, 1_024, 1_024, 65_536], 1_024),
     }
@@ -42,6 +44,14 @@ fn event_limit(dice: &mut Dice, kind: Kind) -> u64 {
 /// How many names are counted among a query's acks, and among its responses.
 fn responders(dice: &mut Dice) -> u64 {
     dice.pick(&[1, 2, 3, 8, 8, 8], 8)
+}
+
+/// Whether an agent keeps its events over a restart.
+fn keeps_events(dice: &mut Dice, kind: Kind) -> bool {
+    match kind {
+        Kind::Kept => !dice.one_in(4),
+        _ => false,
+    }
 }
 
 /// The name of the agent of a number: a letter, and after the 26th two.
@@ -68,6 +78,7 @@ fn rounds_config(alloc: Global, number: u64) -> Result<Config, AllocError> {
         responders: 1_024,
         per_time: 1_024,
         ignore_old: false,
+        keep_events: false,
     })
 }
 
@@ -85,6 +96,7 @@ fn config(alloc: Global, dice: &mut Dice, kind: Kind, number: u64) -> Result<Con
         responders: responders(dice),
         per_time: per_time(dice, kind),
         ignore_old: dice.one_in(3),
+        keep_events: keeps_events(dice, kind),
     })
 }
 

@@ -209,15 +209,24 @@ fn put_fields<F: Fields>(
     Ok(())
 }
 
-/// A payload; now and then one with which the texts have as many bytes as an event may have, one less or one more.
-fn event_payload(alloc: Global, player: &mut Player, name: &[u8]) -> Result<Vec<u8>, AllocError> {
-    if !player.dice.one_in(6) {
-        return payload(alloc, &mut player.dice);
-    }
+/// A payload with which the texts have as many bytes as an event may have, one less or one more.
+pub(crate) fn full_payload(
+    alloc: Global,
+    player: &mut Player,
+    name: &[u8],
+) -> Result<Vec<u8>, AllocError> {
     let room = MAX_EVENT.saturating_sub(name.len() as u64);
     let mut text = Vec::new(alloc);
     text.resize(near(&mut player.dice, room) as usize, b'x')?;
     Ok(text)
+}
+
+/// A payload; one time in six it is full.
+fn event_payload(alloc: Global, player: &mut Player, name: &[u8]) -> Result<Vec<u8>, AllocError> {
+    if !player.dice.one_in(6) {
+        return payload(alloc, &mut player.dice);
+    }
+    full_payload(alloc, player, name)
 }
 
 fn event(alloc: Global, player: &mut Player, pen: Pen) -> Result<Pen, AllocError> {

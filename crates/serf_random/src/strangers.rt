@@ -33,6 +33,8 @@ fn target(player: &Player) -> u64 {
     match player.next {
         Some(Next::Deliver { to }) => to,
         Some(Next::Merge { to, .. }) => to,
+        Some(Next::Again { to, .. }) => to,
+        Some(Next::Join { to }) => to,
         None => 0,
     }
 }
@@ -47,10 +49,16 @@ fn is_great(player: &mut Player) -> bool {
 
 /// A time at an edge of the target's event window.
 pub(crate) fn event_time(player: &mut Player) -> u64 {
+    let agent = target(player);
+    event_time_of(player, agent)
+}
+
+/// A time at an edge of an agent's event window.
+pub(crate) fn event_time_of(player: &mut Player, agent: u64) -> u64 {
     if is_great(player) {
         return great_time(&mut player.dice);
     }
-    let (clock, slots, minimum) = match player.world.agent(target(player)) {
+    let (clock, slots, minimum) = match player.world.agent(agent) {
         Some(one) => (
             one.event_time(),
             one.config().event_buffer,
@@ -63,10 +71,16 @@ pub(crate) fn event_time(player: &mut Player) -> u64 {
 
 /// A time at an edge of the target's query window.
 pub(crate) fn query_time(player: &mut Player) -> u64 {
+    let agent = target(player);
+    query_time_of(player, agent)
+}
+
+/// A time at an edge of an agent's query window.
+pub(crate) fn query_time_of(player: &mut Player, agent: u64) -> u64 {
     if is_great(player) {
         return great_time(&mut player.dice);
     }
-    let (clock, slots, minimum) = match player.world.agent(target(player)) {
+    let (clock, slots, minimum) = match player.world.agent(agent) {
         Some(one) => (
             one.query_time(),
             one.config().query_buffer,

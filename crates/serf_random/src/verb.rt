@@ -3,7 +3,7 @@
 use crate::kind::Kind;
 
 /// What a player does next.
-#[derive(Clone, Copy, Debug, PartialEq, Eq)]
+#[derive(Clone, Copy, PartialEq, Eq)]
 pub(crate) enum Verb {
     /// An agent fires an event.
     Fire,
@@ -272,6 +272,35 @@ const SPELLINGS: [Verb; 20] = [
     Verb::Restart,
 ];
 
+const KEPT: [Verb; 26] = [
+    Verb::Fire,
+    Verb::Fire,
+    Verb::Fire,
+    Verb::Pass,
+    Verb::Pass,
+    Verb::Pass,
+    Verb::Repeat,
+    Verb::Repeat,
+    Verb::Exchange,
+    Verb::Exchange,
+    Verb::Merge,
+    Verb::Ask,
+    Verb::Ask,
+    Verb::Event,
+    Verb::Event,
+    Verb::Query,
+    Verb::Query,
+    Verb::State,
+    Verb::Save,
+    Verb::Break,
+    Verb::Compact,
+    Verb::Compact,
+    Verb::Restart,
+    Verb::Restart,
+    Verb::Restart,
+    Verb::Restart,
+];
+
 /// What a player of this kind does, each as often as it stands here. Rounds are walked, and never played.
 pub(crate) fn verbs(kind: Kind) -> &'static [Verb] {
     match kind {
@@ -288,6 +317,7 @@ pub(crate) fn verbs(kind: Kind) -> &'static [Verb] {
         Kind::Compactions => &COMPACTIONS,
         Kind::Gossip => &GOSSIP,
         Kind::Spellings => &SPELLINGS,
+        Kind::Kept => &KEPT,
         Kind::Rounds => &[],
     }
 }

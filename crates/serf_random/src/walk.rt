@@ -30,7 +30,7 @@ const EXCHANGE_ROUNDS: u64 = 4;
 const SENDS_PER_DIGIT: u64 = 4;
 
 /// A packet that an agent goes on sending.
-#[derive(Clone, Copy, Debug)]
+#[derive(Clone, Copy)]
 struct Rumor {
     agent: u64,
     packet: u64,
@@ -39,7 +39,7 @@ struct Rumor {
 }
 
 /// What is done in a round.
-#[derive(Clone, Copy, Debug)]
+#[derive(Clone, Copy)]
 enum Step {
     /// An agent fires an event.
     Fire { agent: u64 },

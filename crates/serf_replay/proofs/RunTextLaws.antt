@@ -4,6 +4,7 @@ use Rattle.std.proofs.Common.{inl, inr}
 use Rattle.std.specs.Prelude.{All, IfOk, MatchOption, ◌==◌}
 use Rattle.serf_agent.specs.declared.config.Config.{Config}
 use Rattle.serf_model.specs.Kept.{KeepsPromises}
+use Rattle.serf_model.specs.Tails.{CanTell}
 use Rattle.serf_model.specs.Runs.{AreConfigs}
 use Rattle.serf_model.specs.Sizes.{HasSizes}
 use Rattle.serf_text.specs.declared.cause.Cause.{Cause}
@@ -11,7 +12,7 @@ use Rattle.serf_text.specs.declared.cause.LineFault.{LineFault}
 use Rattle.serf_text.specs.declared.cause.LineFault.TheVariants.{Bad, OutOfMemory}
 use Rattle.serf_text.specs.Gives.{Fails, BadLine}
 use Rattle.serf_schedule.specs.Grown.{Grows}
-use Rattle.serf_schedule.specs.Laws.{LinesFollow, LinesGrow, LinesStay, SchedulesAreSized, SendsBehind}
+use Rattle.serf_schedule.specs.Laws.{LinesFollow, LinesGrow, LinesStay, SchedulesAreSized, SchedulesAreTold, SendsBehind}
 use Rattle.serf_replay.specs.Laws.{AnswersTellMore, RefusalsAreFirst, SchedulesTraceRuns}
 use Rattle.serf_schedule.specs.Line.{Parsed, after_line}
 use Rattle.serf_replay.specs.Output.{GivesText, TracesRun}
@@ -121,9 +122,9 @@ refusal-first lines more line said cause reads answer =
 
 -- ---- the whole
 
-pub traces-run : SchedulesAreSized → ((configs : List Config) (done left : List Action) → AreConfigs configs → turns_of (done ++ left) (trace_of (run_of configs done)) ≡ (run_of configs done).turns)
-    → ((configs : List Config) (actions : List Action) → AreConfigs configs → All HasSizes actions → KeepsPromises configs (run_of configs actions)) → SchedulesTraceRuns
-traces-run sized turns promises bytes said reads settings =
+pub traces-run : SchedulesAreSized → SchedulesAreTold → ((configs : List Config) (done left : List Action) → AreConfigs configs → turns_of (done ++ left) (trace_of (run_of configs done)) ≡ (run_of configs done).turns)
+    → ((configs : List Config) (actions : List Action) → AreConfigs configs → CanTell configs actions → All HasSizes actions → KeepsPromises configs (run_of configs actions)) → SchedulesTraceRuns
+traces-run sized told turns promises bytes said reads settings =
     let sizes : All HasSizes said.actions = sized bytes said reads in (
       ap text_of reads,
       record {
@@ -133,7 +134,7 @@ traces-run sized turns promises bytes said reads settings =
         sizes = sizes;
         text_is = refl;
         turns = ap (λ l. turns_of l (trace_of (run_in said))) (sym (append-nil said.actions)) ∙ turns said.configs said.actions [] settings;
-        promises = promises said.configs said.actions settings sizes;
+        promises = promises said.configs said.actions settings (inr (told bytes said reads)) sizes;
       },
     )
 

@@ -3,7 +3,7 @@
 ghost use Rattle.serf_replay.specs.Laws.{AnswersTellMore, RefusalsAreFirst, SchedulesTraceRuns};
 
 use serf_model::{run_promises, turns_shown};
-use serf_schedule::{lines_grow, lines_stay, sized_schedules};
+use serf_schedule::{lines_grow, lines_stay, sized_schedules, told_schedules};
 
 /// The text of a line's turn stands after that of the lines before it, and a line that is refused is the schedule's
 /// first bad one. What is written of a whole schedule traces a run that keeps all promises. Does nothing.
@@ -15,6 +15,7 @@ pub fn answered_lines()
     lines_grow();
     lines_stay();
     sized_schedules();
+    told_schedules();
     run_promises();
     turns_shown();
 }

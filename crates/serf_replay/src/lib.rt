@@ -23,7 +23,7 @@ pub use replaying::Replaying;
 pub use serf_schedule::{
     Command, ReplayFault, Schedule, ScheduleFault, Unwatched, Verb, Watch, answer_words,
     command_in, lines_grow, lines_stay, parse_schedule, put_action, put_answer, read_schedule_line,
-    show_trace, sink_call, sized_schedules,
+    show_trace, sink_call, sized_schedules, told_schedules,
 };
 pub use serf_text::{
     Cause, DecodeTextFault, InputFault, LineFault, MAX_SCHEDULE_BYTES, WireWords, WriteFault,

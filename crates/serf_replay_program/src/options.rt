@@ -6,11 +6,11 @@ use std::alloc::{AllocError, Global};
 
 /// The words that name a kind of random schedules.
 pub(crate) const KINDS: &str =
-    "mixed (where left out), tiny, merges, restarts, devices, injections, queries, limits, exhaustion, per-time, compactions, gossip, spellings or rounds";
+    "mixed (where left out), tiny, merges, restarts, devices, injections, queries, limits, exhaustion, per-time, compactions, gossip, spellings, kept or rounds";
 
 /// The words that name a kind, or all of them.
 pub(crate) const KINDS_OR_ALL: &str =
-    "mixed (where left out), tiny, merges, restarts, devices, injections, queries, limits, exhaustion, per-time, compactions, gossip, spellings, rounds or all";
+    "mixed (where left out), tiny, merges, restarts, devices, injections, queries, limits, exhaustion, per-time, compactions, gossip, spellings, kept, rounds or all";
 
 /// A word that is given in its place.
 pub(crate) fn place<'a>(alloc: Global, name: &'a str, help: &'a str) -> Arg<'a> {

@@ -6,8 +6,10 @@ pub mod LinesBack
 pub mod Names
 pub mod PlainWords
 pub mod RoundTrip
+pub mod SaidLaws
 pub mod ShownLaws
 pub mod SizedLaws
 pub mod TextNames
+pub mod ToldLaws
 pub mod WordLemmas
 pub mod WordsBack

@@ -1,5 +1,5 @@
 -- The text of a schedule, read back.
-use Rattle.serf_schedule.proofs.TextNames.{◌≡◌, ◌+◌, ◌<◌, ◌^◌, ◌∙◌, ℕ, List, [], ◌∷◌, ◌++◌, length, decimal, Bool, true, false, Option, Some, None, Ok, refl, sym, ap, subst, arith, codes, append_assoc, cond, ◌==◌, ◌&&◌, slice_index, signed_decimal, AllByRecursion, flat_map, slice_split, common_steps, append-nil, recursion_from_All, IsBytes, Config, QueryParams, default_query_limit, default_response_limit, is_sound, Action, Deed, SinkCall, Append, Flush, ReplaceOld, ReplaceNew, AreConfigs, has_name, twice_after, command_of, Parsed, after_line, agent_of, is_agent_count, limit_in, per_time_in, said_by, with_action, after_lines, schedule_of, flag_text, hex_text, bytes_in, choice_in, choice_of, number_in}
+use Rattle.serf_schedule.proofs.TextNames.{◌≡◌, ◌+◌, ◌<◌, ◌^◌, ◌∙◌, ℕ, List, [], ◌∷◌, ◌++◌, length, decimal, Bool, true, false, Option, Some, None, Ok, refl, sym, ap, subst, arith, codes, append_assoc, cond, ◌==◌, ◌&&◌, slice_index, signed_decimal, AllByRecursion, flat_map, slice_split, common_steps, append-nil, recursion_from_All, IsBytes, Config, QueryParams, default_query_limit, default_response_limit, is_sound, Action, Deed, SinkCall, Append, Flush, ReplaceOld, ReplaceNew, AreConfigs, has_name, twice_after, command_of, Parsed, after_line, agent_of, is_agent_count, limit_in, per_time_in, said_by, with_action, after_lines, schedule_of, flag_text, hex_text, bytes_in, mode_in, mode_of, number_in}
 use Rattle.std.specs.List.{All}
 use Rattle.serf_model.specs.declared.action.Act.TheVariants as acts
 use Rattle.serf_model.specs.declared.action.Action.TheVariants.{Inject, Of}
@@ -14,9 +14,15 @@ use Rattle.serf_schedule.proofs.WordsBack.{bytes-back, number-back}
 
 -- Agents
 
-mode-back : (b : Bool) → choice_of (codes "keep") (codes "ignore") (mode_word b) ≡ Some b
-mode-back true = refl
-mode-back false = refl
+-- the word of settings that ignore old events, and keep events, or don't
+abbrev mode_by : Bool → Bool → List ℕ
+mode_by ignores keeps = cond keeps (cond ignores (codes "ignore+events") (codes "keep+events")) (cond ignores (codes "ignore") (codes "keep"))
+
+mode-back : (ignores keeps : Bool) → mode_of (mode_by ignores keeps) ≡ Some (record { ignore_old = ignores; keep_events = keeps })
+mode-back true true = refl
+mode-back true false = refl
+mode-back false true = refl
+mode-back false false = refl
 
 -- an agent's numbers have 64 bits
 record AreNumbers (c : Config) : Type 0 where
@@ -46,7 +52,7 @@ has_defaults c = (c.query_limit == default_query_limit) && (c.response_limit == 
 -- an agent's words without its limits, or with them
 abbrev words_by : Config → Bool → List (List ℕ)
 words_by c plain = codes "agent" ∷ hex_text c.name ∷ decimal c.event_buffer ∷ decimal c.query_buffer ∷ decimal c.event_limit
-    ∷ decimal c.responders ∷ mode_word c.ignore_old ∷ decimal c.per_time ∷ cond plain [] (decimal c.query_limit ∷ decimal c.response_limit ∷ [])
+    ∷ decimal c.responders ∷ mode_word c ∷ decimal c.per_time ∷ cond plain [] (decimal c.query_limit ∷ decimal c.response_limit ∷ [])
 
 counted : (c : Config) (plain : Bool) → (is_agent_count (length (words_by c plain)) ≡ true) × ((length (words_by c plain) == 7) ≡ false)
 counted c true = (refl, refl)
@@ -63,7 +69,7 @@ response-limit-back c true is n = let e : c.response_limit ≡ default_response_
 response-limit-back c false is n = rw (number-back c.response_limit n.response_limit) refl
 
 agent-back : (c : Config) (plain : Bool) → has_defaults c ≡ plain → AreNumbers c → IsBytes c.name → agent_of (words_by c plain) ≡ Ok c
-unfolding agent_of per_time_in number_in bytes_in choice_in
+unfolding agent_of per_time_in number_in bytes_in mode_in
 agent-back c plain is n h =
     let count = counted c plain in
     rw (
@@ -73,7 +79,7 @@ agent-back c plain is n h =
       number-back c.query_buffer n.queries,
       number-back c.event_limit n.limit,
       number-back c.responders n.responders,
-      mode-back c.ignore_old,
+      mode-back c.ignore_old c.keep_events,
       number-back c.per_time n.per_time,
       query-limit-back c plain is n,
       response-limit-back c plain is n,
@@ -88,9 +94,11 @@ agent-said before c sound bytes free =
 
 -- Words that are written stand in a line as they are
 
-mode-plain : (b : Bool) → IsWord (mode_word b)
-mode-plain true = record { some = omega arith; plain = refl }
-mode-plain false = record { some = omega arith; plain = refl }
+mode-plain : (ignores keeps : Bool) → IsWord (mode_by ignores keeps)
+mode-plain true true = record { some = omega arith; plain = refl }
+mode-plain true false = record { some = omega arith; plain = refl }
+mode-plain false true = record { some = omega arith; plain = refl }
+mode-plain false false = record { some = omega arith; plain = refl }
 
 join-plain : (b : Bool) → IsWord (join_word b)
 join-plain true = record { some = omega arith; plain = refl }
@@ -121,7 +129,7 @@ agent-plain c n h = (
         number-word c.query_buffer n.queries,
         (
           number-word c.event_limit n.limit,
-          (number-word c.responders n.responders, (mode-plain c.ignore_old, (number-word c.per_time n.per_time, limits-plain c (has_defaults c) n))),
+          (number-word c.responders n.responders, (mode-plain c.ignore_old c.keep_events, (number-word c.per_time n.per_time, limits-plain c (has_defaults c) n))),
         ),
       ),
     ),

@@ -1,40 +1,14 @@
 -- The numbers of the actions of a schedule's text have their types' sizes.
-use Rattle.serf_schedule.proofs.Names.{◌≡◌, ◌≤◌, ◌+◌, ◌==◌, ◌&&◌, ℕ, Bool, true, false, cond, nat_lt, nat_le, not, List, [], ◌∷◌, Option, Some, None, Result, Ok, Err, refl, subst, arith, length, pos, slice_split, and_parts, All-nil, All-push, nat_tests, fits, Config, QueryParams, is_sound, Action, has_name, HasSizes}
-use Rattle.std.specs.Prelude.{All, codes, take, drop}
+use Rattle.serf_schedule.proofs.Names.{◌≡◌, ◌≤◌, ◌&&◌, ℕ, Bool, true, false, cond, nat_lt, nat_le, List, [], Option, Some, None, Ok, refl, arith, pos, and_parts, nat_tests, fits, QueryParams, HasSizes}
+use Rattle.std.specs.Prelude.{All, codes}
 use Rattle.serf_model.specs.declared.action.Act.{Act as Deed}
-use Rattle.serf_model.specs.declared.action.Action.TheVariants as actions
-use Rattle.serf_text.specs.declared.cause.Cause.{Cause}
-use Rattle.serf_text.specs.declared.cause.Cause.TheVariants.{BadConfig, LateAgent, NameTwice, WordCount}
-use Rattle.serf_schedule.specs.declared.command.Command.{Command}
-use Rattle.serf_schedule.specs.declared.command.Command.TheVariants.{Agent, Inject, Query, Act}
 use Rattle.serf_schedule.specs.declared.command.Verb.{Verb}
 use Rattle.serf_schedule.specs.declared.command.Verb.TheVariants.{Deliver, Fire, Merge, Respond, Restart, Break, Close}
-use Rattle.serf_schedule.specs.Command.{command_of, count_of}
-use Rattle.serf_text.specs.Gives.{◌>>=◌, at_line}
-use Rattle.serf_text.specs.Words.{between, bytes_in, choice_in, number_between, number_in, number_of, or_bad, word_at, words_of}
+use Rattle.serf_text.specs.Words.{between, bytes_in, choice_in, number_between, number_in, number_of, or_bad, word_at}
 use Rattle.serf_schedule.specs.Sinks.{sink_call_in}
-use Rattle.serf_schedule.specs.Line.{Parsed, act_of, add_action, add_agent, after_line, agent_of, answer_of, break_of, by_agent, closing_of, command_line, delivery_of, filters_from, firing_of, injection_of, is_agent_count, is_skipped, merging_of, params_of, query_of, restart_of, said_by}
-use Rattle.serf_schedule.specs.Schedule.{after_lines, schedule_of}
-
--- ---- steps that may fail
-
--- what holds of a value that is found
-abbrev AllOk : {A : Type 0} → (A → Type 0) → Result A Cause → Type 0
-AllOk P (Ok x) = P x
-AllOk P (Err e) = Unit {0}
-
-if-ok : {A : Type 0} (P : A → Type 0) (b : Bool) (e : Cause) (r : Result A Cause) → AllOk P r → AllOk P (cond b (Err e) r)
-if-ok P true e r h = tt
-if-ok P false e r h = h
-
--- of each value that the first step finds the next one finds a value of which this holds
-next-ok : {A B : Type 0} (P : B → Type 0) (r : Result A Cause) (f : A → Result B Cause) → ((x : A) → AllOk P (f x)) → AllOk P (r >>= f)
-next-ok P (Ok x) f h = h x
-next-ok P (Err e) f h = tt
-
-next-ok_of : {A B : Type 0} (Q : A → Type 0) (P : B → Type 0) (r : Result A Cause) (f : A → Result B Cause) → AllOk Q r → ((x : A) → Q x → AllOk P (f x)) → AllOk P (r >>= f)
-next-ok_of Q P (Ok x) f q h = h x q
-next-ok_of Q P (Err e) f q h = tt
+use Rattle.serf_schedule.specs.Line.{Parsed, act_of, answer_of, break_of, closing_of, delivery_of, filters_from, firing_of, injection_of, merging_of, params_of, query_of, restart_of}
+use Rattle.serf_schedule.specs.Schedule.{schedule_of}
+use Rattle.serf_schedule.proofs.SaidLaws.{AllOk, HoldsOf, holds-of-all, next-ok, next-ok_of}
 
 -- ---- numbers
 
@@ -46,7 +20,7 @@ between-high low high place (Some n) = by (nat_le low n && nat_le n high) refl
     by true is = let both = and_parts (nat_le low n) (nat_le n high) is in let within = both.1 in grind (arith, nat_tests)
     by false is = tt
 
-number-high : (low high place : ℕ) (words : List (List ℕ)) → AllOk (λ n. n ≤ high) (number_between low high place words)
+pub number-high : (low high place : ℕ) (words : List (List ℕ)) → AllOk (λ n. n ≤ high) (number_between low high place words)
 unfolding number_between
 number-high low high place words = between-high low high place (number_of (word_at place words))
 
@@ -68,7 +42,7 @@ sized-params words filters =
 
 -- the numbers of what an agent does have their types' sizes
 abbrev IsActSized : Deed → Type 0
-IsActSized act = (agent : ℕ) → HasSizes (actions.Of agent act)
+IsActSized = HoldsOf HasSizes
 
 sized-query : (words filters : List (List ℕ)) → AllOk IsActSized (query_of words filters)
 unfolding query_of
@@ -90,57 +64,11 @@ sized-act Break words = next-ok IsActSized (sink_call_in 3 words) _ (λ call. ne
 sized-act Close words = next-ok IsActSized (number_in 3 words) _ (λ now agent. tt)
 sized-act _ words = λ agent. tt
 
-sized-by_agent : (words : List (List ℕ)) (r : Result Deed Cause) → AllOk IsActSized r → AllOk HasSizes (by_agent words r)
-sized-by_agent words r has = next-ok HasSizes (number_in 2 words) _ (λ agent. next-ok_of IsActSized HasSizes r _ has (λ act h. h agent))
-
 sized-injection : (words : List (List ℕ)) → AllOk HasSizes (injection_of words)
 unfolding injection_of
 sized-injection words = next-ok HasSizes (bytes_in 2 words) _ (λ bytes. tt)
 
--- ---- a line
-
-abbrev AreSized : Parsed → Type 0
-AreSized p = All HasSizes p.actions
-
-sized-added : (before : Parsed) (r : Result Action Cause) → AreSized before → AllOk HasSizes r → AllOk AreSized (r >>= add_action before)
-sized-added before r all has = next-ok_of HasSizes AreSized r (add_action before) has (λ action h. All-push HasSizes before.actions action all h)
-
-sized-agent : (before : Parsed) (config : Config) → AreSized before → AllOk AreSized (add_agent before config)
-sized-agent before config all = if-ok AreSized (not (is_sound config)) BadConfig _ (if-ok AreSized (has_name before.configs config.name) NameTwice _ all)
-
-sized-command : (c : Option Command) (before : Parsed) (words : List (List ℕ)) → AreSized before → AllOk AreSized (command_line c before words)
-sized-command None before words all = tt
-sized-command (Some Agent) before words all =
-    if-ok AreSized (nat_lt 0 (length before.actions)) LateAgent (cond (not (is_agent_count (length words))) (Err WordCount) (agent_of words >>= add_agent before))
-    (if-ok AreSized (not (is_agent_count (length words))) WordCount (agent_of words >>= add_agent before) (next-ok AreSized (agent_of words) (add_agent before) (λ config. sized-agent before config all)))
-sized-command (Some Query) before words all =
-    let first : List (List ℕ) = take 8 words in
-    let rest : List (List ℕ) = drop 8 words in
-    let said = by_agent first (query_of first rest) in
-    if-ok AreSized (nat_lt (length first) 8) WordCount (said >>= add_action before) (sized-added before said all (sized-by_agent first (query_of first rest) (sized-query first rest)))
-sized-command (Some Inject) before words all =
-    if-ok AreSized (not (length words == 2)) WordCount (injection_of words >>= add_action before) (sized-added before (injection_of words) all (sized-injection words))
-sized-command (Some (Act verb)) before words all =
-    let said = by_agent words (act_of verb words) in
-    if-ok AreSized (not (length words == count_of verb)) WordCount (said >>= add_action before) (sized-added before said all (sized-by_agent words (act_of verb words) (sized-act verb words)))
-
-sized-line : (before : Parsed) (line : List ℕ) → AreSized before → AllOk AreSized (after_line before line)
-unfolding after_line
-sized-line before line all = by (is_skipped line)
-  where
-    by : (b : Bool) → AllOk AreSized (cond b (Ok before) (said_by before (words_of line)))
-    by true = all
-    by false = sized-command (command_of (word_at 1 (words_of line))) before (words_of line) all
-
 -- ---- a text
 
-sized-lines : (number : ℕ) (before after : Parsed) (lines : List (List ℕ)) → AreSized before → after_lines number before lines ≡ Ok after → AreSized after
-sized-lines number before after [] all is = let same : before ≡ after = cc is in subst AreSized same all
-sized-lines number before after (line ∷ lines) all is = by (after_line before line) (sized-line before line all) (λ p. sized-lines (number + 1) p after lines) is
-  where
-    by : (r : Result Parsed Cause) → AllOk AreSized r → ((p : Parsed) → AreSized p → after_lines (number + 1) p lines ≡ Ok after → AreSized after) → at_line number r (λ p. after_lines (number + 1) p lines) ≡ Ok after → AreSized after
-    by (Ok p) has rest e = rest p has e
-    by (Err cause) has rest e = absurd (cc e)
-
-pub sized-schedule : (text : List ℕ) (schedule : Parsed) → schedule_of text ≡ Ok schedule → AreSized schedule
-sized-schedule text schedule is = sized-lines 1 (record { configs = []; actions = [] }) schedule (slice_split (λ b. b == 10) text) (All-nil HasSizes) is
+pub sized-schedule : (text : List ℕ) (schedule : Parsed) → schedule_of text ≡ Ok schedule → All HasSizes schedule.actions
+sized-schedule = holds-of-all HasSizes (record { act = sized-act; query = sized-query; injection = sized-injection })

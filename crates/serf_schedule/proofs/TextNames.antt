@@ -11,7 +11,7 @@ pub use Rattle.std.proofs.lemmas.Str.Parse.{IsNumeralModel, numerals_by_value}
 pub use Rattle.std.specs.Char.{is_ascii_digit}
 pub use Rattle.std.specs.Fmt.{signed_decimal}
 pub use Rattle.std.specs.List.{AllByRecursion, flat_map, list_all, slice_split}
-pub use Rattle.std.specs.Prelude.{filter, nat_le, nat_lt, slice_index, ◌&&◌, ◌==◌}
+pub use Rattle.std.specs.Prelude.{filter, nat_le, nat_lt, not, slice_index, ◌&&◌, ◌==◌}
 pub use Rattle.std.specs.Str.Parse.{digits_value}
 pub use Rattle.hex.proofs.HexLemmas.{decode_of-encode_lower, length-encode_with}
 pub use Rattle.hex.specs.Hex.{IsBytes, encode_lower, lower_digits}
@@ -27,8 +27,8 @@ pub use Rattle.serf_model.specs.declared.action.SinkCall.{SinkCall}
 pub use Rattle.serf_model.specs.declared.action.SinkCall.TheVariants.{Append, Flush, ReplaceNew, ReplaceOld}
 pub use Rattle.serf_model.specs.declared.query.NewQuery.{NewQuery}
 unfoldable pub use Rattle.serf_schedule.specs.Command.{command_of}
-pub use Rattle.serf_schedule.specs.Line.{Parsed, filters_from, is_agent_count, said_by, with_action}
-unfoldable pub use Rattle.serf_schedule.specs.Line.{after_line, agent_of, answer_of, break_of, closing_of, delivery_of, firing_of, injection_of, limit_in, merging_of, params_of, per_time_in, query_of, restart_of}
+pub use Rattle.serf_schedule.specs.Line.{Parsed, filters_from, is_agent_count, mode_of, said_by, with_action}
+unfoldable pub use Rattle.serf_schedule.specs.Line.{after_line, agent_of, answer_of, break_of, closing_of, delivery_of, firing_of, injection_of, limit_in, merging_of, mode_in, params_of, per_time_in, query_of, restart_of}
 pub use Rattle.serf_schedule.specs.Schedule.{after_lines, parsed_of, schedule_of}
 pub use Rattle.serf_text.specs.TextParts.{flag_text}
 unfoldable pub use Rattle.serf_text.specs.TextParts.{hex_text}

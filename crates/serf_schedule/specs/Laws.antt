@@ -3,6 +3,7 @@ use Rattle.std.specs.Prelude.{All, IfOk, ◌≡◌, ◌+◌, ◌<◌, ◌++◌, 
 use Rattle.serf_model.specs.declared.action.Action.{Action}
 use Rattle.serf_model.specs.declared.line.Line.{Line}
 use Rattle.serf_model.specs.Sizes.{HasSizes}
+use Rattle.serf_model.specs.Tails.{BringsTold}
 use Rattle.serf_model.specs.Cluster.{Cluster, step}
 use Rattle.serf_schedule.specs.Grown.{AddsSame, Grows}
 use Rattle.serf_schedule.specs.Line.{Parsed, after_line}
@@ -34,3 +35,7 @@ LateLinesAddSame = (p q : Parsed) (line : List ℕ) → 0 < length p.actions →
 -- the numbers of the actions that a text stands for have their types' sizes
 abbrev pub SchedulesAreSized : Type 0
 SchedulesAreSized = (text : List ℕ) (schedule : Parsed) → schedule_of text ≡ Ok schedule → All HasSizes schedule.actions
+
+-- what the actions that a text stands for bring can be told in lines
+abbrev pub SchedulesAreTold : Type 0
+SchedulesAreTold = (text : List ℕ) (schedule : Parsed) → schedule_of text ≡ Ok schedule → All BringsTold schedule.actions

@@ -1,14 +1,16 @@
 -- What a line adds to the schedule before it.
-use Rattle.std.specs.Prelude.{◌^◌, ◌-◌, ℕ, pos, ◌==◌, ◌+◌, ◌++◌, ◌%◌, ◌||◌, nat_le, nat_lt, Bool, not, if◌then◌else◌, List, [], ◌∷◌, length, take, drop, codes, slice_index, Option, Some, None, Result, Ok, Err}
+use Rattle.std.specs.Prelude.{◌^◌, ◌-◌, ℕ, pos, ◌==◌, ◌+◌, ◌++◌, ◌%◌, ◌||◌, nat_le, nat_lt, Bool, true, false, not, if◌then◌else◌, List, [], ◌∷◌, length, take, drop, codes, slice_index, Option, Some, None, Result, Ok, Err}
+use Rattle.std.specs.Str.{bytes_eq}
+use Rattle.serf_agent.specs.Config.{is_sound}
 use Rattle.serf_agent.specs.declared.config.Config.{Config}
 use Rattle.serf_agent.specs.declared.outcome.QueryParams.{QueryParams}
-use Rattle.serf_agent.specs.Config.{is_sound}
 use Rattle.serf_agent.specs.Defaults.{default_per_time, default_query_limit, default_response_limit}
 use Rattle.serf_model.specs.declared.action.Act.{Act as Deed}
 use Rattle.serf_model.specs.declared.action.Act.TheVariants as acts
 use Rattle.serf_model.specs.declared.action.Action.{Action}
 use Rattle.serf_model.specs.declared.action.Action.TheVariants as actions
 use Rattle.serf_model.specs.Runs.{has_name}
+use Rattle.serf_schedule.specs.declared.modes.Mode.{Mode}
 use Rattle.serf_schedule.specs.declared.command.Command.{Command}
 use Rattle.serf_schedule.specs.declared.command.Command.TheVariants.{Agent, Inject, Query, Act}
 use Rattle.serf_schedule.specs.declared.command.Verb.{Verb}
@@ -39,6 +41,19 @@ is_agent_count count = (count == 7) || (count == 8) || (count == 10)
 unfoldable pub limit_in : ℕ → ℕ → List (List ℕ) → Result ℕ Cause
 limit_in place default words = if length words == 10 then number_in place words else Ok default
 
+-- whether an agent ignores old events at a join, and whether it keeps its events over a restart, as a word says it
+abbrev pub mode_of : List ℕ → Option Mode
+mode_of word =
+    if bytes_eq word (codes "keep") then Some (record { ignore_old = false; keep_events = false })
+    else if bytes_eq word (codes "ignore") then Some (record { ignore_old = true; keep_events = false })
+    else if bytes_eq word (codes "keep+events") then Some (record { ignore_old = false; keep_events = true })
+    else if bytes_eq word (codes "ignore+events") then Some (record { ignore_old = true; keep_events = true })
+    else None
+
+-- the same of the word at a place
+unfoldable pub mode_in : ℕ → List (List ℕ) → Result Mode Cause
+mode_in place words = or_bad place (mode_of (word_at place words))
+
 -- the agent that so many words describe
 unfoldable pub agent_of : List (List ℕ) → Result Config Cause
 agent_of words = do
@@ -47,11 +62,11 @@ agent_of words = do
   queries ← number_in 4 words
   limit ← number_in 5 words
   responders ← number_in 6 words
-  ignores ← choice_in (codes "keep") (codes "ignore") 7 words
+  mode ← mode_in 7 words
   per_time ← per_time_in words
   query_limit ← limit_in 9 default_query_limit words
   response_limit ← limit_in 10 default_response_limit words
-  Ok (record { name = name; event_buffer = events; query_buffer = queries; event_limit = limit; query_limit = query_limit; response_limit = response_limit; responders = responders; per_time = per_time; ignore_old = ignores })
+  Ok (record { name = name; event_buffer = events; query_buffer = queries; event_limit = limit; query_limit = query_limit; response_limit = response_limit; responders = responders; per_time = per_time; ignore_old = mode.ignore_old; keep_events = mode.keep_events })
 
 abbrev pub add_agent : Parsed → Config → Result Parsed Cause
 add_agent before config =

@@ -16,8 +16,11 @@ use Rattle.serf_text.specs.TextParts.{flag_text, hex_text}
 
 -- Words
 
-abbrev pub mode_word : Bool → List ℕ
-mode_word ignore_old = if ignore_old then codes "ignore" else codes "keep"
+abbrev pub mode_word : Config → List ℕ
+mode_word c =
+    if c.keep_events then (if c.ignore_old then codes "ignore+events" else codes "keep+events")
+    else if c.ignore_old then codes "ignore"
+    else codes "keep"
 
 abbrev pub join_word : Bool → List ℕ
 join_word join = if join then codes "join" else codes "sync"
@@ -41,7 +44,7 @@ limit_words c =
     else decimal c.query_limit ∷ decimal c.response_limit ∷ []
 
 abbrev pub config_words : Config → List (List ℕ)
-config_words c = hex_text c.name ∷ decimal c.event_buffer ∷ decimal c.query_buffer ∷ decimal c.event_limit ∷ decimal c.responders ∷ mode_word c.ignore_old ∷ decimal c.per_time ∷ limit_words c
+config_words c = hex_text c.name ∷ decimal c.event_buffer ∷ decimal c.query_buffer ∷ decimal c.event_limit ∷ decimal c.responders ∷ mode_word c ∷ decimal c.per_time ∷ limit_words c
 
 abbrev pub verb_word : Act → List ℕ
 verb_word (acts.Fire name payload coalesce) = codes "fire"

@@ -3,14 +3,14 @@
 
 ghost use Rattle.std.specs.Prelude.{◌≡◌, All, Ok};
 ghost use Rattle.serf_model.specs.Runs.{AreConfigs};
-ghost use Rattle.serf_schedule.specs.Laws.{LateLinesAddSame, LinesFollow, LinesGrow, LinesStay, SchedulesAreSized, SendsBehind};
+ghost use Rattle.serf_schedule.specs.Laws.{LateLinesAddSame, LinesFollow, LinesGrow, LinesStay, SchedulesAreSized, SchedulesAreTold, SendsBehind};
 ghost use Rattle.serf_schedule.specs.Line.{Parsed};
 ghost use Rattle.serf_schedule.specs.Schedule.{schedule_of};
 ghost use Rattle.serf_schedule.specs.Comments.{CommentsAreSkipped, NumbersAreWords};
 ghost use Rattle.serf_schedule.specs.Sayable.{HasByteName, IsSayable};
 ghost use Rattle.serf_schedule.specs.ScheduleText.{schedule_text};
 
-use serf_model::sound_settings;
+use serf_model::{sound_settings, told_packets};
 
 /// A step sends its packets after those that were sent, and what is sent later changes none of its lines. The lines of
 /// one action more stand after those of the others. Does nothing.
@@ -31,6 +31,14 @@ pub fn lines_grow()
 pub fn sized_schedules()
     ensures { SchedulesAreSized }
 {}
+
+/// What the actions that a text stands for bring can be told in snapshot lines: their texts are bytes, and a query's
+/// ID has 32 bits. Does nothing.
+pub fn told_schedules()
+    ensures { SchedulesAreTold }
+{
+    told_packets();
+}
 
 /// The text of a schedule stands for just this schedule, and is never refused. Does nothing.
 #[tactic(auto, using(crate::proofs::RoundTrip::reads_back))]

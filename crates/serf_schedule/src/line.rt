@@ -7,6 +7,7 @@ ghost use Rattle.serf_schedule.specs.Line.{agent_of, per_time_in, limit_in, firi
 ghost use Rattle.serf_text.specs.Gives.{Gives};
 
 use crate::command::Verb;
+use crate::modes::mode_at;
 use crate::sinks::sink_call_at;
 use serf_agent::{
     BytesList, Config, DEFAULT_PER_TIME, DEFAULT_QUERY_LIMIT, DEFAULT_RESPONSE_LIMIT, QueryParams,
@@ -58,7 +59,7 @@ pub(crate) fn agent(alloc: Global, words: &[&[u8]]) -> Result<Config, LineFault>
     let query_buffer = number_at(words, 4)?;
     let event_limit = number_at(words, 5)?;
     let responders = number_at(words, 6)?;
-    let ignore_old = choice_at(words, 7, b"keep", b"ignore")?;
+    let mode = mode_at(words, 7)?;
     let per_time = per_time(words)?;
     let query_limit = limit(words, 9, DEFAULT_QUERY_LIMIT)?;
     let response_limit = limit(words, 10, DEFAULT_RESPONSE_LIMIT)?;
@@ -71,7 +72,8 @@ pub(crate) fn agent(alloc: Global, words: &[&[u8]]) -> Result<Config, LineFault>
         response_limit,
         responders,
         per_time,
-        ignore_old,
+        ignore_old: mode.ignore_old,
+        keep_events: mode.keep_events,
     })
 }
 

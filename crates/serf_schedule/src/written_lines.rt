@@ -5,10 +5,9 @@ ghost use Rattle.std.specs.Option.{option_copied};
 ghost use Rattle.serf_schedule.specs.ScheduleText.{act_words, action_text, agent_text, config_words, limit_words, packet_word, spaced, verb_word};
 ghost use Rattle.serf_schedule.specs.Words.{word_text};
 
+use crate::modes::mode_word;
 use crate::written_words::Word::{Hex, Number, Plain, Signed};
-use crate::written_words::{
-    Word, flags, join, mode, put_hex_words, put_line, put_words, sink_call,
-};
+use crate::written_words::{Word, flags, join, put_hex_words, put_line, put_words, sink_call};
 use serf_agent::{Config, DEFAULT_QUERY_LIMIT, DEFAULT_RESPONSE_LIMIT};
 use serf_model::{Act, Action, NewQuery};
 use serf_text::flag;
@@ -40,7 +39,7 @@ pub fn put_config_words(out: &mut Vec<u8>, config: &Config) -> Result<(), AllocE
         Number(config.query_buffer),
         Number(config.event_limit),
         Number(config.responders),
-        Plain(mode(config.ignore_old)),
+        Plain(mode_word(config)),
         Number(config.per_time),
     ];
     put_words(out, &words)?;

@@ -2,7 +2,7 @@
 
 ghost use Rattle.std.specs.Prelude.{◌≡◌, ◌++◌, ◌∷◌, OnOk, map};
 ghost use Rattle.serf_text.specs.TextParts.{hex_text};
-ghost use Rattle.serf_schedule.specs.ScheduleText.{flags_of, join_word, line_text, mode_word, sink_call_word, spaced};
+ghost use Rattle.serf_schedule.specs.ScheduleText.{flags_of, join_word, line_text, sink_call_word, spaced};
 ghost use Rattle.serf_schedule.specs.Words.{word_behind, word_text};
 
 use serf_agent::QueryParams;
@@ -65,13 +65,6 @@ pub(crate) fn put_hex_words(out: &mut Vec<u8>, lists: &[Bytes]) -> Result<(), Al
         put_word(out, Word::Hex(list.as_slice()))?;
     }
     Ok(())
-}
-
-/// Whether an agent ignores old events at a join.
-pub(crate) fn mode(ignore_old: bool) -> &'static [u8]
-    ensures { result.now ≡ mode_word ignore_old }
-{
-    if ignore_old { b"ignore" } else { b"keep" }
 }
 
 /// Whether a merge is a join.

@@ -1,5 +1,7 @@
 -- The lines of events and of queries: what is written reads back, and what is torn says nothing.
-use Rattle.serf_snap.proofs.Names.{◌≡◌, ◌≢◌, ℕ, ◌+◌, ◌*◌, ◌-◌, ◌/◌, ◌^◌, ◌<◌, ◌≤◌, ◌==◌, ◌&&◌, not, eqb, nat_le, Bool, true, false, cond, Option, Some, None, inl, inr, List, [], ◌∷◌, ◌++◌, length, take, decimal, refl, sym, ap, ◌∙◌, arith, append_assoc, and_parts, and_from, and_left, and_right, cond-true, cond-false, not-true, ne_eqb, leb-true, lt-ltb, length-append, is_ascii_digit, all_ascii_digits, digits_decimal, digits_value-decimal, decimal_nonempty}
+use Rattle.serf_snap.proofs.Names.{◌≡◌, ◌≢◌, ℕ, ◌+◌, ◌*◌, ◌-◌, ◌/◌, ◌^◌, ◌<◌, ◌≤◌, ◌==◌, ◌&&◌, not, eqb, nat_le, Bool, true, false, cond, Option, Some, None, inl, inr, List, [], ◌∷◌, ◌++◌, length, take, decimal, refl, sym, ap, ◌∙◌, arith, append_assoc, and_parts, and_from, and_left, and_right, cond-true, cond-false, not-true, ne_eqb, le-leb, leb-true, lt-ltb, length-append, is_ascii_digit, all_ascii_digits, digits_decimal, digits_value-decimal, decimal_nonempty}
+use Rattle.std.proofs.Common.{suc, zero}
+use Rattle.std.specs.Fmt.{digit_glyph, digits, digits_onto}
 use Rattle.std.specs.Prelude.{◌%◌, Result, Ok, Err, slice_index}
 use Rattle.std.specs.List.{All, AllPass, onto_first, slice_split}
 use Rattle.std.specs.Result.{result_ok}
@@ -51,8 +53,29 @@ digits_no_blank (d ∷ ds) h =
     let b : d ≢ 32 = omega arith in
     and_from _ _ (and_from _ _ (ap not (ne_eqb d 10 a)) (ap not (ne_eqb d 32 b))) (digits_no_blank ds p.1)
 
-decimal_no_blank : (n : ℕ) → n < 2 ^ 64 → has_no_blank (decimal n) ≡ true
-decimal_no_blank n small = digits_no_blank (decimal n) (digits_decimal own n small)
+-- the glyphs of any number are digits, also where it has more than 64 of them
+glyph_digit : (n : ℕ) → is_ascii_digit (digit_glyph false (n % 10)) ≡ true
+glyph_digit n = by (n % 10) (omega arith)
+  where
+    by : (d : ℕ) → d < 10 → is_ascii_digit (digit_glyph false d) ≡ true
+    by d low = rw (lt-ltb d 10 low) (and_from (nat_le 48 (48 + d)) (nat_le (48 + d) 57) (le-leb 48 (48 + d) (omega arith)) (le-leb (48 + d) 57 (omega arith)))
+
+either_digits : (b : Bool) (xs ys : List ℕ) → all_ascii_digits xs ≡ true → all_ascii_digits ys ≡ true → all_ascii_digits (cond b xs ys) ≡ true
+either_digits true xs ys hx hy = hx
+either_digits false xs ys hx hy = hy
+
+onto_digits : (k n : ℕ) (acc : List ℕ) → all_ascii_digits acc ≡ true → all_ascii_digits (digits_onto k 10 false n acc) ≡ true
+onto_digits zero n acc h = h
+onto_digits (suc k) n acc h =
+    let more : all_ascii_digits (digit_glyph false (n % 10) ∷ acc) ≡ true = and_from _ _ (glyph_digit n) h in
+    either_digits (n / 10 == 0) (digit_glyph false (n % 10) ∷ acc) (digits_onto k 10 false (n / 10) (digit_glyph false (n % 10) ∷ acc)) more (onto_digits k (n / 10) (digit_glyph false (n % 10) ∷ acc) more)
+
+decimal_digits : (n : ℕ) → all_ascii_digits (decimal n) ≡ true
+unfolding digits
+decimal_digits n = onto_digits 64 n [] refl
+
+decimal_no_blank : (n : ℕ) → has_no_blank (decimal n) ≡ true
+decimal_no_blank n = digits_no_blank (decimal n) (decimal_digits n)
 
 hex_digit_other : (d s : ℕ) → 0 < s → hex_digit_value s ≡ None → not (slice_index lower_digits d == s) ≡ true
 hex_digit_other d s some none = elim (cases_lt d 16) [
@@ -75,15 +98,18 @@ hex_no_blank (b ∷ rest) =
     and_from _ _ (and_from _ _ (hex_digit_other (b / 16) 10 newline refl) (hex_digit_other (b / 16) 32 space refl))
     (and_from _ _ (and_from _ _ (hex_digit_other (b % 16) 10 newline refl) (hex_digit_other (b % 16) 32 space refl)) (hex_no_blank rest))
 
-pub no_newline-event : (t : ℕ) (name payload : List ℕ) → t < 2 ^ 64 → has_no_newline (event_text t name payload) ≡ true
-no_newline-event t name payload small =
+pub no_newline-decimal : (n : ℕ) → has_no_newline (decimal n) ≡ true
+no_newline-decimal n = no_newline-blank (decimal n) (decimal_no_blank n)
+
+pub no_newline-event : (t : ℕ) (name payload : List ℕ) → has_no_newline (event_text t name payload) ≡ true
+no_newline-event t name payload =
     no_newline-append (decimal t ++ 32 ∷ encode_lower name) (32 ∷ encode_lower payload)
-    (no_newline-append (decimal t) (32 ∷ encode_lower name) (no_newline-blank (decimal t) (decimal_no_blank t small)) (no_newline-blank (encode_lower name) (hex_no_blank name)))
+    (no_newline-append (decimal t) (32 ∷ encode_lower name) (no_newline-blank (decimal t) (decimal_no_blank t)) (no_newline-blank (encode_lower name) (hex_no_blank name)))
     (no_newline-blank (encode_lower payload) (hex_no_blank payload))
 
-pub no_newline-query : (t id : ℕ) → t < 2 ^ 64 → id < 2 ^ 64 → has_no_newline (query_text t id) ≡ true
-no_newline-query t id small low =
-    no_newline-append (decimal t) (32 ∷ decimal id) (no_newline-blank (decimal t) (decimal_no_blank t small)) (no_newline-blank (decimal id) (decimal_no_blank id low))
+pub no_newline-query : (t id : ℕ) → has_no_newline (query_text t id) ≡ true
+no_newline-query t id =
+    no_newline-append (decimal t) (32 ∷ decimal id) (no_newline-blank (decimal t) (decimal_no_blank t)) (no_newline-blank (decimal id) (decimal_no_blank id))
 
 -- ---- what is written reads back
 
@@ -95,7 +121,7 @@ event_of_line-written t name payload some small n p =
     let middle : slice_split (λ b. b == 32) (encode_lower name ++ 32 ∷ encode_lower payload) ≡ encode_lower name ∷ slice_split (λ b. b == 32) (encode_lower payload) =
     slice_split_at is_space (encode_lower name) 32 (encode_lower payload) (no_space-blank (encode_lower name) (hex_no_blank name)) refl in
     let first : slice_split (λ b. b == 32) (decimal t ++ 32 ∷ (encode_lower name ++ 32 ∷ encode_lower payload)) ≡ decimal t ∷ slice_split (λ b. b == 32) (encode_lower name ++ 32 ∷ encode_lower payload) =
-    slice_split_at is_space (decimal t) 32 (encode_lower name ++ 32 ∷ encode_lower payload) (no_space-blank (decimal t) (decimal_no_blank t low)) refl in
+    slice_split_at is_space (decimal t) 32 (encode_lower name ++ 32 ∷ encode_lower payload) (no_space-blank (decimal t) (decimal_no_blank t)) refl in
     let parts : slice_split (λ b. b == 32) (decimal t ++ 32 ∷ (encode_lower name ++ 32 ∷ encode_lower payload)) ≡ decimal t ∷ encode_lower name ∷ encode_lower payload ∷ [] =
     first ∙ ap (λ (l : List (List ℕ)). decimal t ∷ l) (middle ∙ ap (λ (l : List (List ℕ)). encode_lower name ∷ l) last) in
     let reads_name : bytes_of_hex (encode_lower name) ≡ Some name = ap result_ok (decode_of-encode_lower name n) in
@@ -124,9 +150,9 @@ query_of_line-written t id some small low =
     let t_low : t < 2 ^ 64 = omega arith in
     let id_low : id < 2 ^ 64 = omega arith in
     let is_space = λ (b : ℕ). b == 32 in
-    let last : slice_split (λ b. b == 32) (decimal id) ≡ decimal id ∷ [] = slice_split_none is_space (decimal id) (no_space-blank (decimal id) (decimal_no_blank id id_low)) in
+    let last : slice_split (λ b. b == 32) (decimal id) ≡ decimal id ∷ [] = slice_split_none is_space (decimal id) (no_space-blank (decimal id) (decimal_no_blank id)) in
     let parts : slice_split (λ b. b == 32) (decimal t ++ 32 ∷ decimal id) ≡ decimal t ∷ decimal id ∷ [] =
-    slice_split_at is_space (decimal t) 32 (decimal id) (no_space-blank (decimal t) (decimal_no_blank t t_low)) refl ∙ ap (λ (l : List (List ℕ)). decimal t ∷ l) last in
+    slice_split_at is_space (decimal t) 32 (decimal id) (no_space-blank (decimal t) (decimal_no_blank t)) refl ∙ ap (λ (l : List (List ℕ)). decimal t ∷ l) last in
     let not_zero : t ≢ 0 = omega arith in
     ap query_from_parts parts
     ∙ ap (λ (x : ℕ). query_from x (id_of (decimal id))) (time_text_value-decimal t small)
@@ -190,13 +216,13 @@ query_of_line-sealed u = hash_behind-sealed None query_behind refl (λ v. let s 
 pub events-line : (w : Wanted) (text : List ℕ) (t : ℕ) (name payload : List ℕ) → is_whole text ≡ true → 0 < t → t < 2 ^ 64 - 1 → IsBytes name → IsBytes payload
     → events_in w (text ++ event_line t name payload) ≡ events_in w text ++ if_event_wanted w (Some (timed_event t name payload))
 events-line w text t name payload whole some small n p =
-    say-line (λ (line : List ℕ). if_event_wanted w (event_of_line line)) text (event_text t name payload) whole (no_newline-event t name payload (omega arith))
+    say-line (λ (line : List ℕ). if_event_wanted w (event_of_line line)) text (event_text t name payload) whole (no_newline-event t name payload)
     ∙ ap (λ (o : Option TimedEvent). events_in w text ++ if_event_wanted w o) (event_of_line-written t name payload some small n p)
 
 pub events-torn : (w : Wanted) (text : List ℕ) (t : ℕ) (name payload : List ℕ) (j : ℕ) → is_whole text ≡ true → t < 2 ^ 64 - 1 → j < length (event_line t name payload)
     → events_in w (text ++ take j (event_line t name payload)) ≡ events_in w text
 events-torn w text t name payload j whole small within =
-    ap (events_of_lines w) (lines-torn text (event_text t name payload) j whole (no_newline-event t name payload (omega arith)) within)
+    ap (events_of_lines w) (lines-torn text (event_text t name payload) j whole (no_newline-event t name payload) within)
 
 pub events-sealed : (w : Wanted) (text : List ℕ) → events_in w (sealed text) ≡ events_in w text
 events-sealed w text = say-sealed (λ (line : List ℕ). if_event_wanted w (event_of_line line)) text (λ u. ap (if_event_wanted w) (event_of_line-sealed u))
@@ -207,13 +233,13 @@ events-grow w front tail = say-grows (λ (line : List ℕ). if_event_wanted w (e
 pub queries-line : (w : Wanted) (text : List ℕ) (t id : ℕ) → is_whole text ≡ true → 0 < t → t < 2 ^ 64 - 1 → id < 2 ^ 32
     → queries_in w (text ++ query_line t id) ≡ queries_in w text ++ if_query_wanted w (Some (kept_query t id))
 queries-line w text t id whole some small low =
-    say-line (λ (line : List ℕ). if_query_wanted w (query_of_line line)) text (query_text t id) whole (no_newline-query t id (omega arith) (omega arith))
+    say-line (λ (line : List ℕ). if_query_wanted w (query_of_line line)) text (query_text t id) whole (no_newline-query t id)
     ∙ ap (λ (o : Option KeptQuery). queries_in w text ++ if_query_wanted w o) (query_of_line-written t id some small low)
 
 pub queries-torn : (w : Wanted) (text : List ℕ) (t id : ℕ) (j : ℕ) → is_whole text ≡ true → t < 2 ^ 64 - 1 → id < 2 ^ 32 → j < length (query_line t id)
     → queries_in w (text ++ take j (query_line t id)) ≡ queries_in w text
 queries-torn w text t id j whole small low within =
-    ap (queries_of_lines w) (lines-torn text (query_text t id) j whole (no_newline-query t id (omega arith) (omega arith)) within)
+    ap (queries_of_lines w) (lines-torn text (query_text t id) j whole (no_newline-query t id) within)
 
 pub queries-sealed : (w : Wanted) (text : List ℕ) → queries_in w (sealed text) ≡ queries_in w text
 queries-sealed w text = say-sealed (λ (line : List ℕ). if_query_wanted w (query_of_line line)) text (λ u. ap (if_query_wanted w) (query_of_line-sealed u))

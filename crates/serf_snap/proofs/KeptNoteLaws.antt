@@ -28,14 +28,14 @@ last_clock-append k a b whole = ap (greatest k) (lines_of-append a b whole) ∙ 
 line-no_clock : (text : List ℕ) → has_no_newline text ≡ true → ((kind : ClockKind) → line_value kind text ≡ 0) → SaysNoClock (text ++ 10 ∷ [])
 line-no_clock text none says = record { whole = is_whole-push text; clocks = λ kind. ap (greatest kind) (lines_of-one text none) ∙ omega (arith, says kind) }
 
-pub event-no_clock : (t : ℕ) (name payload : List ℕ) → t < 2 ^ 64 - 1 → SaysNoClock (event_line t name payload)
-event-no_clock t name payload small = line-no_clock (event_text t name payload) (no_newline-event t name payload (omega arith)) (λ kind. hash_no_clock kind _)
+pub event-no_clock : (t : ℕ) (name payload : List ℕ) → SaysNoClock (event_line t name payload)
+event-no_clock t name payload = line-no_clock (event_text t name payload) (no_newline-event t name payload) (λ kind. hash_no_clock kind _)
 
-pub query-no_clock : (t id : ℕ) → t < 2 ^ 64 - 1 → id < 2 ^ 32 → SaysNoClock (query_line t id)
-query-no_clock t id small low = line-no_clock (query_text t id) (no_newline-query t id (omega arith) (omega arith)) (λ kind. hash_no_clock kind _)
+pub query-no_clock : (t id : ℕ) → SaysNoClock (query_line t id)
+query-no_clock t id = line-no_clock (query_text t id) (no_newline-query t id) (λ kind. hash_no_clock kind _)
 
-pub least-no_clock : (k : ClockKind) (t : ℕ) → t ≤ 2 ^ 64 - 1 → SaysNoClock (least_line k t)
-least-no_clock k t small = line-no_clock (least_text k t) (least_no_newline k t small) (λ kind. hash_no_clock kind _)
+pub least-no_clock : (k : ClockKind) (t : ℕ) → SaysNoClock (least_line k t)
+least-no_clock k t = line-no_clock (least_text k t) (least_no_newline k t) (λ kind. hash_no_clock kind _)
 
 pub no_clock-append : (a b : List ℕ) → SaysNoClock a → SaysNoClock b → SaysNoClock (a ++ b)
 no_clock-append a b ha hb = record {
@@ -119,7 +119,7 @@ sound-kept_failed kind s t line bytes durable sound part = sound-failed kind s t
 
 -- ---- a compaction
 
-is_whole-kept_above : (kind : ClockKind) (text : List ℕ) (t : ℕ) → is_whole text ≡ true → is_whole (text ++ kept_line_above_zero kind t) ≡ true
+pub is_whole-kept_above : (kind : ClockKind) (text : List ℕ) (t : ℕ) → is_whole text ≡ true → is_whole (text ++ kept_line_above_zero kind t) ≡ true
 is_whole-kept_above kind text t whole = by (t == 0)
   where
     by : (b : Bool) → is_whole (text ++ cond b [] (kept_clock_line kind t)) ≡ true
@@ -140,10 +140,10 @@ other-kept_above at kind text t whole small other = by (t == 0)
     by true = ap (last_clock at) (append_nil text)
     by false = last_clock-kept_other at kind text t whole small other
 
-is_whole-kept_compaction : (lines : List ℕ) (s : SnapshotView) → SaysNoClock lines → is_whole (kept_compaction_of lines s) ≡ true
-is_whole-kept_compaction lines s says =
+pub is_whole-kept_compaction : (lines : List ℕ) (s : SnapshotView) → is_whole lines ≡ true → is_whole (kept_compaction_of lines s) ≡ true
+is_whole-kept_compaction lines s whole =
     is_whole-kept_above Query ((lines ++ line_above_zero Member s.member_clock) ++ kept_line_above_zero Event s.event_clock) s.query_clock
-    (is_whole-kept_above Event (lines ++ line_above_zero Member s.member_clock) s.event_clock (is_whole-above_zero Member lines s.member_clock says.whole))
+    (is_whole-kept_above Event (lines ++ line_above_zero Member s.member_clock) s.event_clock (is_whole-above_zero Member lines s.member_clock whole))
 
 clock-kept_compaction : (kind : ClockKind) (lines : List ℕ) (s : SnapshotView) → SaysNoClock lines → ((at : ClockKind) → last_line at s < 2 ^ 64 - 1) → last_clock kind (kept_compaction_of lines s) ≡ last_line kind s
 clock-kept_compaction kind lines s says low = by kind
@@ -191,7 +191,7 @@ sound-kept_compacted s lines sound says k at = by s.durable refl
         record {
           at_least = λ kind. let e = clocks kind in omega (arith, e);
           equal = λ _. clocks;
-          whole = λ _. ap is_whole (sym same) ∙ is_whole-kept_compaction lines s says;
+          whole = λ _. ap is_whole (sym same) ∙ is_whole-kept_compaction lines s says.whole;
         }
 
 pub sound-kept_compaction_failed : (s : SnapshotView) (lines : List ℕ) (durable : Option (List ℕ)) → IsSnapshotSound s → SaysNoClock lines → KeepsEither s.durable (kept_compaction_of lines s) durable

@@ -6,8 +6,8 @@ use Rattle.serf_snap.specs.declared.kind.ClockKind.{ClockKind}
 use Rattle.serf_snap.specs.declared.kind.ClockKind.TheVariants.{Member, Event, Query}
 use Rattle.serf_snap.specs.Clocks.{behind, clock_line, greatest, is_empty, is_time_text, is_whole, last_clock, line_value, lines_of, prefix_of, read_on, sealed, time_text_value}
 use Rattle.serf_snap.specs.EventLines.{above_unkept, begins_with_zero, event_line, event_text, kept_clock_line, kept_clock_text, least_in, least_line, least_of_line, least_of_lines, least_prefix, least_text, least_text_value, query_line, query_text}
-use Rattle.serf_snap.proofs.ClockLaws.{decimal_is_time, digits_end, digits_no_newline, front_lines, greatest-append, has_no_newline, own, prefix_no_newline, torn_line}
-use Rattle.serf_snap.proofs.EventLineLaws.{no_newline-event, no_newline-query}
+use Rattle.serf_snap.proofs.ClockLaws.{decimal_is_time, digits_end, front_lines, greatest-append, has_no_newline, lines_of-append, own, prefix_no_newline, torn_line}
+use Rattle.serf_snap.proofs.EventLineLaws.{no_newline-decimal, no_newline-event, no_newline-query}
 use Rattle.serf_snap.proofs.SayLaws.{behind-sealed, hash_behind-sealed, lines-line}
 
 pub least-some : (k : ClockKind) (ls : List (List ℕ)) → 1 ≤ least_of_lines k ls
@@ -26,15 +26,12 @@ least-line k text l value whole none is =
     let some : 1 ≤ least_of_lines k (lines_of text) = least-some k (lines_of text) in
     omega (arith, all, both, is)
 
-decimal_no_newline : (n : ℕ) → n ≤ 2 ^ 64 - 1 → has_no_newline (decimal n) ≡ true
-decimal_no_newline n small = digits_no_newline (decimal n) (digits_decimal own n (omega arith))
-
 -- ---- the line of a least time
 
-pub least_no_newline : (k : ClockKind) (t : ℕ) → t ≤ 2 ^ 64 - 1 → has_no_newline (least_text k t) ≡ true
-least_no_newline Member t small = decimal_no_newline t small
-least_no_newline Event t small = decimal_no_newline t small
-least_no_newline Query t small = decimal_no_newline t small
+pub least_no_newline : (k : ClockKind) (t : ℕ) → has_no_newline (least_text k t) ≡ true
+least_no_newline Member t = no_newline-decimal t
+least_no_newline Event t = no_newline-decimal t
+least_no_newline Query t = no_newline-decimal t
 
 least_value-decimal : (t : ℕ) → t ≤ 2 ^ 64 - 1 → least_text_value (Some (decimal t)) ≡ t
 least_value-decimal t small =
@@ -63,10 +60,10 @@ least_of_line-other Query Event t h = refl
 least_of_line-other Query Query t h = absurd (h refl)
 
 pub least-own : (k : ClockKind) (text : List ℕ) (t : ℕ) → is_whole text ≡ true → t ≤ 2 ^ 64 - 1 → least_in k (text ++ least_line k t) ≡ max (least_in k text) t
-least-own k text t whole small = least-line k text (least_text k t) t whole (least_no_newline k t small) (least_of_line-own k t small)
+least-own k text t whole small = least-line k text (least_text k t) t whole (least_no_newline k t) (least_of_line-own k t small)
 
 pub least-other : (k j : ClockKind) (text : List ℕ) (t : ℕ) → is_whole text ≡ true → t ≤ 2 ^ 64 - 1 → k ≢ j → least_in k (text ++ least_line j t) ≡ least_in k text
-least-other k j text t whole small other = omega (arith, least-line k text (least_text j t) 0 whole (least_no_newline j t small) (least_of_line-other k j t other))
+least-other k j text t whole small other = omega (arith, least-line k text (least_text j t) 0 whole (least_no_newline j t) (least_of_line-other k j t other))
 
 -- ---- lines of events and of queries
 
@@ -82,11 +79,11 @@ query_says_none Query t id = refl
 
 pub least-event : (k : ClockKind) (text : List ℕ) (t : ℕ) (name payload : List ℕ) → is_whole text ≡ true → t < 2 ^ 64 - 1 → least_in k (text ++ event_line t name payload) ≡ least_in k text
 least-event k text t name payload whole small =
-    omega (arith, least-line k text (event_text t name payload) 0 whole (no_newline-event t name payload (omega arith)) (event_says_none k t name payload))
+    omega (arith, least-line k text (event_text t name payload) 0 whole (no_newline-event t name payload) (event_says_none k t name payload))
 
 pub least-query : (k : ClockKind) (text : List ℕ) (t id : ℕ) → is_whole text ≡ true → t < 2 ^ 64 - 1 → id < 2 ^ 32 → least_in k (text ++ query_line t id) ≡ least_in k text
 least-query k text t id whole small low =
-    omega (arith, least-line k text (query_text t id) 0 whole (no_newline-query t id (omega arith) (omega arith)) (query_says_none k t id))
+    omega (arith, least-line k text (query_text t id) 0 whole (no_newline-query t id) (query_says_none k t id))
 
 -- ---- clock lines
 
@@ -124,17 +121,36 @@ clock_says Query t some small = omega (arith, above-decimal t some small)
 pub least-clock_line : (k : ClockKind) (text : List ℕ) (t : ℕ) → is_whole text ≡ true → 0 < t → t < 2 ^ 64 - 1 → least_in k (text ++ clock_line k t) ≡ max (least_in k text) (t + 1)
 least-clock_line k text t whole some small =
     ap (λ (l : List ℕ). least_in k (text ++ l)) (assoc k)
-    ∙ least-line k text (prefix_of k ++ decimal t) (t + 1) whole (prefix_no_newline k (decimal t) (decimal_no_newline t (omega arith))) (clock_says k t some small)
+    ∙ least-line k text (prefix_of k ++ decimal t) (t + 1) whole (prefix_no_newline k (decimal t) (no_newline-decimal t)) (clock_says k t some small)
   where
     assoc : (k : ClockKind) → clock_line k t ≡ (prefix_of k ++ decimal t) ++ 10 ∷ []
     assoc Member = refl
     assoc Event = refl
     assoc Query = refl
 
-kept_no_newline : (k : ClockKind) (t : ℕ) → t < 2 ^ 64 - 1 → has_no_newline (kept_clock_text k t) ≡ true
-kept_no_newline Member t small = decimal_no_newline t (omega arith)
-kept_no_newline Event t small = decimal_no_newline t (omega arith)
-kept_no_newline Query t small = decimal_no_newline t (omega arith)
+other_clock_says : (k j : ClockKind) (t : ℕ) → k ≢ j → least_of_line k (prefix_of j ++ decimal t) ≡ 0
+other_clock_says Member Member t other = absurd (other refl)
+other_clock_says Member Event t other = refl
+other_clock_says Member Query t other = refl
+other_clock_says Event Member t other = refl
+other_clock_says Event Event t other = absurd (other refl)
+other_clock_says Event Query t other = refl
+other_clock_says Query Member t other = refl
+other_clock_says Query Event t other = refl
+other_clock_says Query Query t other = absurd (other refl)
+
+pub least-other_clock_line : (k j : ClockKind) (text : List ℕ) (t : ℕ) → is_whole text ≡ true → k ≢ j → least_in k (text ++ clock_line j t) ≡ least_in k text
+least-other_clock_line k j text t whole other = ap (λ (l : List ℕ). least_in k (text ++ l)) (assoc j) ∙ omega (arith, least-line k text (prefix_of j ++ decimal t) 0 whole (prefix_no_newline j (decimal t) (no_newline-decimal t)) (other_clock_says k j t other))
+  where
+    assoc : (k : ClockKind) → clock_line k t ≡ (prefix_of k ++ decimal t) ++ 10 ∷ []
+    assoc Member = refl
+    assoc Event = refl
+    assoc Query = refl
+
+pub kept_no_newline : (k : ClockKind) (t : ℕ) → has_no_newline (kept_clock_text k t) ≡ true
+kept_no_newline Member t = no_newline-decimal t
+kept_no_newline Event t = no_newline-decimal t
+kept_no_newline Query t = no_newline-decimal t
 
 kept_says_none : (k j : ClockKind) (t : ℕ) → least_of_line k (kept_clock_text j t) ≡ 0
 kept_says_none Member Member t = refl
@@ -148,7 +164,7 @@ kept_says_none Query Event t = refl
 kept_says_none Query Query t = refl
 
 pub least-kept_clock : (k j : ClockKind) (text : List ℕ) (t : ℕ) → is_whole text ≡ true → t < 2 ^ 64 - 1 → least_in k (text ++ kept_clock_line j t) ≡ least_in k text
-least-kept_clock k j text t whole small = omega (arith, least-line k text (kept_clock_text j t) 0 whole (kept_no_newline j t small) (kept_says_none k j t))
+least-kept_clock k j text t whole small = omega (arith, least-line k text (kept_clock_text j t) 0 whole (kept_no_newline j t) (kept_says_none k j t))
 
 -- a zero in front changes no time
 zero_in_front : (t : ℕ) → t < 2 ^ 64 - 1 → time_text_value (Some (48 ∷ decimal t)) ≡ t
@@ -181,10 +197,10 @@ clock-line_says k text l value whole none is =
     omega (arith, all, both, is)
 
 pub last_clock-kept_line : (k : ClockKind) (text : List ℕ) (t : ℕ) → is_whole text ≡ true → t < 2 ^ 64 - 1 → last_clock k (text ++ kept_clock_line k t) ≡ max (last_clock k text) t
-last_clock-kept_line k text t whole small = clock-line_says k text (kept_clock_text k t) t whole (kept_no_newline k t small) (kept_value k t small)
+last_clock-kept_line k text t whole small = clock-line_says k text (kept_clock_text k t) t whole (kept_no_newline k t) (kept_value k t small)
 
 pub last_clock-kept_other : (k j : ClockKind) (text : List ℕ) (t : ℕ) → is_whole text ≡ true → t < 2 ^ 64 - 1 → k ≢ j → last_clock k (text ++ kept_clock_line j t) ≡ last_clock k text
-last_clock-kept_other k j text t whole small other = omega (arith, clock-line_says k text (kept_clock_text j t) 0 whole (kept_no_newline j t small) (kept_value-other k j t other))
+last_clock-kept_other k j text t whole small other = omega (arith, clock-line_says k text (kept_clock_text j t) 0 whole (kept_no_newline j t) (kept_value-other k j t other))
 
 -- ---- longer texts, and sealed ones
 
@@ -192,6 +208,10 @@ pub least-grows : (k : ClockKind) (front tail : List ℕ) → least_in k front �
 least-grows k front tail =
     let f = front_lines front tail in
     omega (arith, ap (least_of_lines k) f.1, least-append k (lines_of front) f.0)
+
+-- behind a whole text
+pub least-joined : (k : ClockKind) (front tail : List ℕ) → is_whole front ≡ true → least_in k (front ++ tail) ≡ max (least_in k front) (least_in k tail)
+least-joined k front tail whole = ap (least_of_lines k) (lines_of-append front tail whole) ∙ least-append k (lines_of front) (lines_of tail)
 
 value-sealed : (v : List ℕ) → least_text_value (Some (v ++ 35 ∷ [])) ≡ 0
 value-sealed v = cond-false _ _ _ (and_right (not (is_empty (v ++ 35 ∷ []))) _ (digits_end v))

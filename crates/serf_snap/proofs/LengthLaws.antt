@@ -1,6 +1,10 @@
 -- When a text is worth a compaction, from a length that stays at 2^64 - 1.
-use Rattle.serf_snap.proofs.Names.{◌/◌, le-leb, both_ways, ◌≡◌, ℕ, ◌+◌, ◌-◌, ◌*◌, ◌^◌, ◌<◌, ◌≤◌, ◌&&◌, min, nat_le, nat_lt, true, List, [], ◌++◌, length, length-append, option_map, Option, Some, None, IfSome, arith, ap, ◌∙◌, leb-true, lt-ltb}
-use Rattle.serf_snap.specs.Compaction.{IsLengthOf}
+use Rattle.serf_snap.proofs.Names.{◌/◌, le-leb, both_ways, ◌≡◌, ℕ, ◌+◌, ◌-◌, ◌*◌, ◌^◌, ◌<◌, ◌≤◌, ◌&&◌, min, nat_le, nat_lt, true, List, [], ◌++◌, length, length-append, option_map, Option, Some, None, IfSome, arith, ap, decimal, sym, ◌∙◌, ◌∷◌, leb-true, lt-ltb}
+use Rattle.std.specs.Prelude.{codes, suc}
+use Rattle.hex.specs.Hex.{encode_lower, lower_digits}
+use Rattle.hex.proofs.HexLemmas.{length-encode_with}
+use Rattle.serf_snap.specs.Compaction.{IsLengthOf, counted}
+use Rattle.serf_snap.specs.EventLines.{event_line}
 use Rattle.serf_snap.specs.Device.{Device, Observable, IsClean, appended, durable_of, flushed}
 
 half-of : (n kept c : ℕ) → kept ≡ min n (2 ^ 64 - 1) → c ≤ 102 → nat_le c (kept / 2) ≡ nat_le (2 * c) n
@@ -34,3 +38,23 @@ pub length-noted : (old mid new : Device) (line : List ℕ) (kept more now : ℕ
     → length line ≡ more → now ≡ min (kept + more) (2 ^ 64 - 1) → IsLengthOf (durable_of new) now
 length-noted old mid new line kept more now same is clean counts long total =
     rw (is, same, total) (length-kept old line kept more clean counts long)
+
+-- how long the line of an event is
+pub event_line-length : (t : ℕ) (name payload : List ℕ) → length (event_line t name payload) ≡ 10 + length (decimal t) + 2 * length name + 2 * length payload
+event_line-length t name payload =
+    let front : List ℕ = codes "#event " ++ decimal t in
+    let first : List ℕ = front ++ 32 ∷ encode_lower name in
+    let text : List ℕ = first ++ 32 ∷ encode_lower payload in
+    let a : length front ≡ 7 + length (decimal t) = length-append (codes "#event ") (decimal t) in
+    let b : length first ≡ length front + suc (length (encode_lower name)) = length-append front (32 ∷ encode_lower name) in
+    let c : length text ≡ length first + suc (length (encode_lower payload)) = length-append first (32 ∷ encode_lower payload) in
+    let d : length (text ++ 10 ∷ []) ≡ length text + 1 = length-append text (10 ∷ []) in
+    let n : length (encode_lower name) ≡ 2 * length name = length-encode_with lower_digits name in
+    let p : length (encode_lower payload) ≡ 2 * length payload = length-encode_with lower_digits payload in
+    omega (arith, a, b, c, d, n, p)
+
+pub event_line-counted : (t : ℕ) (name payload : List ℕ) (n p texts digits all : ℕ) → n ≡ min (2 * length name) (2 ^ 64 - 1) → p ≡ min (2 * length payload) (2 ^ 64 - 1) → texts ≡ min (n + p) (2 ^ 64 - 1) → digits ≡ length (decimal t) → all ≡ min (texts + (digits + 10)) (2 ^ 64 - 1)
+    → all ≡ counted (event_line t name payload)
+event_line-counted t name payload n p texts digits all a b c d e =
+    let each : all ≡ min (10 + length (decimal t) + 2 * length name + 2 * length payload) (2 ^ 64 - 1) = omega (arith, a, b, c, d, e) in
+    each ∙ ap (λ k. min k (2 ^ 64 - 1)) (sym (event_line-length t name payload))

@@ -9,3 +9,5 @@ pub mod SayLaws
 pub mod EventLineLaws
 pub mod LeastTimeLaws
 pub mod KeptNoteLaws
+pub mod ReadLaws
+pub mod SaidLaws

@@ -6,6 +6,14 @@ use Rattle.serf_snap.specs.Notes.{SnapshotView, compaction_of}
 abbrev pub is_worth_compacting : ℕ → SnapshotView → List ℕ → Bool
 is_worth_compacting limit s text = nat_lt limit (length text) && nat_le (2 * length (compaction_of s)) (length text)
 
--- the number of bytes of a text that is exposed, which stays at 2^64 - 1
+-- how many bytes of a text are counted: a count stays at 2^64 - 1
+abbrev pub counted : List ℕ → ℕ
+counted text = min (length text) (2 ^ 64 - 1)
+
+-- the text is longer than the limit, and at least twice as long as the one that is to replace it
+abbrev pub is_worth_replacing : ℕ → List ℕ → List ℕ → Bool
+is_worth_replacing limit new text = nat_lt limit (counted text) && nat_le (2 * length new) (counted text)
+
+-- the number of bytes of a text that is exposed
 abbrev pub IsLengthOf : Option (List ℕ) → ℕ → Type 0
-IsLengthOf durable kept = IfSome durable (λ (text : List ℕ). kept ≡ min (length text) (2 ^ 64 - 1))
+IsLengthOf durable kept = IfSome durable (λ (text : List ℕ). kept ≡ counted text)

@@ -1,7 +1,7 @@
 //! The laws of snapshot texts, of snapshots, and of the lines of an agent that keeps its events, as clauses of functions
 //! that do nothing.
 
-ghost use Rattle.std.specs.Prelude.{◌≡◌, ◌≢◌, ◌↔◌, ◌<◌, ◌≤◌, ◌++◌, ℕ, List, Option, IsSome, false, true, max, [], ◌+◌, ◌*◌, ◌^◌, ◌∷◌, Some, length, take};
+ghost use Rattle.std.specs.Prelude.{◌≡◌, ◌≢◌, ◌↔◌, ◌<◌, ◌≤◌, ◌++◌, ℕ, All, List, Option, IsSome, false, true, max, [], ◌+◌, ◌*◌, ◌^◌, ◌∷◌, Some, length, take};
 ghost use Rattle.serf_lamport.specs.Clock.{greatest_clock};
 ghost use Rattle.serf_snap.specs.declared.kind.ClockKind.{ClockKind};
 ghost use Rattle.serf_snap.specs.Clocks.{clock_line, compacted_text, is_whole, last_clock, lines_of, of_kind, sealed};
@@ -105,12 +105,15 @@ pub fn query_line_laws()
         → length (query_line t id) ≤ 39 }
 {}
 
-/// What becomes of the least times of a text: no bytes behind it lower them. The line of a least time raises its
-/// own kind's to it, and a clock line to one above its time, unless it has a zero in front of its number. Neither
-/// lines of events and of queries nor a seal change one. A zero in front changes no clock.
+/// What becomes of the least times of a text: no bytes behind it lower them. Those of a whole text and of what stands behind it
+/// are the greater of both. The line of a least time raises its own kind's to it, and a clock line its own kind's to one above
+/// its time, unless it has a zero in front of its number. Neither lines of events and of queries nor a seal change one. A zero
+/// in front changes no clock.
 pub fn least_time_laws()
     ensures grows { (k : ClockKind) (front tail : List ℕ)
         → least_in k front ≤ least_in k (front ++ tail) }
+    ensures joined { (k : ClockKind) (front tail : List ℕ) → is_whole front ≡ true
+        → least_in k (front ++ tail) ≡ max (least_in k front) (least_in k tail) }
     ensures sealed { (k : ClockKind) (text : List ℕ) → least_in k (sealed text) ≡ least_in k text }
     ensures own_line { (k : ClockKind) (text : List ℕ) (t : ℕ) → is_whole text ≡ true
         → t ≤ greatest_clock → least_in k (text ++ least_line k t) ≡ max (least_in k text) t }
@@ -124,6 +127,8 @@ pub fn least_time_laws()
         → least_in k (text ++ query_line t id) ≡ least_in k text }
     ensures clock_line { (k : ClockKind) (text : List ℕ) (t : ℕ) → is_whole text ≡ true → 0 < t
         → t < greatest_clock → least_in k (text ++ clock_line k t) ≡ max (least_in k text) (t + 1) }
+    ensures other_clock_line { (k j : ClockKind) (text : List ℕ) (t : ℕ) → is_whole text ≡ true
+        → k ≢ j → least_in k (text ++ clock_line j t) ≡ least_in k text }
     ensures kept_clock_line { (k j : ClockKind) (text : List ℕ) (t : ℕ) → is_whole text ≡ true
         → t < greatest_clock → least_in k (text ++ kept_clock_line j t) ≡ least_in k text }
     ensures same_clock { (k : ClockKind) (text : List ℕ) (t : ℕ) → is_whole text ≡ true
@@ -132,6 +137,39 @@ pub fn least_time_laws()
     ensures other_clock { (k j : ClockKind) (text : List ℕ) (t : ℕ) → is_whole text ≡ true
         → t < greatest_clock → k ≢ j
         → last_clock k (text ++ kept_clock_line j t) ≡ last_clock k text }
+{}
+
+/// What is read of a text can be written again: the times of its events and of its queries are times above 0, an event's texts
+/// are bytes, and a query's ID is below 2^32. Its least times are times above 0 too, or 2^64 - 1, which is above all times.
+pub fn read_laws()
+    ensures events { (w : Wanted) (text : List ℕ) → All (λ e. (0 < e.time)
+        × (e.time < greatest_clock) × IsBytes e.name × IsBytes e.payload) (events_in w text) }
+    ensures queries { (w : Wanted) (text : List ℕ) → All (λ q. (0 < q.time)
+        × (q.time < greatest_clock) × (q.id < 2 ^ 32)) (queries_in w text) }
+    ensures least { (k : ClockKind) (text : List ℕ) → (1 ≤ least_in k text)
+        × (least_in k text ≤ greatest_clock) }
+{}
+
+/// Which events a text says: what follows a whole text adds its own events after those of that text. An event's line says
+/// that event, where it is wanted. A query's line, a least time's and a clock line say none, whatever their numbers. So the
+/// compaction of an agent that keeps no events leaves none, and that of an agent that keeps its events leaves those of
+/// the lines that it keeps. That the lines themselves are whole is said by [`text_laws`] and [`kept_note_laws`].
+pub fn said_laws()
+    ensures joined { (w : Wanted) (front tail : List ℕ) → is_whole front ≡ true
+        → events_in w (front ++ tail) ≡ events_in w front ++ events_in w tail }
+    ensures event { (w : Wanted) (t : ℕ) (name payload : List ℕ) → 0 < t → t < greatest_clock
+        → IsBytes name → IsBytes payload → events_in w (event_line t name payload)
+        ≡ if_event_wanted w (Some (timed_event t name payload)) }
+    ensures query { (w : Wanted) (t id : ℕ) → events_in w (query_line t id) ≡ [] }
+    ensures least { (w : Wanted) (k : ClockKind) (t : ℕ) → events_in w (least_line k t) ≡ [] }
+    ensures clock_line { (w : Wanted) (k : ClockKind) (t : ℕ) → events_in w (clock_line k t) ≡ [] }
+    ensures kept_clock_line { (w : Wanted) (k : ClockKind) (t : ℕ)
+        → events_in w (kept_clock_line k t) ≡ [] }
+    ensures compacted { (w : Wanted) (m e q : ℕ) → events_in w (compacted_text m e q) ≡ [] }
+    ensures kept_compacted { (w : Wanted) (lines : List ℕ) (s : SnapshotView)
+        → is_whole lines ≡ true → events_in w (kept_compaction_of lines s) ≡ events_in w lines }
+    ensures kept_compacted_whole { (lines : List ℕ) (s : SnapshotView) → is_whole lines ≡ true
+        → is_whole (kept_compaction_of lines s) ≡ true }
 {}
 
 /// What a snapshot says of its last lines is what its sink keeps, after each note of an agent that keeps its events and
@@ -151,11 +189,9 @@ pub fn kept_note_laws()
         → IsSnapshotSound s → SaysNoClock lines
         → KeepsEither s.durable (kept_compaction_of lines s) durable
         → IsSnapshotSound (text_replaced (kept_compaction_of lines s) s (Failed durable)) }
-    ensures event { (t : ℕ) (name payload : List ℕ) → t < greatest_clock
-        → SaysNoClock (event_line t name payload) }
-    ensures query { (t id : ℕ) → t < greatest_clock → id < 2 ^ 32
-        → SaysNoClock (query_line t id) }
-    ensures least { (k : ClockKind) (t : ℕ) → t ≤ greatest_clock → SaysNoClock (least_line k t) }
+    ensures event { (t : ℕ) (name payload : List ℕ) → SaysNoClock (event_line t name payload) }
+    ensures query { (t id : ℕ) → SaysNoClock (query_line t id) }
+    ensures least { (k : ClockKind) (t : ℕ) → SaysNoClock (least_line k t) }
     ensures both { (a b : List ℕ) → SaysNoClock a → SaysNoClock b → SaysNoClock (a ++ b) }
     ensures clock_line_whole { (k : ClockKind) (text : List ℕ) (t : ℕ)
         → is_whole (text ++ kept_clock_line k t) ≡ true }

@@ -1,13 +1,19 @@
-//! How long the texts of a snapshot are.
+//! How long the texts of a snapshot are, and the lines of what is kept. None of these calls takes memory.
 
-ghost use Rattle.std.specs.Prelude.{◌≡◌, ◌-◌, ◌*◌, ◌^◌, ◌<◌, ◌≤◌, ◌&&◌, List, ℕ, false, length, min, nat_le, nat_lt};
+ghost use Rattle.std.specs.Prelude.{◌≡◌, ◌-◌, ◌*◌, ◌++◌, ◌^◌, ◌<◌, ◌≤◌, ◌&&◌, List, ℕ, decimal, false, length, min, nat_le, nat_lt};
 ghost use Rattle.serf_snap.specs.Clocks.{compacted_text, line_above_zero, sealed};
+ghost use Rattle.serf_snap.specs.Compaction.{counted, is_worth_replacing};
+ghost use Rattle.serf_snap.specs.EventLines.{event_line, least_line, query_line};
+ghost use Rattle.serf_snap.specs.KeptNotes.{kept_line_above_zero};
+ghost use Rattle.serf_snap.specs.declared.kind.ClockKind.TheVariants.{Event, Member, Query};
 
 use crate::clocks::{Clocks, ends_whole};
+use crate::event_lines::least_prefix_of;
 use crate::kind::ClockKind;
 use itoa::Buffer;
+use serf_lamport::Time;
 
-/// How long a text is whose torn last line, if it has one, is ended; at most 2^64 - 1. Takes no memory.
+/// How long a text is whose torn last line, if it has one, is ended; at most 2^64 - 1.
 pub(crate) fn sealed_length(text: &[u8]) -> u64
     ensures { result ≡ min (length (sealed text.now)) (2 ^ 64 - 1) }
 {
@@ -19,7 +25,45 @@ pub(crate) fn sealed_length(text: &[u8]) -> u64
     }
 }
 
-/// How long the line of a time is: 0 at 0. Takes no memory.
+/// How many decimal digits a number has.
+fn digits_of(n: u64) -> u64
+    ensures exact { result ≡ length (decimal n) }
+    ensures short { result ≤ 20 }
+{
+    let mut buffer = Buffer::new();
+    buffer.format(n).len() as u64
+}
+
+/// How many hex digits write these bytes; at most 2^64 - 1.
+fn hex_length(bytes: &[u8]) -> u64
+    ensures { result ≡ min (2 * length bytes.now) (2 ^ 64 - 1) }
+{
+    (bytes.len() as u64).saturating_mul(2)
+}
+
+/// How long the line of an event is, as `put_event_line` writes it; at most 2^64 - 1. Takes no memory.
+pub fn event_line_length(time: Time, name: &[u8], payload: &[u8]) -> u64
+    ensures { result ≡ counted (event_line time name.now payload.now) }
+{
+    let texts = hex_length(name).saturating_add(hex_length(payload));
+    texts.saturating_add(digits_of(time.get()) + 10)
+}
+
+/// How long the line of a query is, as `put_query_line` writes it. Takes no memory.
+pub fn query_line_length(time: Time, id: u32) -> u64
+    ensures { result ≡ length (query_line time id) }
+{
+    digits_of(time.get()) + digits_of(id as u64) + 9
+}
+
+/// How long the line of a least time is, as `put_least_line` writes it. Takes no memory.
+pub fn least_line_length(kind: ClockKind, time: u64) -> u64
+    ensures { result ≡ length (least_line kind time) }
+{
+    least_prefix_of(kind).len() as u64 + digits_of(time) + 1
+}
+
+/// How long the line of a time is: 0 at 0.
 fn line_length(kind: ClockKind, time: u64) -> u64
     ensures exact { result ≡ length (line_above_zero kind time) }
     ensures short { result ≤ 34 }
@@ -27,12 +71,33 @@ fn line_length(kind: ClockKind, time: u64) -> u64
     if time == 0 {
         return 0;
     }
-    let mut buffer = Buffer::new();
-    let digits = buffer.format(time).len();
-    (kind.prefix().len() + digits + 1) as u64
+    kind.prefix().len() as u64 + digits_of(time) + 1
 }
 
-/// How long the text of these last lines is. Takes no memory.
+/// How long the line of a time is whose number has a zero in front: 0 at 0.
+fn kept_line_length(kind: ClockKind, time: u64) -> u64
+    ensures exact { result ≡ length (kept_line_above_zero kind time) }
+    ensures short { result ≤ 35 }
+{
+    if time == 0 {
+        return 0;
+    }
+    kind.prefix().len() as u64 + digits_of(time) + 2
+}
+
+/// How long the last lines are behind those that a compaction keeps.
+pub(crate) fn kept_clocks_length(last: Clocks) -> u64
+    ensures exact { result ≡ length (line_above_zero Member last.member_clock
+        ++ kept_line_above_zero Event last.event_clock
+        ++ kept_line_above_zero Query last.query_clock) }
+    ensures short { result ≤ 104 }
+{
+    line_length(ClockKind::Member, last.member_clock)
+        + kept_line_length(ClockKind::Event, last.event_clock)
+        + kept_line_length(ClockKind::Query, last.query_clock)
+}
+
+/// How long the text of these last lines is.
 fn compacted_length(last: Clocks) -> u64
     ensures exact { result
         ≡ length (compacted_text last.member_clock last.event_clock last.query_clock) }
@@ -44,13 +109,24 @@ fn compacted_length(last: Clocks) -> u64
 }
 
 /// Whether a text of this length, whose last lines these are, is worth a compaction at a limit. A length stays at
-/// 2^64 - 1. Takes no memory.
+/// 2^64 - 1.
 pub(crate) fn is_worth_compacting(limit: u64, kept: u64, last: Clocks) -> bool
     ensures exact { (text : List ℕ) → limit < 2 ^ 64 - 1 → kept ≡ min (length text) (2 ^ 64 - 1)
         → result ≡ (nat_lt limit (length text)
         && nat_le (2 * length (compacted_text last.member_clock last.event_clock last.query_clock))
         (length text)) }
+    ensures worth { (text : List ℕ) → kept ≡ counted text → result ≡ is_worth_replacing limit
+        (compacted_text last.member_clock last.event_clock last.query_clock) text }
     ensures never { limit ≡ 2 ^ 64 - 1 → result ≡ false }
 {
     limit < kept && compacted_length(last) <= kept / 2
+}
+
+/// Whether a text of this length is worth being replaced at a limit by one of that length. A length stays at 2^64 - 1.
+pub(crate) fn is_worth_replacing(limit: u64, kept: u64, new_length: u64) -> bool
+    ensures exact { (new text : List ℕ) → new_length ≡ counted new → kept ≡ counted text
+        → result ≡ is_worth_replacing limit new text }
+    ensures never { limit ≡ 2 ^ 64 - 1 → result ≡ false }
+{
+    limit < kept && new_length <= kept / 2
 }

@@ -37,9 +37,10 @@ pub use kept::{KeptEvent, KeptQuery, LeastTimes, Wanted};
 pub use kept_lines::{read_events, read_least_times, read_queries};
 pub use kind::ClockKind;
 pub use laws::{
-    event_line_laws, kept_note_laws, least_time_laws, plan_laws, query_line_laws, snapshot_laws,
-    text_laws,
+    event_line_laws, kept_note_laws, least_time_laws, plan_laws, query_line_laws, read_laws,
+    said_laws, snapshot_laws, text_laws,
 };
+pub use lengths::{event_line_length, least_line_length, query_line_length};
 pub use memory::MemSink;
 pub use sink::{ReplaceFault, ReplaceSink, Sink, SinkFault};
 pub use snapshot::{NoteFault, SealFault, Snapshot};

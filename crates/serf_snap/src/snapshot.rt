@@ -1,18 +1,18 @@
 //! The clock lines of an agent, on a sink (`snapshot.go`).
 
-ghost use Rattle.std.specs.Prelude.{◌≡◌, ◌≢◌, ◌↔◌, ◌⊎◌, ◌<◌, ◌≤◌, ◌-◌, ◌^◌, ◌++◌, ◌+◌, true, if◌then◌else◌, false, not, is_ok, length, IsTrue, IfOk, IfErr, IsOk, OnOk, OnErr, IfSome, IsErrOf};
+ghost use Rattle.std.specs.Prelude.{◌≡◌, ◌≢◌, ◌↔◌, ◌⊎◌, ◌<◌, ◌≤◌, ◌-◌, ◌^◌, ◌++◌, ◌+◌, true, if◌then◌else◌, false, not, is_ok, length, List, ℕ, IsTrue, IfOk, IfErr, IsOk, OnOk, OnErr, IfSome, IsErrOf};
 ghost use Rattle.std.specs.Option.{option_map};
 ghost use Rattle.serf_lamport.specs.Clock.{greatest_clock};
 ghost use Rattle.serf_snap.specs.Clocks.{clock_line, is_whole, seal_line, sealed};
-ghost use Rattle.serf_snap.specs.Compaction.{is_worth_compacting};
+ghost use Rattle.serf_snap.specs.Compaction.{counted, is_worth_compacting, is_worth_replacing};
 ghost use Rattle.serf_snap.specs.Device.{Observable, Fails, FailsReplace, HasFailed, HasText, IsClean, append_failing, appended, flush_failing, flushed, durable_of, replace_called, replace_decremented, replace_failing, replaced, unreplaced};
-ghost use Rattle.serf_snap.specs.KeptNotes.{MayReplaceBy, bytes_written, text_replaced};
+ghost use Rattle.serf_snap.specs.KeptNotes.{MayReplaceBy, bytes_written, kept_compaction_of, text_replaced};
 ghost use Rattle.serf_snap.specs.Notes.{AreTimes, Failed, HasTriedNote, Kept, MayReplace, MayWrite, compacted, compaction_of, last_line, note_fails, note_decremented, noted, opened, opened_device, with_new_plan, written};
 
 use crate::clock_lines::{LONGEST_LINE, line_of, text_of};
 use crate::clocks::{Clocks, ends_whole, read_clocks};
 use crate::kind::ClockKind;
-use crate::lengths::{is_worth_compacting, sealed_length};
+use crate::lengths::{is_worth_compacting, is_worth_replacing, kept_clocks_length, sealed_length};
 use crate::memory::MemSink;
 use crate::sink::{ReplaceFault, ReplaceSink, Sink, SinkFault};
 use serf_lamport::Time;
@@ -329,10 +329,26 @@ impl<S: Sink> Snapshot<S> {
         ensures exact { self.now.snapshot.stopped ≡ false → limit < 2 ^ 64 - 1
             → IfSome self.now.snapshot.durable (λ text. result
             ≡ is_worth_compacting limit self.now.snapshot text) }
+        ensures worth { self.now.snapshot.stopped ≡ false
+            → IfSome self.now.snapshot.durable (λ text. result
+            ≡ is_worth_replacing limit (compaction_of self.now.snapshot) text) }
         ensures stopped { self.now.snapshot.stopped ≡ true → result ≡ false }
         ensures never { limit ≡ 2 ^ 64 - 1 → result ≡ false }
     {
         !self.stopped && is_worth_compacting(limit, self.kept, self.last)
+    }
+
+    /// As `should_compact`, for a compaction that keeps lines of this length together beside the last clock lines
+    /// (`compact_with`). A length stays at 2^64 - 1. Takes no memory.
+    pub fn should_compact_with(&self, limit: u64, lines_length: u64) -> bool
+        ensures exact { (lines : List ℕ) → self.now.snapshot.stopped ≡ false
+            → lines_length ≡ counted lines → IfSome self.now.snapshot.durable (λ text. result
+            ≡ is_worth_replacing limit (kept_compaction_of lines self.now.snapshot) text) }
+        ensures stopped { self.now.snapshot.stopped ≡ true → result ≡ false }
+        ensures never { limit ≡ 2 ^ 64 - 1 → result ≡ false }
+    {
+        let new_length = lines_length.saturating_add(kept_clocks_length(self.last));
+        !self.stopped && is_worth_replacing(limit, self.kept, new_length)
     }
 
     /// The sink, for reading. Takes no memory.

@@ -26,3 +26,4 @@ pub mod FastSlots
 pub mod FastState
 pub mod CompactSteps
 pub mod Names
+pub mod SpelledBytes

@@ -22,7 +22,7 @@ sole_has P kind each [] x e = each (nil 0) x e
 sole_has P kind each (v ∷ []) x e = each v x e
 sole_has P kind each (v ∷ w ∷ vs) x e = absurd (cc e)
 
-both_has : {A B C : Type 0} (P : C → Type 0) (make : A → B → C) (o : Option A) (p : Option B) (x : C) → ((a : A) (b : B) → o ≡ Some a → p ≡ Some b → P (make a b)) → both make o p ≡ Some x → P x
+pub both_has : {A B C : Type 0} (P : C → Type 0) (make : A → B → C) (o : Option A) (p : Option B) (x : C) → ((a : A) (b : B) → o ≡ Some a → p ≡ Some b → P (make a b)) → both make o p ≡ Some x → P x
 both_has P make None p x each e = absurd (cc e)
 both_has P make (Some a) None x each e = absurd (cc e)
 both_has P make (Some a) (Some b) x each e = subst P (same_Some (make a b) x e) (each a b refl refl)

@@ -7,6 +7,7 @@ use Rattle.serf_wire.specs.declared.fault.WireFault.{WireFault}
 use Rattle.serf_wire.specs.declared.fault.WireFault.TheVariants as faults
 use Rattle.serf_wire.specs.declared.layout.Layout.{Layout}
 use Rattle.serf_wire.specs.Faults.{layout_faults}
+use Rattle.serf_wire.specs.Bytes.{AreBytes, EventsHaveBytes}
 use Rattle.serf_wire.specs.Message.{Message}
 use Rattle.serf_wire.specs.Spells.{Spells, IsFirstFault}
 use Rattle.serf_wire.specs.Decoded.{decoded}
@@ -33,6 +34,10 @@ CanonicalSpells = (m : Message) → InRange m → has_long m ≡ false → Spell
 -- what is decoded is in range
 abbrev pub DecodesInRange : Type 0
 DecodesInRange = (packet : List ℕ) (m : Message) → decoded packet ≡ Ok m → InRange m
+
+-- and where the packet is of bytes, so are the texts of its events
+abbrev pub DecodesBytes : Type 0
+DecodesBytes = (packet : List ℕ) (m : Message) → AreBytes packet → decoded packet ≡ Ok m → EventsHaveBytes m
 
 -- a filter's reading lets a node pass just where the filter does
 abbrev pub PassesExactly : Type 0

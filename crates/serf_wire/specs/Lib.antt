@@ -21,3 +21,4 @@ pub mod Passes
 pub mod Ranges
 pub mod Laws
 pub mod Below
+pub mod Bytes

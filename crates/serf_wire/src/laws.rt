@@ -2,7 +2,7 @@
 
 ghost use Rattle.serf_wire.specs.Below.{Below};
 ghost use Rattle.serf_wire.specs.Intent.{ReadsIntents, CanonicalIntents};
-ghost use Rattle.serf_wire.specs.Laws.{DecodesInRange, DecodesSpelled, DecodesFaulty, OneMessage, CanonicalSpells, PassesExactly, FaultsInOrder};
+ghost use Rattle.serf_wire.specs.Laws.{DecodesBytes, DecodesInRange, DecodesSpelled, DecodesFaulty, OneMessage, CanonicalSpells, PassesExactly, FaultsInOrder};
 
 use serf_pack::{canonical_heads, exact_reading};
 
@@ -28,6 +28,14 @@ pub fn exact_decoding()
 /// Each number of a message that was decoded has its type's size, and each of its times is a time.
 pub fn decoded_ranges()
     ensures { DecodesInRange }
+{
+    laws_below();
+}
+
+/// The texts of each event that was decoded are bytes, also where it stands in a state. It is said of byte lists, whose
+/// numbers can be any in a definition.
+pub fn decoded_texts()
+    ensures { DecodesBytes }
 {
     laws_below();
 }

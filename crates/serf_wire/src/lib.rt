@@ -37,8 +37,8 @@ pub use filter::{node_filter, passes};
 pub use intent::{Intent, Join, Leave, read_intent};
 pub use intent_put::{encode_intent, intent_len};
 pub use laws::{
-    canonical_intents, canonical_packets, decoded_ranges, exact_decoding, exact_filters,
-    exact_intents, ordered_faults,
+    canonical_intents, canonical_packets, decoded_ranges, decoded_texts, exact_decoding,
+    exact_filters, exact_intents, ordered_faults,
 };
 pub use length::{query_len, response_len, user_event_len};
 pub use lent_slots::{LentEventSlots, LentSlot, LentSlots};

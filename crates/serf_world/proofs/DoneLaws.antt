@@ -1,5 +1,6 @@
 -- What a world has done is a run: its lines show the run's turns, and all promises are kept in it.
-use Rattle.serf_world.proofs.Names.{zero, suc, ◌≡◌, ℕ, Some, List, [], ◌∷◌, ◌++◌, refl, sym, ap, subst, ◌∙◌, map, All, slice_get, option_map, append-nil, map-append, All-nil, All-push, fold_push, Config, Action, Line, OpenQuery, ConcreteState, view_of, HoldsCounted, HoldsSent, Cluster, IdealNode, Run, after, run_of, start, step, trace_of, AreRepresentable, AreConfigs, HasSizes, Turn, turns_of}
+use Rattle.serf_world.proofs.Names.{zero, suc, inr, ◌≡◌, ℕ, Some, List, [], ◌∷◌, ◌++◌, refl, sym, ap, subst, ◌∙◌, map, All, slice_get, option_map, append-nil, map-append, All-nil, All-push, fold_push, Config, Action, Line, OpenQuery, ConcreteState, view_of, HoldsCounted, HoldsSent, Cluster, IdealNode, Run, after, run_of, start, step, trace_of, AreRepresentable, AreConfigs, HasSizes, Turn, turns_of}
+use Rattle.serf_model.specs.Tails.{BringsTold}
 use Rattle.serf_world.specs.View.{HasDone, IsViewed, NodeState, StoresOpen, TakesStep, WorldState, node_of}
 use Rattle.serf_world.proofs.ResultLaws.{AreKept, AreShown}
 
@@ -15,32 +16,33 @@ stored-open P c w view held a s at =
     let found = stored-agent c.nodes a s (ap (λ (ns : List NodeState). option_map (λ (n : NodeState). n.concrete) (slice_get ns a)) view.nodes ∙ at) in
     subst (λ (c : ConcreteState). All (P a) c.asked) found.2 (held a found.0 found.1)
 
-done-of-run : AreShown → AreKept → (configs : List Config) (actions : List Action) (lines : List Line) (w : WorldState) → AreConfigs configs → All HasSizes actions
+done-of-run : AreShown → AreKept → (configs : List Config) (actions : List Action) (lines : List Line) (w : WorldState) → AreConfigs configs → All HasSizes actions → All BringsTold actions
     → IsViewed (run_of configs actions).cluster w → AreRepresentable (run_of configs actions).cluster → lines ≡ map (λ t. t.line) (run_of configs actions).turns → HasDone configs actions lines w
-done-of-run shown kept configs actions lines w ok sized view representable are =
+done-of-run shown kept configs actions lines w ok sized told view representable are =
     let r : Run = run_of configs actions in
     let outcome : record { lines = lines; sent = w.sent } ≡ trace_of r = λ k. record { lines = are k; sent = sym view.sent k } in
     record {
       settings = ok;
       sizes = sized;
+      told = told;
       view = view;
       representable = representable;
       lines_are = are;
       turns = ap (turns_of actions) outcome ∙ ap (λ l. turns_of l (trace_of r)) (sym (append-nil actions)) ∙ shown configs actions [] ok;
-      promises = kept configs actions ok sized;
-      open_queries = stored-open (λ a. HoldsCounted a r.turns) r.cluster w view (kept configs actions ok sized).open_queries;
-      open_queries_sent = stored-open (λ a. HoldsSent r.turns) r.cluster w view (kept configs actions ok sized).open_queries_sent;
+      promises = kept configs actions ok (inr told) sized;
+      open_queries = stored-open (λ a. HoldsCounted a r.turns) r.cluster w view (kept configs actions ok (inr told) sized).open_queries;
+      open_queries_sent = stored-open (λ a. HoldsSent r.turns) r.cluster w view (kept configs actions ok (inr told) sized).open_queries_sent;
     }
 
 pub done-nothing : AreShown → AreKept → (configs : List Config) (w : WorldState) → AreConfigs configs → IsViewed (start configs).cluster w → AreRepresentable (start configs).cluster → HasDone configs [] [] w
-done-nothing shown kept configs w ok view representable = done-of-run shown kept configs [] [] w ok (All-nil HasSizes) view representable refl
+done-nothing shown kept configs w ok view representable = done-of-run shown kept configs [] [] w ok (All-nil HasSizes) (All-nil BringsTold) view representable refl
 
 pub done-next : AreShown → AreKept → (configs : List Config) (actions : List Action) (lines : List Line) (old new : WorldState) (action : Action) (line : Line)
-    → HasDone configs actions lines old → HasSizes action → TakesStep (step (run_of configs actions).cluster action) new line → HasDone configs (actions ++ action ∷ []) (lines ++ line ∷ []) new
-done-next shown kept configs actions lines old new action line h has took =
+    → HasDone configs actions lines old → HasSizes action → BringsTold action → TakesStep (step (run_of configs actions).cluster action) new line → HasDone configs (actions ++ action ∷ []) (lines ++ line ∷ []) new
+done-next shown kept configs actions lines old new action line h has tells took =
     let r : Run = run_of configs actions in
     let next : after r action ≡ run_of configs (actions ++ action ∷ []) = sym (fold_push after (start configs) actions action) in
-    done-of-run shown kept configs (actions ++ action ∷ []) (lines ++ line ∷ []) new h.settings (All-push HasSizes actions action h.sizes has)
+    done-of-run shown kept configs (actions ++ action ∷ []) (lines ++ line ∷ []) new h.settings (All-push HasSizes actions action h.sizes has) (All-push BringsTold actions action h.told tells)
     (subst (λ (r : Run). IsViewed r.cluster new) next took.view)
     (subst (λ (r : Run). AreRepresentable r.cluster) next took.representable)
     (ap (λ l. l ++ line ∷ []) h.lines_are ∙ ap (λ x. map (λ (t : Turn). t.line) r.turns ++ x ∷ []) took.line_is ∙ sym (map-append (λ (t : Turn). t.line) r.turns ((step r.cluster action).turn ∷ [])) ∙ ap (λ (r : Run). map (λ t. t.line) r.turns) next)

@@ -1,10 +1,15 @@
 -- Over a sink with a plan a merge has one end.
-use Rattle.serf_world.proofs.Names.{◌≡◌, ◌≢◌, ℕ, ◌<◌, ◌-◌, ◌^◌, cond, Bool, true, false, List, [], ◌∷◌, ◌++◌, Option, Some, None, Result, Ok, Err, refl, sym, ap, subst, ◌∙◌, inl, inr, AllByRecursion, WireFault, EventBody, decoded, Message, PushPull, user_event, query, query_response, push_pull, foreign, TimedEntry, Device, Kept, EventOut, MergeFault, Outcome, Reason, ReceiveFault, SinkFault, Step, planned, ended, will, device_after, admission, received_as, IdealAgent, Receives, EndsAt, Merges, receive_one, after_event, delivered, handed_by, joined, events_of, merge_refusal, AgentState, ConcreteState, view_of, IdealNode, Merged, merges_as, merges_events, merges_on, merges_packet, MergesRepresentable, IsRepresentable, append-nil, map, event_line, Handed}
+use Rattle.serf_world.proofs.Names.{All, Call, ◌≡◌, ◌≢◌, ℕ, ◌<◌, ◌-◌, ◌^◌, cond, Bool, true, false, List, [], ◌∷◌, ◌++◌, Option, Some, None, Result, Ok, Err, refl, sym, ap, subst, ◌∙◌, inl, inr, AllByRecursion, WireFault, EventBody, decoded, Message, PushPull, user_event, query, query_response, push_pull, foreign, TimedEntry, Device, Kept, EventOut, MergeFault, Outcome, Reason, ReceiveFault, SinkFault, Step, planned, ended, will, device_after, admission, received_as, IdealAgent, Receives, EndsAt, Merges, receive_one, after_event, delivered, handed_by, joined, events_of, merge_refusal, AgentState, ConcreteState, view_of, IdealNode, Merged, merges_as, merges_events, merges_on, merges_packet, MergesRepresentable, IsRepresentable, append-nil, map, event_line, Handed}
+use Rattle.std.proofs.lemmas.List.Elements.{All-head, All-tail}
 use Rattle.serf_agent.specs.declared.outcome.MergeFault.TheVariants as merges
 use Rattle.serf_model.specs.declared.line.Line.{Line}
 use Rattle.serf_model.specs.declared.line.Answer.{Answer}
 use Rattle.serf_model.specs.declared.line.Answer.TheVariants as answers
 use Rattle.serf_model.specs.declared.line.Refusal.TheVariants.{SinkFault as FailedSink}
+use Rattle.serf_agent.specs.KeptTexts.{IsTold}
+use Rattle.serf_agent.specs.States.{EndsHearing, ReceivesAfter, hear, heard_by, told_least}
+use Rattle.serf_model.specs.Cluster.{merge_gives, merge_refusal_of, merges_heard}
+use Rattle.serf_model.specs.Trace.{events_brought, events_in_packet}
 use Rattle.serf_world.specs.Turns.{merge_answer}
 use Rattle.serf_world.specs.Turns.{Shows, TakesTurn}
 use Rattle.serf_world.proofs.TurnLaws.{may-will, shows, steps-planned}
@@ -40,23 +45,23 @@ merging-err o rest new is state = by o.answer is
     by (Ok x) e = absurd (cc e)
     by (Err f) e = record { events = refl; state = state; failed = refl }
 
-receives-planned : MergesRepresentable → (es : List (TimedEntry EventBody)) (i : IdealAgent) (old : Device) (deliveries : List EventOut) (new : AgentState) (fault : Option MergeFault) → IsRepresentable i → i.snapshot.stopped ≡ false → AllByRecursion (λ e. e.time < 2 ^ 64 - 1) es → fault ≢ Some merges.OutOfMemory
+receives-planned : MergesRepresentable → (es : List (TimedEntry EventBody)) (i : IdealAgent) (old : Device) (deliveries : List EventOut) (new : AgentState) (fault : Option MergeFault) → IsRepresentable i → i.snapshot.stopped ≡ false → AllByRecursion (λ e. e.time < 2 ^ 64 - 1) es → All (λ e. IsTold e.key) es → fault ≢ Some merges.OutOfMemory
     → Receives i es old deliveries new fault → Merging (merges_events es i) deliveries new.concrete fault
-receives-planned laws [] i old deliveries new fault representable runs times memory h = record { events = h.0; state = h.1; failed = h.4 }
-receives-planned laws (e ∷ es) i old deliveries new fault representable runs times memory (inl h) =
+receives-planned laws [] i old deliveries new fault representable runs times told memory h = record { events = h.0; state = h.1; failed = h.4 }
+receives-planned laws (e ∷ es) i old deliveries new fault representable runs times told memory (inl h) =
     let kept : Kept ≡ will i (receive_one i e) = may-will i (receive_one i e) Kept representable.consistent.observable h.0 in
     let same : ended i (receive_one i e) Kept ≡ planned i (receive_one i e) = ap (ended i (receive_one i e)) kept in
     let answer = kept-answer i e.time e.key (admission i e.time e.key) in
     let planned_is : (planned i (receive_one i e)).answer ≡ Ok answer.0 = ap (λ (o : Step (Result Outcome ReceiveFault)). o.answer) (sym same) ∙ answer.1 in
-    let first : IsRepresentable (planned i (receive_one i e)).agent = laws.received i e representable runs times.0 in
+    let first : IsRepresentable (planned i (receive_one i e)).agent = laws.received i e representable runs times.0 (λ keeping. All-head (λ (x : TimedEntry EventBody). IsTold x.key) e es told) in
     let next : IsRepresentable (after_event i e) = subst (λ (o : Step (Result Outcome ReceiveFault)). IsRepresentable o.agent) (sym same) first in
     let going = subst (λ (o : Step (Result Outcome ReceiveFault)). o.agent.snapshot.stopped ≡ false) (sym same) (laws.goes_on i e answer.0 runs planned_is) in
-    let rest = receives-planned laws es (after_event i e) (device_after i (receive_one i e) old) h.1.0 new fault next going times.1 memory h.1.2 in
+    let rest = receives-planned laws es (after_event i e) (device_after i (receive_one i e) old) h.1.0 new fault next going times.1 (All-tail (λ (x : TimedEntry EventBody). IsTold x.key) e es told) memory h.1.2 in
     let all : Merging (merges_on (ended i (receive_one i e) Kept) (merges_events es)) (handed_by (ended i (receive_one i e) Kept).answer ++ h.1.0) new.concrete fault =
     merging-ok (ended i (receive_one i e) Kept) (merges_events es) answer.0 h.1.0 new.concrete fault answer.1 rest in
     subst (λ (l : List EventOut). Merging (merges_events (e ∷ es) i) l new.concrete fault) (sym h.1.1)
     (subst (λ (o : Step (Result Outcome ReceiveFault)). Merging (merges_on o (merges_events es)) (delivered i e ++ h.1.0) new.concrete fault) same all)
-receives-planned laws (e ∷ es) i old deliveries new fault representable runs times memory (inr h) = by h.1.0 h.1.1 h.1.2
+receives-planned laws (e ∷ es) i old deliveries new fault representable runs times told memory (inr h) = by h.1.0 h.1.1 h.1.2
   where
     by : (f : MergeFault) → fault ≡ Some f → EndsAt i e old new f → Merging (merges_events (e ∷ es) i) deliveries new.concrete fault
     by merges.OutOfMemory is ends = absurd (memory is)
@@ -68,13 +73,6 @@ receives-planned laws (e ∷ es) i old deliveries new fault representable runs t
     by merges.Stopped is ends = absurd ends
     by (merges.Wire f) is ends = absurd ends
     by merges.NotPushPull is ends = absurd ends
-
--- a whole merge
-merges-planned : MergesRepresentable → (i : IdealAgent) (packet : List ℕ) (m : PushPull) (join : Bool) (old : Device) (deliveries : List EventOut) (new : AgentState) (fault : Option MergeFault) → IsRepresentable i → decoded packet ≡ Ok (push_pull m) → merge_refusal i.snapshot (Ok (push_pull m)) ≡ None → fault ≢ Some merges.OutOfMemory
-    → Receives (joined m join i) (events_of m.slots) old deliveries new fault → Merging (merges_events (events_of m.slots) (joined m join i)) deliveries new.concrete fault
-merges-planned laws i packet m join old deliveries new fault representable is refuses memory h =
-    let runs = none-if i.snapshot.stopped merges.Stopped None refuses in
-    receives-planned laws (events_of m.slots) (joined m join i) old deliveries new fault (laws.joined i packet m join representable is) runs.0 (laws.times packet m is) memory h
 
 not-state : (b : Bool) → cond b (Some merges.Stopped) (Some merges.NotPushPull) ≡ None → ⊥
 not-state true e = cc
@@ -88,43 +86,104 @@ shows-merge : (a : ℕ) (sent : List (List ℕ)) (handed : List (Option Handed))
     → Shows a sent sent handed handed (record { answer = answer; packets = []; events = events; handed = None }) line
 shows-merge a sent handed answer events line is = shows a sent sent handed handed answer [] events line (sym (append-nil sent)) refl is
 
+answers-as : (b : Bool) → merge_answer (cond b (Some merges.SinkFault) None) ≡ cond b (answers.Refused FailedSink) answers.Merged
+answers-as true = refl
+answers-as false = refl
+
+-- a state was heard of, and its events were received
+shows-received : (m : IdealNode) (o : Merged) (fault : Option MergeFault) (new : ConcreteState) (out : List EventOut) (a : ℕ) (sent : List (List ℕ)) (line : Line) → Merging o out new fault → line ≡ line_of_merge a (merge_answer fault) out
+    → TakesTurn a sent sent (merge_gives m o) (record { concrete = new; handed = m.handed }) line
+shows-received m o fault new out a sent line done gives =
+    let answer : merge_answer fault ≡ cond o.failed (answers.Refused FailedSink) answers.Merged = ap merge_answer done.failed ∙ answers-as o.failed in
+    let said : Answer = cond o.failed (answers.Refused FailedSink) answers.Merged in
+    record { state = done.state; shows = shows-merge a sent m.handed said o.events line (gives ∙ ap (λ x. line_of_merge a x out) answer ∙ ap (line_of_merge a said) done.events) }
+
+heard-ok : (m : IdealNode) (es : List (TimedEntry EventBody)) (o : Step (Result (Unit {0}) MergeFault)) (done : Unit {0}) (fault : Option MergeFault) (new : ConcreteState) (out : List EventOut) (a : ℕ) (sent : List (List ℕ)) (line : Line) → o.answer ≡ Ok done → Merging (merges_events es o.agent) out new fault
+    → line ≡ line_of_merge a (merge_answer fault) out → TakesTurn a sent sent (merges_heard m es o) (record { concrete = new; handed = m.handed }) line
+heard-ok m es o done fault new out a sent line says did gives = by o.answer says
+  where
+    by : (r : Result (Unit {0}) MergeFault) → r ≡ Ok done → TakesTurn a sent sent (merges_heard m es (record { agent = o.agent; answer = r })) (record { concrete = new; handed = m.handed }) line
+    by (Ok x) is = shows-received m (merges_events es o.agent) fault new out a sent line did gives
+    by (Err f) is = absurd (cc is)
+
+-- or its line failed, and nothing was handed out
+heard-err : (m : IdealNode) (es : List (TimedEntry EventBody)) (o : Step (Result (Unit {0}) MergeFault)) (fault : Option MergeFault) (new : ConcreteState) (out : List EventOut) (a : ℕ) (sent : List (List ℕ)) (line : Line) → Err merges.SinkFault ≡ o.answer → new ≡ view_of o.agent → fault ≡ Some merges.SinkFault → out ≡ []
+    → line ≡ line_of_merge a (merge_answer fault) out → TakesTurn a sent sent (merges_heard m es o) (record { concrete = new; handed = m.handed }) line
+heard-err m es o fault new out a sent line says state is none gives = by o.answer says
+  where
+    by : (r : Result (Unit {0}) MergeFault) → Err merges.SinkFault ≡ r → TakesTurn a sent sent (merges_heard m es (record { agent = o.agent; answer = r })) (record { concrete = new; handed = m.handed }) line
+    by (Ok x) same = absurd (cc same)
+    by (Err f) same =
+        let one : f ≡ merges.SinkFault = cc (sym same) in
+        record {
+          state = state;
+          shows = shows-merge a sent m.handed (answers.Refused (merge_refusal_of f)) [] line
+              (gives ∙ ap (λ x. line_of_merge a (merge_answer x) out) is ∙ ap (line_of_merge a (answers.Refused FailedSink)) none ∙ ap (λ x. line_of_merge a (answers.Refused (merge_refusal_of x)) []) (sym one));
+        }
+
+-- where its line is durable, if it has one, a state was heard of
+heard-kept : (i : IdealAgent) (p : PushPull) (join : Bool) → (ended i (hear i p join) Kept).answer ≡ Ok tt
+heard-kept i p join = by (told_least i.config p join)
+  where
+    by : (line : Option (List ℕ)) → (ended i (heard_by line i p join) Kept).answer ≡ Ok tt
+    by None = refl
+    by (Some line) = refl
+
+-- a whole merge
+heard-planned : MergesRepresentable → (m : IdealNode) (packet : List ℕ) (p : PushPull) (join : Bool) (fault : Option MergeFault) (old : Device) (new : AgentState) (out : List EventOut) (a : ℕ) (sent : List (List ℕ)) (line : Line) → IsRepresentable m.agent → decoded packet ≡ Ok (push_pull p)
+    → m.agent.snapshot.stopped ≡ false → All (λ e. IsTold e.key) (events_of p.slots) → fault ≢ Some merges.OutOfMemory → ReceivesAfter m.agent (hear m.agent p join) (events_of p.slots) old out new fault → line ≡ line_of_merge a (merge_answer fault) out
+    → TakesTurn a sent sent (merges_heard m (events_of p.slots) (planned m.agent (hear m.agent p join))) (record { concrete = new.concrete; handed = m.handed }) line
+heard-planned laws m packet p join fault old new out a sent line representable reads runs told memory (inl h) gives =
+    let i : IdealAgent = m.agent in
+    let call : Call (Result (Unit {0}) MergeFault) = hear m.agent p join in
+    let kept : Kept ≡ will i call = may-will i call Kept representable.consistent.observable h.0 in
+    let same : ended i call Kept ≡ planned i call = ap (ended i call) kept in
+    let answer : (planned i call).answer ≡ Ok tt = ap (λ (o : Step (Result (Unit {0}) MergeFault)). o.answer) (sym same) ∙ heard-kept i p join in
+    let received = subst (λ (o : Step (Result (Unit {0}) MergeFault)). Receives o.agent (events_of p.slots) (device_after i call old) out new fault) same h.1 in
+    heard-ok m (events_of p.slots) (planned i call) tt fault new.concrete out a sent line answer
+    (receives-planned laws (events_of p.slots) (planned i call).agent (device_after i call old) out new fault (laws.hears i packet p join representable runs reads) (laws.hears_on i p join tt runs answer) (laws.times packet p reads) told memory received) gives
+heard-planned laws m packet p join fault old new out a sent line representable reads runs told memory (inr h) gives = by h.1.0 h.1.1 h.1.2
+  where
+    by : (f : MergeFault) → fault ≡ Some f → EndsHearing m.agent (hear m.agent p join) old new f
+        → TakesTurn a sent sent (merges_heard m (events_of p.slots) (planned m.agent (hear m.agent p join))) (record { concrete = new.concrete; handed = m.handed }) line
+    by merges.OutOfMemory is ends = absurd (memory is)
+    by merges.SinkFault is ends =
+        let did = steps-planned m.agent (hear m.agent p join) (Err merges.SinkFault) old new representable.consistent.observable ends in
+        heard-err m (events_of p.slots) (planned m.agent (hear m.agent p join)) fault new.concrete out a sent line did.answers did.state is h.0 gives
+    by merges.Stopped is ends = absurd ends
+    by (merges.Wire f) is ends = absurd ends
+    by merges.NotPushPull is ends = absurd ends
+
 -- what a merge does, however its packet reads
 does-merge-read : MergesRepresentable → (m : IdealNode) (join : Bool) (packet : List ℕ) (fault : Option MergeFault) (old : Device) (new : AgentState) (out : List EventOut) (a : ℕ) (sent : List (List ℕ)) (line : Line) (f : Option MergeFault) (r : Result Message WireFault) → IsRepresentable m.agent → fault ≢ Some merges.OutOfMemory
-    → decoded packet ≡ r → merge_refusal m.agent.snapshot r ≡ f
+    → All (λ e. IsTold e.key) (events_brought r) → decoded packet ≡ r → merge_refusal m.agent.snapshot r ≡ f
     → ((g : MergeFault) → f ≡ Some g → (fault ≡ Some g) × (new.concrete ≡ view_of m.agent) × (out ≡ []))
     → ((p : PushPull) → f ≡ None → r ≡ Ok (push_pull p) → Merges m.agent p join [] out old new fault)
     → line ≡ line_of_merge a (merge_answer fault) out → TakesTurn a sent sent (merges_as f m join r) (record { concrete = new.concrete; handed = m.handed }) line
-does-merge-read laws m join packet fault old new out a sent line (Some g) r representable memory is refuses refused_as merged gives =
+does-merge-read laws m join packet fault old new out a sent line (Some g) r representable memory told is refuses refused_as merged gives =
     let h = refused_as g refl in
     record { state = h.1; shows = shows-merge a sent m.handed (merge_answer (Some g)) [] line (gives ∙ ap (λ x. line_of_merge a (merge_answer x) out) h.0 ∙ ap (line_of_merge a (merge_answer (Some g))) h.2) }
-does-merge-read laws m join packet fault old new out a sent line None (Err e) representable memory is refuses refused_as merged gives = absurd (never m.agent.snapshot.stopped refuses)
+does-merge-read laws m join packet fault old new out a sent line None (Err e) representable memory told is refuses refused_as merged gives = absurd (never m.agent.snapshot.stopped refuses)
   where
     never : (b : Bool) → cond b (Some merges.Stopped) (Some (merges.Wire e)) ≡ None → ⊥
     never true e = cc
     never false e = cc
-does-merge-read laws m join packet fault old new out a sent line None (Ok (user_event e)) representable memory is refuses refused_as merged gives = absurd (not-state m.agent.snapshot.stopped refuses)
-does-merge-read laws m join packet fault old new out a sent line None (Ok (query e)) representable memory is refuses refused_as merged gives = absurd (not-state m.agent.snapshot.stopped refuses)
-does-merge-read laws m join packet fault old new out a sent line None (Ok (query_response e)) representable memory is refuses refused_as merged gives = absurd (not-state m.agent.snapshot.stopped refuses)
-does-merge-read laws m join packet fault old new out a sent line None (Ok (foreign e)) representable memory is refuses refused_as merged gives = absurd (not-state m.agent.snapshot.stopped refuses)
-does-merge-read laws m join packet fault old new out a sent line None (Ok (push_pull p)) representable memory is refuses refused_as merged gives =
+does-merge-read laws m join packet fault old new out a sent line None (Ok (user_event e)) representable memory told is refuses refused_as merged gives = absurd (not-state m.agent.snapshot.stopped refuses)
+does-merge-read laws m join packet fault old new out a sent line None (Ok (query e)) representable memory told is refuses refused_as merged gives = absurd (not-state m.agent.snapshot.stopped refuses)
+does-merge-read laws m join packet fault old new out a sent line None (Ok (query_response e)) representable memory told is refuses refused_as merged gives = absurd (not-state m.agent.snapshot.stopped refuses)
+does-merge-read laws m join packet fault old new out a sent line None (Ok (foreign e)) representable memory told is refuses refused_as merged gives = absurd (not-state m.agent.snapshot.stopped refuses)
+does-merge-read laws m join packet fault old new out a sent line None (Ok (push_pull p)) representable memory told is refuses refused_as merged gives =
     let h = merged p refl refl in
-    let o : Merged = merges_events (events_of p.slots) (joined p join m.agent) in
-    let done = merges-planned laws m.agent packet p join old h.deliveries new fault representable is refuses memory h.receives in
-    let answer : merge_answer fault ≡ cond (merges_events (events_of p.slots) (joined p join m.agent)).failed (answers.Refused FailedSink) answers.Merged =
-    ap merge_answer done.failed ∙ answers-as (merges_events (events_of p.slots) (joined p join m.agent)).failed in
-    let said : Answer = cond o.failed (answers.Refused FailedSink) answers.Merged in
-    record { state = done.state; shows = shows-merge a sent m.handed said o.events line (gives ∙ ap (λ x. line_of_merge a x out) answer ∙ ap (line_of_merge a said) (h.out ∙ done.events)) }
-  where
-    answers-as : (b : Bool) → merge_answer (cond b (Some merges.SinkFault) None) ≡ cond b (answers.Refused FailedSink) answers.Merged
-    answers-as true = refl
-    answers-as false = refl
+    let runs = none-if m.agent.snapshot.stopped merges.Stopped None refuses in
+    heard-planned laws m packet p join fault old new out a sent line representable is runs.0 told memory
+    (subst (λ (l : List EventOut). ReceivesAfter m.agent (hear m.agent p join) (events_of p.slots) old l new fault) (sym h.out) h.receives) gives
 
-pub does-merge : MergesRepresentable → (m : IdealNode) (join : Bool) (packet : List ℕ) (fault : Option MergeFault) (old : Device) (new : AgentState) (out : List EventOut) (a : ℕ) (sent : List (List ℕ)) (line : Line) → IsRepresentable m.agent → fault ≢ Some merges.OutOfMemory
+pub does-merge : MergesRepresentable → (m : IdealNode) (join : Bool) (packet : List ℕ) (fault : Option MergeFault) (old : Device) (new : AgentState) (out : List EventOut) (a : ℕ) (sent : List (List ℕ)) (line : Line) → IsRepresentable m.agent → fault ≢ Some merges.OutOfMemory → All (λ e. IsTold e.key) (events_in_packet packet)
     → ((g : MergeFault) → merge_refusal m.agent.snapshot (decoded packet) ≡ Some g → (fault ≡ Some g) × (new.concrete ≡ view_of m.agent) × (out ≡ []))
     → ((p : PushPull) → merge_refusal m.agent.snapshot (decoded packet) ≡ None → decoded packet ≡ Ok (push_pull p) → Merges m.agent p join [] out old new fault)
     → line ≡ line_of_merge a (merge_answer fault) out → TakesTurn a sent sent (merges_packet m join (decoded packet)) (record { concrete = new.concrete; handed = m.handed }) line
-does-merge laws m join packet fault old new out a sent line representable memory refused_as merged gives =
-    does-merge-read laws m join packet fault old new out a sent line (merge_refusal m.agent.snapshot (decoded packet)) (decoded packet) representable memory refl refl refused_as merged gives
+does-merge laws m join packet fault old new out a sent line representable memory told refused_as merged gives =
+    does-merge-read laws m join packet fault old new out a sent line (merge_refusal m.agent.snapshot (decoded packet)) (decoded packet) representable memory told refl refl refused_as merged gives
 
 -- an agent that refuses no packet runs
 pub runs-merge : (i : IdealAgent) (r : Result Message WireFault) → merge_refusal i.snapshot r ≡ None → i.snapshot.stopped ≡ false

@@ -16,7 +16,8 @@ pub use Rattle.std.specs.Option.{option_map}
 pub use Rattle.std.specs.Prelude.{All, IfOk, not, slice_get, slice_index_or}
 pub use Rattle.std.specs.Vec.Iter.{into_iter_items}
 pub use Rattle.std.specs.declared.alloc.AllocError.{AllocError}
-pub use Rattle.serf_agent.specs.Calls.{Call, Ends, MayEnd, MayNote, Notes, Replaces, Step, ended, planned, will, will_note}
+pub use Rattle.serf_agent.specs.Calls.{Call, Ends, MayEnd, Notes, Replaces, Step, ended, planned, will}
+pub use Rattle.serf_agent.specs.Told.{MayNote, will_note}
 pub use Rattle.serf_agent.specs.Config.{is_sound}
 pub use Rattle.serf_agent.specs.Devices.{device_after}
 pub use Rattle.serf_agent.specs.Events.{admission, fire, received_as}

@@ -1,10 +1,17 @@
 -- Over a sink with a plan a call of an agent has one end.
 use Rattle.serf_world.proofs.Names.{zero, suc, ◌<◌, ◌≤◌, arith, length, set, get_or, ◌≡◌, ℕ, nat_le, cond, Bool, true, false, List, [], ◌∷◌, Option, Some, None, IsSome, MatchBool, map, Result, Ok, Err, refl, sym, ap, subst, ◌∙◌, slice_get, IfOk, AllByRecursion, AllocError, length-map, map-set, All-from_recursion, All-set, recursion_from_All, get_or_from_slice_get, slice_get_within, ClockKind, clock_line, Device, FailurePlan, SnapshotView, Writing, Kept, Failed, IsObservable, MayWrite, MayReplace, will_write, will_replace, durable_left_by, compaction_of, last_line, RespondFault, Handed, respond_fault, Call, Ends, Notes, Replaces, MayNote, MayEnd, planned, ended, will, will_note, IdealAgent, Steps, AgentState, ConcreteState, view_of, Act, Line, NoAgent, IdealNode, Cluster, Applied, Done, apply, called, line_only, on_agent, responds, responds_as, with_handed, AreRepresentable, IsRepresentable, append-nil, EventOut, event_line, only, ◌++◌, ◌≢◌}
 use Rattle.serf_snap.specs.declared.snapshot.NoteFault.{NoteFault}
+use Rattle.serf_snap.specs.KeptNotes.{MayReplaceBy, kept_bytes, kept_compaction_of}
+use Rattle.serf_agent.specs.Told.{will_put}
 use Rattle.serf_model.specs.declared.line.Answer.{Answer}
 use Rattle.serf_model.specs.declared.line.Refusal.{Refusal}
 use Rattle.serf_model.specs.Cluster.{does_nothing, note_gives, note_refusal, numbers_from, refused}
 use Rattle.serf_model.specs.declared.line.Answer.TheVariants as answers
+use Rattle.std.specs.Prelude.{All}
+use Rattle.serf_agent.specs.KeptTexts.{IsTold}
+use Rattle.serf_model.specs.HandOuts.{events_given}
+use Rattle.serf_model.specs.Tails.{BringsToldBy, CanTellAct}
+use Rattle.serf_model.specs.Trace.{given_by}
 use Rattle.serf_world.specs.View.{IsViewed, NodeState, TakesStep, WorldState, node_of}
 use Rattle.serf_world.specs.Turns.{Shows, TakesTurn, slot_gives, slot_after, answer_gives, answer_after}
 
@@ -21,7 +28,12 @@ replace-view m e q b k None w some may = absurd (cc some)
 replace-view m e q b k (Some p) Kept some may = sym (ap (λ f. cond f (Failed (durable_left_by p (compaction_of (view m e q b k (Some p))) k)) Kept) may)
 replace-view m e q b k (Some p) (Failed durable) some may = ap Failed may.1.1 ∙ sym (ap (λ f. cond f (Failed (durable_left_by p (compaction_of (view m e q b k (Some p))) k)) Kept) may.1.0)
 
-note-will : (s : SnapshotView) (kind : ClockKind) (t : ℕ) (w : Writing) → IsObservable s → MayNote kind t s w → w ≡ will_note kind t s
+text-view : (m e q : ℕ) (b : Bool) (k : Option (List ℕ)) (p : Option FailurePlan) (text : List ℕ) (w : Writing) → IsSome p → MayReplaceBy text (view m e q b k p) w → w ≡ will_put text (view m e q b k p) p
+text-view m e q b k None text w some may = absurd (cc some)
+text-view m e q b k (Some p) text Kept some may = sym (ap (λ f. cond f (Failed (durable_left_by p text k)) Kept) may)
+text-view m e q b k (Some p) text (Failed durable) some may = ap Failed may.1.1 ∙ sym (ap (λ f. cond f (Failed (durable_left_by p text k)) Kept) may.1.0)
+
+note-will : (s : SnapshotView) (kind : ClockKind) (t : ℕ) (w : Writing) → IsObservable s → MayNote kind t None s w → w ≡ will_note kind t None s
 note-will s kind t w observable may = by (nat_le t (last_line kind s)) may
   where
     by : (b : Bool) → MatchBool b (w ≡ Kept) (MayWrite s (clock_line kind t) w) → w ≡ cond b Kept (will_write s)
@@ -30,8 +42,10 @@ note-will s kind t w observable may = by (nat_le t (last_line kind s)) may
 
 pub may-will : {R : Type 0} (i : IdealAgent) (call : Call R) (w : Writing) → IsObservable i.snapshot → MayEnd i call w → w ≡ will i call
 may-will i (Ends step) w observable may = may
-may-will i (Notes kind t step fault) w observable may = note-will i.snapshot kind t w observable may
-may-will i (Replaces step fault) w observable may = replace-view i.snapshot.member_clock i.snapshot.event_clock i.snapshot.query_clock i.snapshot.stopped i.snapshot.durable i.snapshot.plan w observable.plan may
+may-will i (Notes kind t None step fault) w observable may = note-will i.snapshot kind t w observable may
+may-will i (Notes kind t (Some line) step fault) w observable may = write-view i.snapshot.member_clock i.snapshot.event_clock i.snapshot.query_clock i.snapshot.stopped i.snapshot.durable i.snapshot.plan (kept_bytes kind t line (last_line kind i.snapshot)) w observable.plan may
+may-will i (Replaces (Some lines) step fault) w observable may = text-view i.snapshot.member_clock i.snapshot.event_clock i.snapshot.query_clock i.snapshot.stopped i.snapshot.durable i.snapshot.plan (kept_compaction_of lines i.snapshot) w observable.plan may
+may-will i (Replaces None step fault) w observable may = replace-view i.snapshot.member_clock i.snapshot.event_clock i.snapshot.query_clock i.snapshot.stopped i.snapshot.durable i.snapshot.plan w observable.plan may
 
 -- what a call answered, and what the agent stores then
 pub record Plans {R : Type 0} (i : IdealAgent) (call : Call R) (result : R) (new : ConcreteState) : Type 0 where
@@ -168,16 +182,20 @@ all-put P xs a x all new = recursion_from_All P (set xs a x) (All-set P xs a x n
 
 -- the law of `representable_agents`: what an agent does leaves it representable
 abbrev pub KeepsRepresentable : Type 0
-KeepsRepresentable = (m : IdealNode) (sent : List (List ℕ)) (act : Act) → IsRepresentable m.agent → IsRepresentable (apply m sent act).node.agent
+KeepsRepresentable = (m : IdealNode) (sent : List (List ℕ)) (act : Act) → CanTellAct m.agent.config act (given_by sent act) → IsRepresentable m.agent → IsRepresentable (apply m sent act).node.agent
+
+-- what an act brings can be told, and what the packet carries that it gives, where these were sent
+abbrev pub IsToldAct : List (List ℕ) → Act → Type 0
+IsToldAct sent act = BringsToldBy act × All (λ e. IsTold e.key) (events_given (given_by sent act))
 
 -- what a world owes after a turn of the agent found
 abbrev Owes : Cluster → ℕ → Act → Option IdealNode → WorldState → Line → Type 0
 Owes c a act r w line = TakesStep (on_agent c a act r) w line
 
-owes-turn : KeepsRepresentable → (c : Cluster) (w : WorldState) (more : List (List ℕ)) (a : ℕ) (act : Act) (old new : NodeState) (line : Line) → IsViewed c w → AreRepresentable c → a < length w.nodes → old ≡ get_or w.nodes a old
+owes-turn : KeepsRepresentable → (c : Cluster) (w : WorldState) (more : List (List ℕ)) (a : ℕ) (act : Act) (old new : NodeState) (line : Line) → IsViewed c w → AreRepresentable c → IsToldAct w.sent act → a < length w.nodes → old ≡ get_or w.nodes a old
     → ((m : IdealNode) → IsRepresentable m.agent → old ≡ node_of m → TakesTurn a w.sent more (apply m w.sent act) new line)
     → Owes c a act (slice_get c.nodes a) (record { nodes = set w.nodes a new; sent = more; poisoned = w.poisoned }) line
-owes-turn keeps c w more a act old new line v representable within at does = by (slice_get c.nodes a) refl
+owes-turn keeps c w more a act old new line v representable told within at does = by (slice_get c.nodes a) refl
   where
     by : (r : Option IdealNode) → slice_get c.nodes a ≡ r → Owes c a act r (record { nodes = set w.nodes a new; sent = more; poisoned = w.poisoned }) line
     by None none = absurd (let past = none-past c.nodes a none in let n = ap length v.nodes in let l = length-map c.nodes node_of in omega arith)
@@ -193,14 +211,14 @@ owes-turn keeps c w more a act old new line v representable within at does = by 
             nodes = map-set node_of c.nodes a (with_handed o.done.handed o.node) ∙ ap (λ l. set l a (node_of (with_handed o.done.handed o.node))) v.nodes ∙ ap (λ s. set w.nodes a s) node;
             sent = sym did.shows.packets;
           };
-          representable = all-put (λ m. IsRepresentable m.agent) c.nodes a (with_handed o.done.handed o.node) representable (keeps m c.sent act well);
+          representable = all-put (λ m. IsRepresentable m.agent) c.nodes a (with_handed o.done.handed o.node) representable (keeps m c.sent act (λ keeping. subst (λ (s : List (List ℕ)). IsToldAct s act) (sym v.sent) told) well);
         }
 
-pub owes-turns : KeepsRepresentable → (c : Cluster) (w : WorldState) (more : List (List ℕ)) (a : ℕ) (act : Act) (old new : NodeState) (result : Result Line AllocError) → IsViewed c w → AreRepresentable c → a < length w.nodes → old ≡ get_or w.nodes a old
+pub owes-turns : KeepsRepresentable → (c : Cluster) (w : WorldState) (more : List (List ℕ)) (a : ℕ) (act : Act) (old new : NodeState) (result : Result Line AllocError) → IsViewed c w → AreRepresentable c → IsToldAct w.sent act → a < length w.nodes → old ≡ get_or w.nodes a old
     → ((m : IdealNode) → IsRepresentable m.agent → old ≡ node_of m → IfOk result (TakesTurn a w.sent more (apply m w.sent act) new))
     → IfOk result (Owes c a act (slice_get c.nodes a) (record { nodes = set w.nodes a new; sent = more; poisoned = w.poisoned }))
-owes-turns keeps c w more a act old new (Ok line) v representable within at does = owes-turn keeps c w more a act old new line v representable within at does
-owes-turns keeps c w more a act old new (Err fault) v representable within at does = tt
+owes-turns keeps c w more a act old new (Ok line) v representable told within at does = owes-turn keeps c w more a act old new line v representable told within at does
+owes-turns keeps c w more a act old new (Err fault) v representable told within at does = tt
 
 pub owes-none : (c : Cluster) (w : WorldState) (a : ℕ) (act : Act) (line : Line) → IsViewed c w → AreRepresentable c → length w.nodes ≤ a → line ≡ line_only (answers.Refused NoAgent) → Owes c a act (slice_get c.nodes a) w line
 owes-none c w a act line v representable past is =

@@ -13,6 +13,7 @@ use Rattle.serf_model.specs.Kept.{KeepsPromises}
 use Rattle.serf_model.specs.Ready.{AreRepresentable}
 use Rattle.serf_model.specs.Runs.{AreConfigs}
 use Rattle.serf_model.specs.Sizes.{HasSizes}
+use Rattle.serf_model.specs.Tails.{BringsTold}
 use Rattle.serf_model.specs.Trace.{turns_of}
 
 -- an agent's concrete state, and the queries that were handed to it in this life; one that was answered is gone
@@ -66,6 +67,7 @@ StoresOpen P w = (a : ℕ) (s : ConcreteState) → agent_at w a ≡ Some s → A
 pub record HasDone (configs : List Config) (actions : List Action) (lines : List Line) (w : WorldState) : Type 0 where
   pub settings : AreConfigs configs
   pub sizes : All HasSizes actions
+  pub told : All BringsTold actions
   pub view : IsViewed (run_of configs actions).cluster w
   pub representable : AreRepresentable (run_of configs actions).cluster
   pub lines_are : lines ≡ map (λ t. t.line) (run_of configs actions).turns

@@ -5,7 +5,7 @@ ghost use Rattle.serf_window.specs.Texts.{event_of};
 ghost use Rattle.serf_agent.specs.Ideal.{IdealAgent};
 ghost use Rattle.serf_snap.specs.Device.{fresh_device};
 ghost use Rattle.serf_snap.specs.Notes.{opened};
-ghost use Rattle.serf_agent.specs.Restart.{IsInText, unopened};
+ghost use Rattle.serf_agent.specs.Restart.{HasPast, unopened};
 ghost use Rattle.serf_agent.specs.Config.{is_sound};
 ghost use Rattle.serf_agent.specs.Sound.{IsSound};
 ghost use Rattle.serf_agent.specs.View.{view_of};
@@ -188,7 +188,7 @@ pub(crate) fn open_on(
     text: &[u8],
 ) -> Result<Agent<MemSink>, AllocError>
     requires { is_sound config ≡ true }
-    ensures opened { (i : IdealAgent) → IsSound i → i.config ≡ config → IsInText i text.now
+    ensures opened { (i : IdealAgent) → IsSound i → i.config ≡ config → HasPast config i text.now
         → IfOk result (λ agent. agent.concrete ≡ view_of (reopened i text.now)) }
     ensures first { IfOk result (λ agent. agent.concrete
         ≡ view_of (reopened (unopened config (opened text.now (fresh_device text.now))) text.now)) }

@@ -13,10 +13,12 @@ mod respond;
 mod roster;
 mod running;
 mod sizes;
+mod told;
 mod turn;
 mod world;
 
 pub use fault::StepFault;
 pub use roster::{Roster, RosterFault};
 pub use running::run;
+pub use told::look_at;
 pub use world::World;

@@ -9,6 +9,7 @@ ghost use Rattle.serf_world.specs.View.{node_of};
 
 use crate::line::{line_with_events, refused};
 use crate::node::Node;
+use crate::told::know_packet;
 use serf_agent::{EventOut, MergeFault};
 use serf_model::{Answer, Line, Refusal, merged_agents, packet_at};
 use serf_wire::{Bytes, PushPull};
@@ -47,6 +48,7 @@ pub(crate) fn merge_at(
     let Some(bytes) = packet_at(sent, packet) else {
         return Ok(refused(alloc, Refusal::NoMessage));
     };
+    know_packet(bytes);
     let mut events: Vec<EventOut> = Vec::new(alloc);
     let merged = node
         .agent

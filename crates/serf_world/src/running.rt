@@ -11,6 +11,7 @@ ghost use Rattle.serf_world.specs.View.{AddsLine, IsViewed};
 use crate::fault::StepFault;
 use crate::roster::Roster;
 use crate::sizes::read_all_numbers;
+use crate::told::look_at_all;
 use crate::world::World;
 use serf_agent::{BytesList, Config};
 use serf_model::{Action, Line, Lines, NewFault, RunFault, Trace, run_promises, turns_shown};
@@ -112,5 +113,6 @@ pub fn run(alloc: Global, configs: Vec<Config>, actions: &[Action]) -> Result<Tr
     run_promises();
     turns_shown();
     read_all_numbers(actions);
+    look_at_all(actions);
     run_exactly(alloc, configs, actions)
 }

@@ -18,6 +18,7 @@ use crate::line::{line_with_packet, refused};
 use crate::node::Node;
 use crate::roster::Roster;
 use crate::sizes::read_numbers;
+use crate::told::{look_at, look_at_given};
 use crate::turn::take_turn;
 use serf_agent::{Agent, BytesList, Config};
 use serf_model::{
@@ -107,6 +108,7 @@ impl World {
         run_promises();
         turns_shown();
         read_numbers(action);
+        look_at(action);
         if self.poisoned {
             return Err(StepFault::Poisoned);
         }
@@ -149,6 +151,7 @@ impl World {
         if number >= self.nodes.len() {
             return Ok(refused(alloc, Refusal::NoAgent));
         }
+        look_at_given(self.sent.as_slice(), act);
         take_turn(alloc, agent, &mut self.nodes[number], &mut self.sent, act)
     }
 

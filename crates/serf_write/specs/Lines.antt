@@ -44,6 +44,7 @@ unfoldable pub with_setting : ℕ → Config → List ℕ → Result Config Faul
 with_setting place config word =
     if bytes_eq word (codes "keep") then Ok (record config { ignore_old = false })
     else if bytes_eq word (codes "ignore") then Ok (record config { ignore_old = true })
+    else if bytes_eq word (codes "keep-events") then Ok (record config { keep_events = true })
     else set_key place config word (position (λ b. b == 61) word)
 
 -- the pieces from this place on are settings; of two of one kind the last one counts

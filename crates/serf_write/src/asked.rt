@@ -16,7 +16,7 @@ use serf_wire::Bytes;
 use std::alloc::Global;
 
 /// What a query's line says beside its texts.
-#[derive(Debug, Drop)]
+#[derive(Drop)]
 pub(crate) struct Asked {
     pub(crate) id: u32,
     pub(crate) params: QueryParams,

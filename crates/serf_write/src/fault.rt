@@ -18,7 +18,7 @@ pub enum Wanted {
     AgentsFirst,
     #[error("here stands the agent's name, which no agent above has")]
     NewName,
-    #[error("here may stand events=N, queries=N, limit=N, querylimit=N, responselimit=N, responders=N, pertime=N, keep or ignore")]
+    #[error("here may stand events=N, queries=N, limit=N, querylimit=N, responselimit=N, responders=N, pertime=N, keep, ignore or keep-events")]
     Setting,
     #[error("a name has 1 to 128 bytes, each limit is at most 9216, and the other numbers of an agent are 1 to 65536")]
     Bounds,
@@ -59,7 +59,7 @@ pub struct Fault {
 }
 
 /// Why a line is not taken.
-#[derive(Clone, Copy, Debug, Drop, PartialEq, Eq)]
+#[derive(Clone, Copy, Drop, PartialEq, Eq)]
 pub(crate) enum LineFault {
     /// It is not sound.
     Bad(Fault),

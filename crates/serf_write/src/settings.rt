@@ -34,6 +34,7 @@ fn plain(name: Bytes) -> Config
         responders: DEFAULT_RESPONDERS,
         per_time: DEFAULT_PER_TIME,
         ignore_old: false,
+        keep_events: false,
     }
 }
 
@@ -83,6 +84,9 @@ fn set_word(config: &mut Config, place: usize, word: &[u8]) -> Result<(), LineFa
         Ok(())
     } else if is_word(word, b"ignore") {
         config.ignore_old = true;
+        Ok(())
+    } else if is_word(word, b"keep-events") {
+        config.keep_events = true;
         Ok(())
     } else {
         set_pair(config, place, word)

@@ -7,7 +7,7 @@ use serf_schedule::{Command, command_in};
 use serf_text::is_word;
 
 /// What a line does.
-#[derive(Clone, Copy, Debug, PartialEq, Eq)]
+#[derive(Clone, Copy, PartialEq, Eq)]
 pub(crate) enum Verb {
     /// What an agent does by such a line of a schedule.
     Act(serf_schedule::Verb),

@@ -75,7 +75,7 @@ static uint32_t called(const char *line, uint64_t now) {
 }
 
 static uint32_t opened(const char *path) {
-    static const struct serf_agent_settings settings = {64, 64, 512, 1024, 1024, 1024, 1024, false};
+    static const struct serf_agent_settings settings = {64, 64, 512, 1024, 1024, 1024, 1024, false, false};
     uint8_t *text;
     size_t len;
     stop_at(serf_agent_store_open(&store, path));

@@ -7,7 +7,7 @@
 #include <stdlib.h>
 #include <string.h>
 
-static const struct serf_agent_settings settings = {8, 8, 512, 1024, 1024, 8, 8, false};
+static const struct serf_agent_settings settings = {8, 8, 512, 1024, 1024, 8, 8, false, false};
 static uint8_t room[65536];
 
 /* What the library has for the file is written: here to nowhere. */

@@ -18,7 +18,7 @@ static void is(const char *what, uint64_t found, uint64_t wanted) {
     }
 }
 
-static const struct serf_agent_settings settings = {8, 8, 512, 1024, 1024, 8, 8, false};
+static const struct serf_agent_settings settings = {8, 8, 512, 1024, 1024, 8, 8, false, false};
 static const struct serf_agent_params asked = {.timeout = 1000, .want_ack = true};
 static uint8_t room[1 << 16];
 

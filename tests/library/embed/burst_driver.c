@@ -44,7 +44,7 @@ static void settle(struct node *node) {
 }
 
 static void open_node(struct node *node, const char *folder, const char *name) {
-    static const struct serf_agent_settings settings = {512, 512, 512, 1024, 1024, 1024, 1024, false};
+    static const struct serf_agent_settings settings = {512, 512, 512, 1024, 1024, 1024, 1024, false, false};
     static char path[4096];
     uint8_t *text;
     size_t len;

@@ -137,7 +137,7 @@ static void written_intents(void) {
     holds("what stood there stays", len == 77 && room[0] == 'x');
 }
 
-static const struct serf_agent_settings settings = {8, 8, 512, 1024, 1024, 8, 8, false};
+static const struct serf_agent_settings settings = {8, 8, 512, 1024, 1024, 8, 8, false, false};
 
 /* The state of an agent that names three members with status times and two that left. */
 static size_t state_of_five(uint8_t *to, size_t size) {

@@ -1,6 +1,7 @@
 /* Each call with its first, second and every further request for memory refused, and all behind that one: it answers so and
  * leaves the agent as it was, and made again does what it does where memory is there. A merge gives what it took before: all
- * its tries together hand out what one with memory does, and leave its lines. A repeat takes none.
+ * its tries together hand out what one with memory does, and leave its lines. A repeat takes none. All of it once more with an
+ * agent that keeps its events, whose opening has some to take back.
  *
  * Linked with malloc and realloc wrapped. Prints `FAILED ..` for each that doesn't hold, and `N passed, M failed`. */
 #include "serf_agent.h"
@@ -44,12 +45,14 @@ static void holds(const char *what, long number, bool is) {
     }
 }
 
-static const struct serf_agent_settings settings = {8, 8, 512, 1024, 1024, 8, 8, false};
+static struct serf_agent_settings settings = {8, 8, 512, 1024, 1024, 8, 8, false, false};
 static uint8_t deploy[256], ask[256], state[2048], more[2048];
 static size_t deploy_len, ask_len, state_len, more_len;
 
 static uint32_t open_one(struct serf_agent *agent) {
-    return serf_agent_open(agent, (const uint8_t *)"a", 1, &settings, (const uint8_t *)"clock: 3\n", 9);
+    static const char text[] = "clock: 3\n", kept[] = "clock: 3\nevent-clock: 01\n#event 1 78 79\nquery-clock: 01\n#query 1 9\n";
+    const char *wanted = settings.keep_events ? kept : text;
+    return serf_agent_open(agent, (const uint8_t *)"a", 1, &settings, (const uint8_t *)wanted, strlen(wanted));
 }
 
 static uint32_t fire(struct serf_agent *agent) {
@@ -126,14 +129,16 @@ struct look {
     uint64_t deadline;
     size_t packet_len, ack_len, open;
     uint32_t handed_code[3];
-    uint8_t unwritten[1024], packet[2048], ack[256];
+    uint8_t unwritten[4096], packet[2048], ack[256];
 };
 
 /* The lines and the events that all calls left so far, one behind the other, and the greatest time of these events. */
 struct told {
-    char lines[4096], events[4096];
+    char lines[8192], events[4096];
     uint64_t greatest;
 };
+
+static struct told told, twins;
 
 /* What the call left for the file is looked at, and said to be written; what it gave is looked at then. */
 static void settle(struct serf_agent *agent, struct look *look) {
@@ -234,7 +239,6 @@ static bool is_told(const struct look *before, const struct look *after, const s
 /* A step on an agent that runs out of memory at each of its requests in turn, and once on its twin. */
 static void try_step(size_t number, struct serf_agent *agent, struct serf_agent *twin) {
     struct look before, after, wanted;
-    static struct told told, twins;
     uint32_t code = SERF_AGENT_OUT_OF_MEMORY;
     long tried = 0, with_events = 0;
     settle(agent, &before);
@@ -260,9 +264,12 @@ static void try_step(size_t number, struct serf_agent *agent, struct serf_agent 
     }
 }
 
-int main(void) {
+/* All steps of an agent, with events kept or not. */
+static void try_steps(bool keep_events) {
     struct serf_agent agent = {0}, twin = {0};
-    make_packets();
+    settings.keep_events = settings.ignore_old = keep_events;
+    memset(&told, 0, sizeof told);
+    memset(&twins, 0, sizeof twins);
     for (size_t i = 0; i < sizeof steps / sizeof *steps; i++) {
         try_step(i, &agent, &twin);
     }
@@ -273,6 +280,12 @@ int main(void) {
     holds("a repeat takes no memory", requests - before, requests == before);
     serf_agent_close(&agent);
     serf_agent_close(&twin);
+}
+
+int main(void) {
+    make_packets();
+    try_steps(false);
+    try_steps(true);
     printf("%d passed, %d failed\n", passed, failed);
     return failed != 0;
 }

@@ -50,8 +50,9 @@ def settings():
         for value in out_of(64):
             refused(f"{field} of {value}", OverflowError, Agent, b"a", path("a"), Settings(**{field: value}))
         refused(f"{field} of 1.0", TypeError, Agent, b"a", path("a"), Settings(**{field: 1.0}))
-    for value in ("no", 1, None):
-        refused(f"ignore_old of {value!r}", TypeError, Agent, b"a", path("a"), Settings(ignore_old=value))
+    for field in ("ignore_old", "keep_events"):
+        for value in ("no", 1, None):
+            refused(f"{field} of {value!r}", TypeError, Agent, b"a", path("a"), Settings(**{field: value}))
     refused("a name that is a text", TypeError, Agent, "a", path("a"))
     check("nothing was made", not os.path.exists(path("a")))
 

@@ -35,7 +35,7 @@ static uint32_t settled(struct node *node, uint32_t code) {
 }
 
 static void open_node(struct node *node, const char *folder, const char *name) {
-    static const struct serf_agent_settings settings = {512, 512, 512, 1024, 1024, 1024, 1024, false};
+    static const struct serf_agent_settings settings = {512, 512, 512, 1024, 1024, 1024, 1024, false, false};
     static char path[4096];
     uint8_t *text;
     size_t len;

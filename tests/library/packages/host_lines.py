@@ -15,7 +15,7 @@ AROUND = {
 #include <stdio.h>
 #include <stdlib.h>
 
-static const struct serf_agent_settings settings = {512, 512, 512, 1024, 1024, 1024, 1024, false};
+static const struct serf_agent_settings settings = {512, 512, 512, 1024, 1024, 1024, 1024, false, false};
 
 static void handle(const struct serf_agent_event *event, const uint8_t *name, const uint8_t *payload) {
     printf("%.*s %.*s\\n", (int)event->name_len, (const char *)name, (int)event->payload_len, (const char *)payload);

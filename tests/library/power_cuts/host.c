@@ -81,8 +81,8 @@ static void end(void) {
     asked = 0;
 }
 
-static enum serf_agent_store_fault open_agent(const char *path) {
-    static const struct serf_agent_settings settings = {512, 512, 512, 1024, 1024, 1024, 1024, false};
+static enum serf_agent_store_fault open_agent(const char *path, bool keeps_events) {
+    const struct serf_agent_settings settings = {512, 512, 512, 1024, 1024, 1024, 1024, keeps_events, keeps_events};
     uint8_t *text;
     size_t len;
     end();
@@ -149,12 +149,14 @@ static enum serf_agent_store_fault done(const char *line) {
     case 'b':
         return burst(word);
     case 'o':
-        return open_agent(word);
+    case 'O':
+        return open_agent(word, line[0] == 'O');
     case 'r':
         serf_agent_receive(&agent, 0, bytes, len);
         return act();
     case 'm':
-        serf_agent_merge(&agent, bytes, len, false);
+    case 'j':
+        serf_agent_merge(&agent, bytes, len, line[0] == 'j');
         return act();
     case 'f':
         serf_agent_fire(&agent, bytes, len, bytes, 0, false);

@@ -106,8 +106,8 @@ func (h *host) burst(words string) error {
 	return err
 }
 
-func (h *host) merge(packet []byte) error {
-	events, err := h.agent.Merge(packet, false)
+func (h *host) merge(packet []byte, isJoin bool) error {
+	events, err := h.agent.Merge(packet, isJoin)
 	for _, event := range events {
 		tellEvent(event)
 	}
@@ -153,8 +153,8 @@ func (h *host) act(call string, data []byte) error {
 	switch call {
 	case "r":
 		return h.receive(data)
-	case "m":
-		return h.merge(data)
+	case "m", "j":
+		return h.merge(data, call == "j")
 	case "f":
 		return h.fire(data)
 	case "q":
@@ -173,9 +173,11 @@ func (h *host) answer(call, word string) (err error) {
 	case "open":
 		h.end()
 		h.store, err = serfagent.OpenStore(word)
-	case "o":
+	case "o", "O":
 		h.end()
-		h.agent, err = serfagent.Open("host", word, serfagent.DefaultSettings())
+		settings := serfagent.DefaultSettings()
+		settings.KeepEvents, settings.IgnoreOld = call == "O", call == "O"
+		h.agent, err = serfagent.Open("host", word, settings)
 	case "close", "x":
 		h.end()
 	case "b":

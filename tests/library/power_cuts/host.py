@@ -3,7 +3,7 @@
 import sys
 
 sys.dont_write_bytecode = True
-from serf_agent import Agent, AgentError, Asked, Fired, Received
+from serf_agent import Agent, AgentError, Asked, Fired, Received, Settings
 from serf_agent.store import Store, StoreError
 
 
@@ -70,17 +70,17 @@ class Host:
             say("p", self.agent.respond(0, number).hex())
 
     def do(self, call, word):
-        data = b"" if call in ("open", "o", "b") else bytes.fromhex(word)
-        if call in ("open", "o", "close", "x"):
+        data = b"" if call in ("open", "o", "O", "b") else bytes.fromhex(word)
+        if call in ("open", "o", "O", "close", "x"):
             self.end()
         if call == "open":
             self.store = Store(word)
         elif call in ("append", "replace"):
             getattr(self.store, call)(data)
-        elif call == "o":
-            self.agent = Agent(b"host", word)
-        elif call == "m":
-            self.tell_events(self.agent.merge(data))
+        elif call in ("o", "O"):
+            self.agent = Agent(b"host", word, Settings(keep_events=call == "O", ignore_old=call == "O"))
+        elif call in ("m", "j"):
+            self.tell_events(self.agent.merge(data, join=call == "j"))
         elif call == "c":
             self.agent.compact()
         elif call == "k":

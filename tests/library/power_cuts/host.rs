@@ -85,7 +85,7 @@ impl Host {
         let Some(mut agent) = self.agent.take() else { return Err(Error::Refused(serf_agent::Code::Empty)) };
         match call {
             "r" => self.tell(CallOutcome::Received(agent.receive(0, bytes)?)),
-            "m" => agent.merge(bytes, false)?.iter().for_each(|event| self.tell_event(event)),
+            "m" | "j" => agent.merge(bytes, call == "j")?.iter().for_each(|event| self.tell_event(event)),
             "f" => self.tell(CallOutcome::Fired(agent.fire(bytes, b"", false)?)),
             "q" => {
                 let params = QueryParams { timeout: 1000, want_ack: true, ..QueryParams::default() };
@@ -104,12 +104,15 @@ impl Host {
     }
 
     fn answer(&mut self, call: &str, word: &str) -> Result<(), Error> {
-        if ["open", "o", "close", "x"].contains(&call) {
+        if ["open", "o", "O", "close", "x"].contains(&call) {
             self.end();
         }
         match call {
             "open" => self.store = Some(Store::open(word)?),
-            "o" => self.agent = Some(Agent::open(b"host", word, Settings::default())?),
+            "o" | "O" => {
+                let settings = Settings { keep_events: call == "O", ignore_old: call == "O", ..Settings::default() };
+                self.agent = Some(Agent::open(b"host", word, settings)?);
+            }
             "append" | "replace" => self.keep(call, &bytes_of(word))?,
             "close" | "x" => {}
             "b" => self.burst(word)?,

@@ -4,8 +4,10 @@ A host is driven by lines of its standard input. It answers each by what that ha
 each line that it says is one write, so a trace has it.
 
     open PATH, append HEX, replace HEX, close     a store alone
-    o PATH, x                                     an agent over the store at this path, and its end
+    o PATH, O PATH, x                             an agent over the store at this path, one that keeps its events and whose joins
+                                                  ignore old ones, and its end
     r HEX, m HEX, f NAME, q NAME                  it receives a packet, merges a state, fires an event, fires a query
+    j HEX                                         it merges a state as it joins
     b rHEX fNAME qNAME ..                         it receives and fires in one burst
     p, c, k                                       it answers the query handed out last, compacts, saves the member clock
 

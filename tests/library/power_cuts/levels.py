@@ -3,6 +3,7 @@
 import re
 from collections import namedtuple
 
+import kept
 from scripts import messages
 
 CLOCK = re.compile(rb"^(event-clock|query-clock|clock): (\d+)$")
@@ -86,10 +87,10 @@ def of_store(walk, old, answered, lengths):
 
 
 class Handed:
-    """What was handed out so far: events and queries, and the greatest time of each."""
+    """What was handed out so far: events and queries, and the greatest time of each; and the least time that joins set."""
 
     def __init__(self):
-        self.all, self.events, self.queries = frozenset(), 0, 0
+        self.all, self.events, self.queries, self.least = frozenset(), 0, 0, 0
 
     def note(self, line):
         words = line.split()
@@ -127,41 +128,46 @@ def least_of(line):
     return (b"event-clock" if kind == "e" else b"query-clock"), time
 
 
-def of_order(seen, disk, line, lengths):
-    """Level c: at a hand-out each cut leaves the line that it rests on, and all else that was written."""
+def of_order(seen, disk, line, lengths, keeps_events):
+    """Level c: at a hand-out each cut leaves the line that it rests on, and all else that was written. Where events are kept,
+    an event and a query have lines of their own too."""
     clock, least = least_of(line)
     live = disk.file().data if disk.file() else b""
     for _, text in disk.cuts(lengths):
         seen.cuts += 1
         if clocks_in(text)[clock] < least:
             seen.wrong(f"{line[:40]} was handed out, and a cut leaves {text!r}")
+        elif keeps_events and line[0] in "eh" and not kept.has_own_line(line, text):
+            seen.wrong(f"{line[:40]} was handed out, and a cut leaves no line of it: {text!r}")
         elif text != live:
             seen.wrong(f"{line[:40]} was handed out while a cut leaves {text!r}, and not {live!r}")
 
 
-def of_agent(walk, lengths):
+def of_agent(walk, lengths, keeps_events=False, least_after=()):
     """Levels b and c, but for the openings: what was looked at in each, and at each cut the text that is left and what
-    was handed out before it, once each."""
+    was handed out before it, once each. least_after: of each answer the least time that joins have set by then."""
     whole, order, handed = Seen(), Seen(), Handed()
-    disk, promise, left = walk.disk, None, {}
+    disk, promise, left, leasts = walk.disk, None, {}, iter(least_after)
     for said in walk:
         line = "" if said is None else said.decode().rstrip("\n")
         if line[:2] in ("e ", "h ", "p "):
-            of_order(order, disk, line, lengths)
+            of_order(order, disk, line, lengths, keeps_events)
             handed.note(line)
         elif line == "ok":
             promise = promise_of(disk)
+        if line in ("ok", "Failed"):
+            handed.least = next(leasts, handed.least)
         for text in look(whole, disk, promise, lengths):
-            left[text, handed.all] = (handed.events, handed.queries)
+            left[text, handed.all] = (handed.events, handed.queries, handed.least)
     return whole, order, left
 
 
 def of_opening(seen, text, before, greatest, after):
     """What the agent that is opened on a text does wrong, where `before` was handed out. after: what it hands out when
     it is offered everything again, and the times at which it fires an event and a query at first."""
-    events, queries = greatest
+    events, queries, _ = greatest
     again, fired, asked = after
     if before & again:
         seen.wrong(f"it was left {text!r}, and hands out {sorted(before & again)[:3]} again")
     if fired <= events or asked <= queries:
-        seen.wrong(f"it was left {text!r}, and fires at {fired} and asks at {asked}; {greatest} were handed out")
+        seen.wrong(f"it was left {text!r}, and fires at {fired} and asks at {asked}; {(events, queries)} were handed out")

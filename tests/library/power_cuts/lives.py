@@ -1,10 +1,12 @@
 """Lives of a store, traced: what is told, which of its calls fail, and what is looked at."""
 
+import itertools
 import os
 import random
 import tempfile
 
 import disks
+import kept
 import levels
 import scripts
 import traces
@@ -61,6 +63,11 @@ class Run:
     def answers(self):
         return [(line, answer) for line, _, answer in self.answered]
 
+    def least_after(self):
+        """The least time that joins have set by each answer."""
+        joined = (scripts.join_clock(line) if answer == "ok" else 0 for line, _, answer in self.answered)
+        return list(itertools.accumulate(joined, max))
+
     def faults(self):
         """How often a call was answered by a fault."""
         return sum(answer != "ok" for _, _, answer in self.answered)
@@ -99,8 +106,8 @@ def store_lines(drawn):
     return ["open PATH", *scripts.of_a_store(drawn), "close"]
 
 
-def agent_lines(calls):
-    return ["o PATH", *calls, "x"]
+def agent_lines(calls, opening="o"):
+    return [f"{opening} PATH", *calls, "x"]
 
 
 def of_store(run):
@@ -108,9 +115,9 @@ def of_store(run):
     return levels.of_store(run.walk(), run.text or b"", run.answers(), disks.each_length)
 
 
-def of_agent(run, drawn):
+def of_agent(run, drawn, keeps_events=False):
     """Levels b and c of a run, but for the openings."""
-    return levels.of_agent(run.walk(), disks.few_lengths(drawn))
+    return levels.of_agent(run.walk(), disks.few_lengths(drawn), keeps_events, run.least_after())
 
 
 class Openings:
@@ -119,9 +126,9 @@ class Openings:
     def __init__(self, store, room):
         self.store, self.room = store, room
 
-    def of(self, texts, packets):
+    def of(self, texts, packets, opening="o"):
         """Of each text what the agent that is opened on it hands out when it is offered all packets, and the times at
-        which it fires and asks before it is offered any."""
+        which it fires and asks before it is offered any. opening: the word of a line that opens an agent."""
         with tempfile.TemporaryDirectory(dir=self.room) as folder:
             lines = []
             for number, text in enumerate(texts):
@@ -129,7 +136,7 @@ class Openings:
                 for path in (again, first):
                     with open(path, "wb") as file:
                         file.write(text)
-                lines += [f"o {again}", *packets, "x", f"o {first}", "f 66", "q 71", "x"]
+                lines += [f"{opening} {again}", *packets, "x", f"{opening} {first}", "f 66", "q 71", "x"]
             with traces.Host(self.store.words(None), self.store.env(None)) as host:
                 return self.read(host.say_all(lines), len(texts), len(packets))
 
@@ -165,6 +172,22 @@ def open_again(seen, store, left, packets, room):
     for (text, before), greatest in left.items():
         levels.of_opening(seen, text, before, greatest, after[text])
     return len(texts)
+
+
+def open_again_kept(seen, store, left, run, room):
+    """Level d: each text that a cut left of a life that kept its events is opened again, with the setting and without it. How many
+    texts they were, and what each of the two missed."""
+    texts, wanted = list(dict.fromkeys(text for text, _ in left)), kept.wanted_of(run)
+    missed = {opening: kept.Missed() for opening in ("O", "o")}
+    for opening, of_opening in missed.items():
+        after = dict(zip(texts, Openings(store, room).of(texts, run.packets(), opening)))
+        for (text, before), greatest in left.items():
+            levels.of_opening(seen, text, before, greatest, after[text])
+            if opening == "O":
+                kept.of_opening(seen, text, before, wanted, after[text][0], of_opening, greatest[2])
+            else:
+                of_opening.note(text, before, wanted, after[text][0])
+    return len(texts), missed["O"], missed["o"]
 
 
 def drawn_for(seed, *names):

@@ -12,6 +12,16 @@ OLD = b"clock: 2\nevent-clock: 3\nquery-clock: 1\n"
 BEGINNINGS = {"no file": (None, True), "a file": (OLD, True), "a file that was never synced": (OLD, False)}
 
 
+def clocks_of(text):
+    """The numbers of a beginning's lines of events and of queries, by how a hand-out of each begins; 0 where there is none."""
+    found = {"e": 0, "h": 0}
+    for line in text.decode("ascii").splitlines():
+        kind, number = line.split(": ")
+        if kind in ("event-clock", "query-clock"):
+            found["e" if kind == "event-clock" else "h"] = int(number)
+    return found
+
+
 def hex_line(text):
     return (text + "\n").encode().hex()
 
@@ -40,6 +50,11 @@ def query(time, number, name):
 def state(clock, times, names):
     slots = [messages.Slot(time, [messages.Texts(name, b"") for name in names(time)]) for time in times]
     return "m " + messages.encode_state(messages.PushPull(clock, [], [], max(times) + 1, slots, clock)).hex()
+
+
+def join(clock, times, names):
+    slots = [messages.Slot(time, [messages.Texts(name, b"") for name in names(time)]) for time in times]
+    return "j " + messages.encode_state(messages.PushPull(1, [], [], clock, slots, 1)).hex()
 
 
 class Calls:
@@ -93,6 +108,24 @@ def compacting(drawn):
     return [word for line in Calls(drawn).all() for word in (line, "c")]
 
 
+def joining(drawn):
+    """A life with joins. The clock of each state is one of its events' times, so a join that ignores old events takes some of them."""
+    calls, lines = Calls(drawn), []
+    for line in calls.all():
+        lines.append(line)
+        if drawn.random() < 0.4:
+            times = sorted({calls.near() for _ in range(4)})
+            lines.append(join(drawn.choice(times), times, lambda _: [calls.name()]))
+        if drawn.random() < 0.1:
+            lines.append("c")
+    return lines
+
+
+def join_clock(line):
+    """The event clock of the state that a line joins by; 0 of all other lines."""
+    return messages.decode(bytes.fromhex(line[2:])).EventLTime if line[0] == "j" else 0
+
+
 def bursting(drawn):
     """A life whose packets and firings come in bursts of one to six, as far as nothing else stands between them."""
     lines, burst = [], []
@@ -111,4 +144,5 @@ def bursting(drawn):
 def packets_in(lines):
     """The packets that the lines give, and those of bursts as if they came alone."""
     alone = [f"{word[0]} {word[1:]}" for line in lines if line[0] == "b" for word in line.split()[1:]]
-    return [line for line in [*lines, *alone] if line[0] in "rm"]
+    joins = ["m" + line[1:] for line in lines if line[0] == "j"]
+    return [line for line in [*lines, *alone, *joins] if line[0] in "rm"]

@@ -1,23 +1,29 @@
 package main
 
 import (
+	"errors"
 	"math/rand"
+	"net"
+	"strings"
 	"sync"
 	"time"
 
 	"github.com/hashicorp/memberlist"
 )
 
-// lossy is memberlist's transport, of which packets are lost, repeated, or late and so out of their order, both ways. Streams
-// are left alone.
+// lossy is memberlist's transport, of which packets are lost, repeated, or late and so out of their order, both ways. No packet
+// comes from an address that it is cut off from, or goes there, and no stream is opened there.
 type lossy struct {
 	*memberlist.NetTransport
 	chances chances
 	packets chan *memberlist.Packet
 
-	mu   sync.Mutex
-	draw *rand.Rand
+	mu     sync.Mutex
+	draw   *rand.Rand
+	beyond map[string]bool
 }
+
+var errCut = errors.New("the link is cut")
 
 // chances are of 100 packets how many are lost, repeated and late.
 type chances struct{ lost, repeated, late int }
@@ -33,6 +39,35 @@ func newLossy(config *memberlist.NetTransportConfig, chances chances, seed int64
 	l := &lossy{NetTransport: under, chances: chances, packets: make(chan *memberlist.Packet, 1024), draw: rand.New(rand.NewSource(seed))}
 	go l.receive()
 	return l, nil
+}
+
+// cut cuts this node off from these addresses, and from no others.
+func (l *lossy) cut(addresses []string) {
+	l.mu.Lock()
+	defer l.mu.Unlock()
+	l.beyond = map[string]bool{}
+	for _, address := range addresses {
+		l.beyond[address] = true
+	}
+}
+
+// isCut says whether this node is cut off from an address with a port.
+func (l *lossy) isCut(address string) bool {
+	host, _, _ := strings.Cut(address, ":")
+	l.mu.Lock()
+	defer l.mu.Unlock()
+	return l.beyond[host]
+}
+
+func (l *lossy) DialTimeout(addr string, timeout time.Duration) (net.Conn, error) {
+	return l.DialAddressTimeout(memberlist.Address{Addr: addr}, timeout)
+}
+
+func (l *lossy) DialAddressTimeout(addr memberlist.Address, timeout time.Duration) (net.Conn, error) {
+	if l.isCut(addr.Addr) {
+		return nil, errCut
+	}
+	return l.NetTransport.DialAddressTimeout(addr, timeout)
 }
 
 // fate is how often a packet comes, and how late.
@@ -69,6 +104,9 @@ func (l *lossy) WriteTo(packet []byte, addr string) (time.Time, error) {
 }
 
 func (l *lossy) WriteToAddress(packet []byte, addr memberlist.Address) (time.Time, error) {
+	if l.isCut(addr.Addr) {
+		return time.Now(), nil
+	}
 	own := append([]byte(nil), packet...)
 	l.pass(func() { l.NetTransport.WriteToAddress(own, addr) })
 	return time.Now(), nil
@@ -77,6 +115,9 @@ func (l *lossy) WriteToAddress(packet []byte, addr memberlist.Address) (time.Tim
 func (l *lossy) receive() {
 	for packet := range l.NetTransport.PacketCh() {
 		packet := packet
+		if l.isCut(packet.From.String()) {
+			continue
+		}
 		l.pass(func() {
 			// (memberlist takes the bytes apart where they lie)
 			own := &memberlist.Packet{Buf: append([]byte(nil), packet.Buf...), From: packet.From, Timestamp: packet.Timestamp}

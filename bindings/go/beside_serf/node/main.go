@@ -2,6 +2,7 @@
 // each, and answers each by a line that begins with "ok" or "error".
 //
 //	node -name NAME -bind ADDRESS -snapshot FILE -log FILE [-tags K=V,..] [-lost N] [-repeated N] [-late N] [-burst N]
+//	     [-keep] [-states DURATION] [-cut ADDRESS,..]
 //
 //	join ADDRESS..    joins these
 //	fire NAME TEXT    fires an event
@@ -10,6 +11,7 @@
 //	tags K=V,..       changes the tags
 //	members           each member, as NAME=STATUS
 //	stats             counts
+//	cut [ADDRESS..]   is cut off from these, and from no others
 //	leave             leaves
 //
 // Its log has a line for each handler that ran, as `serf-replay judge` reads it. Of 100 packets so many are lost, repeated and
@@ -44,6 +46,7 @@ const wait = 20 * time.Second
 // node is the host.
 type node struct {
 	*serfdelegate.Delegate
+	network         *lossy
 	name            string
 	handled         io.Writer
 	acks, responses names
@@ -153,6 +156,9 @@ func (n *node) did(line string) (string, error) {
 		return strings.Join(all, " "), nil
 	case line == "stats":
 		return fmt.Sprintf("%+v", n.Stats()), nil
+	case len(words) > 0 && words[0] == "cut":
+		n.network.cut(words[1:])
+		return "", nil
 	case line == "leave":
 		return "", n.Leave(ctx)
 	}
@@ -168,21 +174,27 @@ func main() {
 	flag.IntVar(&of.repeated, "repeated", 0, "packets of 100 that come twice")
 	flag.IntVar(&of.late, "late", 0, "packets of 100 that come late")
 	burst := flag.Int("burst", 0, "calls behind one flush at most")
+	settings := serfagent.DefaultSettings()
+	flag.BoolVar(&settings.KeepEvents, "keep", false, "whether its file keeps events")
+	config := memberlist.DefaultLANConfig()
+	cut := flag.String("cut", "", "addresses that it is cut off from at first")
+	flag.DurationVar(&config.PushPullInterval, "states", config.PushPullInterval, "how often it exchanges its state with another node")
 	flag.Parse()
 
 	log.SetPrefix(*name + " ")
 	file, err := os.OpenFile(*handled, os.O_CREATE|os.O_APPEND|os.O_WRONLY, 0o600)
 	check(err)
-	agent, err := serfagent.Open(*name, *snapshot, serfagent.DefaultSettings())
+	agent, err := serfagent.Open(*name, *snapshot, settings)
 	check(err)
-	config := memberlist.DefaultLANConfig()
 	config.Name, config.BindAddr, config.BindPort, config.AdvertiseAddr, config.AdvertisePort = *name, *bind, port, *bind, port
 	config.LogOutput = os.Stderr
-	config.Transport, err = newLossy(&memberlist.NetTransportConfig{
+	network, err := newLossy(&memberlist.NetTransportConfig{
 		BindAddrs: []string{*bind}, BindPort: port, Logger: log.Default(),
 	}, of, *seed)
 	check(err)
-	n := &node{name: *name, handled: file}
+	network.cut(strings.Split(*cut, ","))
+	config.Transport = network
+	n := &node{name: *name, handled: file, network: network}
 	n.Delegate, err = serfdelegate.CreateWith(config, agent, n.handlers(), serfdelegate.Options{Tags: tagsOf(*tags), Burst: *burst})
 	check(err)
 	fmt.Println("ok")

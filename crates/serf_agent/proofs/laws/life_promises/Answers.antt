@@ -1,8 +1,8 @@
 use Rattle.serf_agent.proofs.LifeLaws.{Below, flushed_there, later, once, queries_later, queries_once}
 use Rattle.serf_agent.proofs.laws.life_promises.Goals as goal
 
-below : goal.After-sound_snapshots → Below
-below c = record { times = c.text_laws.ensures.below; grows = c.text_laws.ensures.grows; ranged = c.decoded_ranges.ensures; snapshots = c.sound_snapshots.ensures }
+below : goal.After-kept_restart_laws → Below
+below c = record { times = c.text_laws.ensures.below; grows = c.text_laws.ensures.grows; ranged = c.decoded_ranges.ensures; snapshots = c.sound_snapshots.ensures; restart = c.kept_restart_laws.ensures }
 
 pub returns-clause-once : goal.returns-clause-once
 returns-clause-once c = once (below c)

@@ -7,4 +7,11 @@ returns c = record {
   note_failed = c.snapshot_laws.ensures.note_failed;
   compacted = c.snapshot_laws.ensures.compacted;
   compaction_failed = c.snapshot_laws.ensures.compaction_failed;
+  kept_noted = c.kept_note_laws.ensures.noted;
+  kept_compacted = c.kept_note_laws.ensures.compacted;
+  kept_compaction_failed = c.kept_note_laws.ensures.compaction_failed;
+  event_quiet = c.kept_note_laws.ensures.event;
+  query_quiet = c.kept_note_laws.ensures.query;
+  least_quiet = c.kept_note_laws.ensures.least;
+  both_quiet = c.kept_note_laws.ensures.both;
 }

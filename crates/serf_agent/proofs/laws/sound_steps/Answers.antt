@@ -1,4 +1,4 @@
-use Rattle.serf_agent.proofs.SoundLaws.{admission-new, query_admission-new, sound-compact, sound-event_entered, sound-event_observed, sound-joined, sound-note_failed, sound-query_asked, sound-query_entered, sound-query_observed, sound-restarted, sound-saved, sound-unopened, sound-with_config}
+use Rattle.serf_agent.proofs.SoundLaws.{admission-new, query_admission-new, sound-compact, sound-event_entered, sound-event_observed, sound-heard, sound-joined, sound-note_failed, sound-query_asked, sound-query_entered, sound-query_observed, sound-restarted, sound-saved, sound-unopened, sound-with_config}
 use Rattle.serf_agent.proofs.laws.sound_steps.Goals as goal
 
 pub returns-clause-sound : goal.returns-clause-sound
@@ -10,9 +10,10 @@ returns-clause-sound c = record {
   enters_query = sound-query_entered c.sound_snapshots.ensures;
   asks_query = sound-query_asked c.sound_snapshots.ensures;
   joins = sound-joined;
+  hears = sound-heard c.sound_snapshots.ensures;
   saves = sound-saved c.sound_snapshots.ensures;
   compacts = sound-compact c.sound_snapshots.ensures;
-  restarts = sound-restarted c.sound_snapshots.ensures;
+  restarts = sound-restarted c.sound_snapshots.ensures c.kept_restart_laws.ensures;
   sets = sound-with_config;
   begins = sound-unopened c.sound_snapshots.ensures;
 }

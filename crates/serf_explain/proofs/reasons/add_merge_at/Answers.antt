@@ -1,7 +1,8 @@
 use Rattle.std.proofs.Common.{◌≡◌, ℕ, List, Some, None, OnOk, ap, sym, subst, ◌∙◌}
 use Rattle.std.specs.Prelude.{slice_get}
-use Rattle.serf_agent.specs.States.{events_of, joined}
+use Rattle.serf_agent.specs.States.{events_of}
 use Rattle.serf_agent.specs.View.{view_of}
+use Rattle.serf_explain.specs.Carried.{heard}
 use Rattle.serf_explain.specs.Judging.{AddsLines}
 use Rattle.serf_explain.proofs.CarriedLaws.{tells-none}
 use Rattle.serf_explain.proofs.MergeLaws.{tells-merge}
@@ -15,7 +16,7 @@ returns-in-Some-packet_at c = λ d view rep empty.
     let sound = agent-sound d c.args.agent node.0 rep node.1 in
     let new = c.add_merge.new.lines.text.items in
     tells-merge c.args.number d c.args.agent c.args.packet c.args.join node.0 c.in-Some-packet_at.bytes.now new node.1 sent c.add_merge.result
-    (λ p is. subst (λ (old : List ℕ). OnOk c.add_merge.result (AddsLines c.args.number (events_of p.slots) (joined p c.args.join node.0.agent) old new)) empty (c.add_merge.ensures.merged node.0.agent p sound node.2 is))
+    (λ p is. subst (λ (old : List ℕ). OnOk c.add_merge.result (AddsLines c.args.number (events_of p.slots) (heard p c.args.join node.0.agent) old new)) empty (c.add_merge.ensures.merged node.0.agent p sound node.2 is))
     (λ none. subst (λ (old : List ℕ). OnOk c.add_merge.result (new ≡ old)) empty (c.add_merge.ensures.other none))
 
 pub returns-in-None-packet_at : goal.returns-in-None-packet_at

@@ -2,13 +2,9 @@ use Rattle.std.proofs.Common.{sym, ap, ◌∙◌}
 use Rattle.std.proofs.lemmas.Result.{on_ok_weaker}
 use Rattle.std.specs.Option.{option_map}
 use Rattle.serf_explain.specs.HandOuts.{notes_in}
-use Rattle.serf_explain.specs.Noted.{delivered_as, event_as}
+use Rattle.serf_explain.specs.Noted.{delivered_as}
 use Rattle.serf_explain.proofs.SeenLaws.{adds-delivered, adds-other}
 use Rattle.serf_explain.proofs.seen.put_seen.Goals as goal
-
-pub put_seen_event-requires : goal.put_seen_event-requires
-put_seen_event-requires c = c.requires c.in-Some.of.to (event_as c.in-Some.of.event)
-    (sym c.seen_event.ensures ∙ ap (λ o. option_map delivered_as o) c.in-Some.is)
 
 pub returns-in-Some : goal.returns-in-Some
 returns-in-Some c = on_ok_weaker c.put_seen_event.result

@@ -1,3 +1,4 @@
+use Rattle.std.specs.Prelude.{[]}
 use Rattle.serf_model.proofs.laws.laws_below.Goals as goal
 
 pub returns : goal.returns
@@ -11,4 +12,38 @@ returns c = record {
   short = c.short_packets.ensures;
   sound = c.sound_steps.ensures.sound;
   admits = c.sound_steps.ensures.admits;
+  keeps = record {
+    begins = c.kept_life_promises.ensures.begins;
+    stays = c.kept_life_promises.ensures.stays;
+    event_texts = c.kept_text_laws.ensures.events;
+    query_texts = c.kept_text_laws.ensures.queries;
+    events = c.keeping_laws.ensures.events;
+    queries = c.keeping_laws.ensures.queries;
+    taking = c.kept_life_promises.ensures.taking;
+    least = c.read_laws.ensures.least;
+    least_joined = c.least_time_laws.ensures.joined;
+  };
+  says = record {
+    joined = c.said_laws.ensures.joined;
+    sealed = c.event_line_laws.ensures.sealed;
+    event_line = c.said_laws.ensures.event;
+    query_line = c.said_laws.ensures.query;
+    least_line = c.said_laws.ensures.least;
+    clock_line = c.said_laws.ensures.clock_line;
+    kept_clock_line = c.said_laws.ensures.kept_clock_line;
+    compacted = c.said_laws.ensures.compacted;
+    kept_compacted = c.said_laws.ensures.kept_compacted;
+    can_be_told = c.read_laws.ensures.events;
+  };
+  whole = record {
+    both = c.kept_note_laws.ensures.whole;
+    sealed = c.text_laws.ensures.sealed_whole;
+    event_line = λ t name payload. (c.kept_note_laws.ensures.event t name payload).whole;
+    query_line = λ t id. (c.kept_note_laws.ensures.query t id).whole;
+    least_line = λ k t. (c.kept_note_laws.ensures.least k t).whole;
+    clock_line = λ k t. c.text_laws.ensures.line_whole k [] t;
+    kept_clock_line = λ k t. c.kept_note_laws.ensures.clock_line_whole k [] t;
+    compacted = c.text_laws.ensures.compacted_whole;
+    kept_compacted = c.said_laws.ensures.kept_compacted_whole;
+  };
 }

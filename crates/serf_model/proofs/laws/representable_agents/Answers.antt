@@ -1,5 +1,5 @@
 use Rattle.serf_model.proofs.Effects.{representable-apply}
-use Rattle.serf_model.proofs.InvariantKept.{text-has, unopened-sound}
+use Rattle.serf_model.proofs.InvariantKept.{text-has, text-past, unopened-sound}
 use Rattle.serf_model.proofs.StartLaws.{representable-start}
 use Rattle.serf_model.proofs.laws.representable_agents.Goals as goal
 
@@ -14,3 +14,6 @@ returns-clause-unopened c = (unopened-sound c.laws_below.ensures)
 
 pub returns-clause-text : goal.returns-clause-text
 returns-clause-text c = λ m tail representable. (text-has c.laws_below.ensures) m.agent tail representable.consistent
+
+pub returns-clause-past : goal.returns-clause-past
+returns-clause-past c = λ m tail representable. (text-past c.laws_below.ensures) m.agent tail representable

@@ -1,3 +1,4 @@
+use Rattle.serf_model.proofs.Names.{inl}
 use Rattle.serf_model.specs.Cluster.{run_of}
 use Rattle.serf_model.proofs.AnswerLaws.{acked-once, replied-once}
 use Rattle.serf_model.proofs.AnswerPromiseLaws.{counting-run, served-run}
@@ -16,25 +17,34 @@ pub returns-clause-start : goal.returns-clause-start
 returns-clause-start c = kept-start
 
 pub returns-clause-once : goal.returns-clause-once
-returns-clause-once c = λ configs actions ok. ((promised c.laws_below.ensures) configs actions ok).once
+returns-clause-once c = λ configs actions ok told. ((promised c.laws_below.ensures) configs actions ok told).once
 
 pub returns-clause-fired : goal.returns-clause-fired
-returns-clause-fired c = λ configs actions ok. ((promised c.laws_below.ensures) configs actions ok).only_fired
+returns-clause-fired c = λ configs actions ok told. ((promised c.laws_below.ensures) configs actions ok told).only_fired
 
 pub returns-clause-later : goal.returns-clause-later
-returns-clause-later c = λ configs actions ok. ((promised c.laws_below.ensures) configs actions ok).later
+returns-clause-later c = λ configs actions ok told. ((promised c.laws_below.ensures) configs actions ok told).later
 
 pub returns-clause-held : goal.returns-clause-held
-returns-clause-held c = λ configs actions ok. ((promised c.laws_below.ensures) configs actions ok).held
+returns-clause-held c = λ configs actions ok told. ((promised c.laws_below.ensures) configs actions ok told).held
+
+pub returns-clause-fired_alone : goal.returns-clause-fired_alone
+returns-clause-fired_alone c = λ configs actions ok none. ((promised c.laws_below.ensures) configs actions ok (inl none)).fired_alone none
+
+pub returns-clause-held_alone : goal.returns-clause-held_alone
+returns-clause-held_alone c = λ configs actions ok none. ((promised c.laws_below.ensures) configs actions ok (inl none)).held_alone none
+
+pub returns-clause-kept : goal.returns-clause-kept
+returns-clause-kept c = λ configs actions ok told. ((promised c.laws_below.ensures) configs actions ok told).kept
 
 pub returns-clause-query_once : goal.returns-clause-query_once
-returns-clause-query_once c = λ configs actions ok. ((promised c.laws_below.ensures) configs actions ok).query_once
+returns-clause-query_once c = λ configs actions ok told. ((promised c.laws_below.ensures) configs actions ok told).query_once
 
 pub returns-clause-query_later : goal.returns-clause-query_later
-returns-clause-query_later c = λ configs actions ok. ((promised c.laws_below.ensures) configs actions ok).query_later
+returns-clause-query_later c = λ configs actions ok told. ((promised c.laws_below.ensures) configs actions ok told).query_later
 
 pub returns-clause-query_handed : goal.returns-clause-query_handed
-returns-clause-query_handed c = λ configs actions ok. ((promised c.laws_below.ensures) configs actions ok).query_handed
+returns-clause-query_handed c = λ configs actions ok told. ((promised c.laws_below.ensures) configs actions ok told).query_handed
 
 pub returns-clause-query_fired : goal.returns-clause-query_fired
 returns-clause-query_fired c = (query-fired c.laws_below.ensures)
@@ -58,22 +68,22 @@ pub returns-clause-messages_fired : goal.returns-clause-messages_fired
 returns-clause-messages_fired c = λ configs actions short sized. ((messaging-run c.laws_below.ensures) configs actions short sized).fired
 
 pub returns-clause-counted_once : goal.returns-clause-counted_once
-returns-clause-counted_once c = λ configs actions ok. counted-once (run_of configs actions).cluster (run_of configs actions).turns ((counting-run c.laws_below.ensures) configs actions ok)
+returns-clause-counted_once c = λ configs actions ok told. counted-once (run_of configs actions).cluster (run_of configs actions).turns ((counting-run c.laws_below.ensures) configs actions ok told)
 
 pub returns-clause-counted_in_time : goal.returns-clause-counted_in_time
-returns-clause-counted_in_time c = λ configs actions ok. ((counting-run c.laws_below.ensures) configs actions ok).in_time
+returns-clause-counted_in_time c = λ configs actions ok told. ((counting-run c.laws_below.ensures) configs actions ok told).in_time
 
 pub returns-clause-counted_sent : goal.returns-clause-counted_sent
-returns-clause-counted_sent c = λ configs actions ok. ((counting-run c.laws_below.ensures) configs actions ok).sent
+returns-clause-counted_sent c = λ configs actions ok told. ((counting-run c.laws_below.ensures) configs actions ok told).sent
 
 pub returns-clause-answers_made : goal.returns-clause-answers_made
-returns-clause-answers_made c = λ configs actions sized ok. ((served-run c.laws_below.ensures) configs actions sized ok).made
+returns-clause-answers_made c = λ configs actions sized ok told. ((served-run c.laws_below.ensures) configs actions sized ok told).made
 
 pub returns-clause-acked_once : goal.returns-clause-acked_once
-returns-clause-acked_once c = λ configs actions sized ok. acked-once configs (run_of configs actions).cluster (run_of configs actions).turns ((served-run c.laws_below.ensures) configs actions sized ok)
+returns-clause-acked_once c = λ configs actions sized ok told. acked-once configs (run_of configs actions).cluster (run_of configs actions).turns ((served-run c.laws_below.ensures) configs actions sized ok told)
 
 pub returns-clause-replied_once : goal.returns-clause-replied_once
-returns-clause-replied_once c = λ configs actions sized ok. replied-once configs (run_of configs actions).cluster (run_of configs actions).turns ((served-run c.laws_below.ensures) configs actions sized ok)
+returns-clause-replied_once c = λ configs actions sized ok told. replied-once configs (run_of configs actions).cluster (run_of configs actions).turns ((served-run c.laws_below.ensures) configs actions sized ok told)
 
 pub returns-clause-events_bounded : goal.returns-clause-events_bounded
 returns-clause-events_bounded c = (events-bounded c.laws_below.ensures) c.slot_laws.ensures.events c.slot_laws.ensures.queries
@@ -82,4 +92,4 @@ pub returns-clause-queries_bounded : goal.returns-clause-queries_bounded
 returns-clause-queries_bounded c = (queries-bounded c.laws_below.ensures) c.slot_laws.ensures.events c.slot_laws.ensures.queries
 
 pub returns-clause-open_queries : goal.returns-clause-open_queries
-returns-clause-open_queries c = λ configs actions ok. open-hold (run_of configs actions) ((counting-run c.laws_below.ensures) configs actions ok)
+returns-clause-open_queries c = λ configs actions ok told. open-hold (run_of configs actions) ((counting-run c.laws_below.ensures) configs actions ok told)

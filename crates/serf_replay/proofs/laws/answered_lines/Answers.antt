@@ -8,4 +8,4 @@ pub returns-clause-first : goal.returns-clause-first
 returns-clause-first c = refusal-first
 
 pub returns-clause-traces : goal.returns-clause-traces
-returns-clause-traces c = traces-run c.sized_schedules.ensures c.turns_shown.ensures c.run_promises.ensures.promises
+returns-clause-traces c = traces-run c.sized_schedules.ensures c.told_schedules.ensures c.turns_shown.ensures c.run_promises.ensures.promises

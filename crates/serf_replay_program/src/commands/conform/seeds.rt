@@ -5,7 +5,7 @@ use clap::ArgMatches;
 use serf_random::{Ask, Kind};
 
 /// All kinds, in the order in which they are held.
-pub(super) const KINDS: [Kind; 14] = [
+pub(super) const KINDS: [Kind; 15] = [
     Kind::Mixed,
     Kind::Tiny,
     Kind::Merges,
@@ -19,6 +19,7 @@ pub(super) const KINDS: [Kind; 14] = [
     Kind::Compactions,
     Kind::Gossip,
     Kind::Spellings,
+    Kind::Kept,
     Kind::Rounds,
 ];
 

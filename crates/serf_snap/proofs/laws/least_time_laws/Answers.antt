@@ -1,8 +1,11 @@
-use Rattle.serf_snap.proofs.LeastTimeLaws.{least-grows, least-sealed, least-own, least-other, least-event, least-query, least-clock_line, least-kept_clock, last_clock-kept_line, last_clock-kept_other}
+use Rattle.serf_snap.proofs.LeastTimeLaws.{least-grows, least-joined, least-sealed, least-own, least-other, least-event, least-query, least-clock_line, least-other_clock_line, least-kept_clock, last_clock-kept_line, last_clock-kept_other}
 use Rattle.serf_snap.proofs.laws.least_time_laws.Goals as goal
 
 pub returns-clause-grows : goal.returns-clause-grows
 returns-clause-grows c = least-grows
+
+pub returns-clause-joined : goal.returns-clause-joined
+returns-clause-joined c = least-joined
 
 pub returns-clause-sealed : goal.returns-clause-sealed
 returns-clause-sealed c = least-sealed
@@ -21,6 +24,9 @@ returns-clause-query c = least-query
 
 pub returns-clause-clock_line : goal.returns-clause-clock_line
 returns-clause-clock_line c = least-clock_line
+
+pub returns-clause-other_clock_line : goal.returns-clause-other_clock_line
+returns-clause-other_clock_line c = least-other_clock_line
 
 pub returns-clause-kept_clock_line : goal.returns-clause-kept_clock_line
 returns-clause-kept_clock_line c = least-kept_clock

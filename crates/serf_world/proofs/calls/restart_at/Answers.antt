@@ -1,4 +1,5 @@
-use Rattle.serf_world.proofs.Names.{◌≡◌, ◌++◌, [], ℕ, List, unwrap_or, subst, sym, ap, ◌∙◌, IdealAgent, IsInText, ConcreteState, view_of, Restarted, line_only, reopened, text_after}
+use Rattle.serf_world.proofs.Names.{◌≡◌, ◌++◌, [], ℕ, List, unwrap_or, subst, sym, ap, ◌∙◌, Config, IdealAgent, ConcreteState, view_of, Restarted, line_only, reopened, text_after}
+use Rattle.serf_agent.specs.Restart.{HasPast}
 use Rattle.serf_world.specs.View.{NodeState}
 use Rattle.serf_world.proofs.TurnLaws.{shows-only}
 use Rattle.serf_world.proofs.calls.restart_at.Goals as goal
@@ -11,9 +12,9 @@ returns c = λ m number sent representable is.
     let same : c.as_slice.result.now ≡ text_after m.agent c.args.tail.now =
     c.as_slice.ensures.value ∙ c.in_ok-text.ensures ∙ ap (λ (s : ConcreteState). unwrap_or s.snapshot.durable [] ++ c.args.tail.now) was in
     let config = sym (c.in_ok-config.ensures ∙ c.config.ensures.config ∙ ap (λ (s : ConcreteState). s.config) was) in
-    let within = subst (IsInText m.agent) (sym same) (c.representable_agents.ensures.text m c.args.tail.now representable) in
+    let past = subst (λ (s : Config). HasPast s m.agent c.as_slice.result.now) config (subst (HasPast m.agent.config m.agent) (sym same) (c.representable_agents.ensures.past m c.args.tail.now representable)) in
     let opened : c.in_ok-opened.opened.concrete ≡ view_of (reopened m.agent (text_after m.agent c.args.tail.now)) =
-    c.in_ok-opened.ensures.opened m.agent representable.consistent.sound config within ∙ ap (λ (t : List ℕ). view_of (reopened m.agent t)) same in
+    c.in_ok-opened.ensures.opened m.agent representable.consistent.sound config past ∙ ap (λ (t : List ℕ). view_of (reopened m.agent t)) same in
     let member_clock = c.member_time.ensures ∙ ap (λ (s : ConcreteState). s.member_clock) opened in
     let event_clock = c.event_time.ensures ∙ ap (λ (s : ConcreteState). s.events.clock) opened in
     let query_clock = c.query_time.ensures ∙ ap (λ (s : ConcreteState). s.queries.clock) opened in

@@ -17,7 +17,7 @@ returns c = λ m representable same.
     let is = ap (λ (s : NodeState). s.concrete) was in
     let memory = c.in_ok-answer.ensures.1 in
     let some : Some c.in-Some.bytes.now ≡ slice_get c.args.sent.now c.args.packet = c.in-Some.ensures in
-    let did = does-merge c.merged_agents.ensures m c.args.join c.in-Some.bytes.now (fault_in c.merge_remote_state-merged.result) c.node.inside.agent.device c.merge_remote_state-merged.new.self c.merge_remote_state-merged.new.out.items c.args.number c.args.sent.now c.in_ok-line.line representable memory
+    let did = does-merge c.merged_agents.ensures m c.args.join c.in-Some.bytes.now (fault_in c.merge_remote_state-merged.result) c.node.inside.agent.device c.merge_remote_state-merged.new.self c.merge_remote_state-merged.new.out.items c.args.number c.args.sent.now c.in_ok-line.line representable memory c.know_packet.ensures
     (λ g refuses. let h = c.merge_remote_state-merged.ensures.refused g (subst (λ (s : ConcreteState). merge_refusal s.snapshot (decoded c.in-Some.bytes.now) ≡ Some g) (sym is) refuses) in
     (ap fault_in h.0, ap (λ (a : AgentState). a.concrete) h.2 ∙ is, h.1 ∙ c.new-events.ensures.items))
     (λ p refuses reads. subst (λ l. Merges m.agent p c.args.join l c.merge_remote_state-merged.new.out.items c.node.inside.agent.device c.merge_remote_state-merged.new.self (fault_in c.merge_remote_state-merged.result)) c.new-events.ensures.items

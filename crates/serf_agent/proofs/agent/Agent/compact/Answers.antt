@@ -1,30 +1,67 @@
-use Rattle.serf_agent.proofs.Names.{ap, sym, subst, ◌∙◌, Device, SnapshotState, SnapshotView}
-use Rattle.serf_agent.specs.Inside.{concrete_of}
-use Rattle.serf_agent.specs.States.{compact}
-use Rattle.serf_agent.specs.Steps.{Steps}
-use Rattle.serf_agent.specs.View.{AgentState, ConcreteState}
-use Rattle.serf_agent.proofs.LineLaws.{IsCompacted, agent_with, steps-compact}
+use Rattle.serf_agent.proofs.Names.{◌≡◌, ap, sym, subst, ◌∙◌, ℕ, List, Option, Result, NoteFault, SnapshotState, SnapshotView}
+use Rattle.serf_agent.specs.States.{compact, told_lines}
+use Rattle.serf_agent.specs.Steps.{Replaced, Steps}
+use Rattle.serf_agent.specs.Told.{text_with}
+use Rattle.serf_agent.specs.View.{AgentState, ConcreteState, concrete_with}
+use Rattle.serf_agent.proofs.LineLaws.{IsCompacted, agent_with, called-ok, steps-compact}
 use Rattle.serf_agent.proofs.agent.Agent.compact.Goals as goal
+
+-- what the replacement gives, by what the agent stores
+given : (old : AgentState) (lines : Option (List ℕ)) (s z : SnapshotState) (r : Result (Unit {0}) NoteFault) → lines ≡ told_lines old.concrete → s ≡ record { snapshot = old.concrete.snapshot; device = old.device } → Replaced lines s z r
+    → Replaced (told_lines old.concrete) (record { snapshot = old.concrete.snapshot; device = old.device }) z r
+given old lines s z r told same done = subst (λ (x : SnapshotState). Replaced (told_lines old.concrete) x z r) same (subst (λ (o : Option (List ℕ)). Replaced o s z r) told done)
 
 pub returns-clause-step : goal.returns-clause-step
 returns-clause-step g c = λ i sound is other.
     let was = ap (λ (a : AgentState). a.concrete) c.self.view_is ∙ is in
-    let e = c.compact.ensures in
-    let r = c.compact.result in
-    let snapshot = ap (λ (s : ConcreteState). s.snapshot) was in
-    let new = c.compact.new.self in
-    let n : IsCompacted c.self.inside.snapshot.snapshot c.self.inside.snapshot.device new r = record {
-      stopped = e.stopped;
-      ok = e.ok;
-      ok_allowed = e.ok_allowed;
-      ok_device = e.ok_device;
-      fault = e.fault;
-      fault_allowed = e.fault_allowed;
-      fault_device = λ at. record { fails = e.fault_device at; called = e.fault_called at; plan = e.fault_decremented at };
-      stays = λ at. ap (λ (s : SnapshotState). s.snapshot) (e.stays at);
-      stays_device = λ at. ap (λ (s : SnapshotState). s.device) (e.stays at);
+    let old = c.args.self.now in
+    let r = c.replace_lines.result in
+    let new = c.replace_lines.new.snapshot in
+    let done = (given c.args.self.now c.in_ok-lines.lines c.self.inside.snapshot c.replace_lines.new.snapshot c.replace_lines.result c.in_ok-lines.ensures (λ k. record { snapshot = (c.self.view_is k).concrete.snapshot; device = (c.self.view_is k).device }) c.replace_lines.ensures) in
+    let n : IsCompacted (text_with (told_lines old.concrete) old.concrete.snapshot) old.concrete.snapshot old.device new r = record {
+      stopped = done.stopped;
+      ok = done.ok;
+      ok_allowed = done.ok_allowed;
+      ok_device = done.ok_device;
+      fault = done.fault;
+      fault_allowed = done.fault_allowed;
+      fault_device = done.fault_device;
+      stays = λ at. ap (λ (s : SnapshotState). s.snapshot) (done.stays at);
+      stays_device = λ at. ap (λ (s : SnapshotState). s.device) (done.stays at);
     } in
-    let steps = steps-compact c.sound_snapshots.ensures i c.self.inside.snapshot.device new r sound (subst (λ (s : SnapshotView). IsCompacted s c.self.inside.snapshot.device new r) snapshot n) other in
-    subst (λ (d : Device). Steps i (compact i) r d (agent_with new (record { config = c.self.inside.config; member_clock = c.self.inside.member_clock; events = concrete_of c.self.inside.events; queries = concrete_of c.self.inside.queries; snapshot = c.self.inside.snapshot.snapshot; asked = c.self.inside.asked })))
-    (ap (λ (a : AgentState). a.device) c.self.view_is)
-    (subst (λ (s : ConcreteState). Steps i (compact i) r c.self.inside.snapshot.device (agent_with new s)) (sym was) steps)
+    let steps = steps-compact c.sound_snapshots.ensures i old.device new r sound (subst (λ (a : ConcreteState). IsCompacted (text_with (told_lines a) a.snapshot) a.snapshot old.device new r) is n) other in
+    subst (λ (s : ConcreteState). Steps i (compact i) r old.device (agent_with new s)) (sym was) steps
+
+pub returns-clause-ok_device : goal.returns-clause-ok_device
+returns-clause-ok_device g c = (given c.args.self.now c.in_ok-lines.lines c.self.inside.snapshot c.replace_lines.new.snapshot c.replace_lines.result c.in_ok-lines.ensures (λ k. record { snapshot = (c.self.view_is k).concrete.snapshot; device = (c.self.view_is k).device }) c.replace_lines.ensures).ok_device
+
+pub returns-clause-fault_device : goal.returns-clause-fault_device
+returns-clause-fault_device g c = (given c.args.self.now c.in_ok-lines.lines c.self.inside.snapshot c.replace_lines.new.snapshot c.replace_lines.result c.in_ok-lines.ensures (λ k. record { snapshot = (c.self.view_is k).concrete.snapshot; device = (c.self.view_is k).device }) c.replace_lines.ensures).fault_device
+
+pub returns-clause-called : goal.returns-clause-called
+returns-clause-called g c =
+    let old = c.args.self.now in
+    called-ok (text_with (told_lines old.concrete) old.concrete.snapshot) old.device c.replace_lines.new.snapshot.device c.replace_lines.result (given c.args.self.now c.in_ok-lines.lines c.self.inside.snapshot c.replace_lines.new.snapshot c.replace_lines.result c.in_ok-lines.ensures (λ k. record { snapshot = (c.self.view_is k).concrete.snapshot; device = (c.self.view_is k).device }) c.replace_lines.ensures).ok_device
+
+pub returns-clause-fault_called : goal.returns-clause-fault_called
+returns-clause-fault_called g c = λ at. ((given c.args.self.now c.in_ok-lines.lines c.self.inside.snapshot c.replace_lines.new.snapshot c.replace_lines.result c.in_ok-lines.ensures (λ k. record { snapshot = (c.self.view_is k).concrete.snapshot; device = (c.self.view_is k).device }) c.replace_lines.ensures).fault_device at).called
+
+pub returns-clause-cause : goal.returns-clause-cause
+returns-clause-cause g c = (given c.args.self.now c.in_ok-lines.lines c.self.inside.snapshot c.replace_lines.new.snapshot c.replace_lines.result c.in_ok-lines.ensures (λ k. record { snapshot = (c.self.view_is k).concrete.snapshot; device = (c.self.view_is k).device }) c.replace_lines.ensures).fault_cause
+
+pub returns-clause-memory : goal.returns-clause-memory
+returns-clause-memory g c = λ at.
+    let was = ap (λ (a : AgentState). a.concrete) c.self.view_is in
+    ap (λ (a : ConcreteState). concrete_with c.replace_lines.new.snapshot.snapshot a) was ∙ ap (λ (s : SnapshotView). concrete_with s c.args.self.now.concrete) ((given c.args.self.now c.in_ok-lines.lines c.self.inside.snapshot c.replace_lines.new.snapshot c.replace_lines.result c.in_ok-lines.ensures (λ k. record { snapshot = (c.self.view_is k).concrete.snapshot; device = (c.self.view_is k).device }) c.replace_lines.ensures).memory at)
+
+pub returns-clause-memory_device : goal.returns-clause-memory_device
+returns-clause-memory_device g c = (given c.args.self.now c.in_ok-lines.lines c.self.inside.snapshot c.replace_lines.new.snapshot c.replace_lines.result c.in_ok-lines.ensures (λ k. record { snapshot = (c.self.view_is k).concrete.snapshot; device = (c.self.view_is k).device }) c.replace_lines.ensures).memory_device
+
+pub returns-clause-stopped : goal.returns-clause-stopped
+returns-clause-stopped g c = λ at.
+    let was = ap (λ (a : AgentState). a.concrete) c.self.view_is in
+    let same = (given c.args.self.now c.in_ok-lines.lines c.self.inside.snapshot c.replace_lines.new.snapshot c.replace_lines.result c.in_ok-lines.ensures (λ k. record { snapshot = (c.self.view_is k).concrete.snapshot; device = (c.self.view_is k).device }) c.replace_lines.ensures).stays at in
+    λ k. record {
+      concrete = (ap (λ (a : ConcreteState). concrete_with c.replace_lines.new.snapshot.snapshot a) was ∙ ap (λ (s : SnapshotState). concrete_with s.snapshot c.args.self.now.concrete) same) k;
+      device = ap (λ (s : SnapshotState). s.device) same k;
+    }

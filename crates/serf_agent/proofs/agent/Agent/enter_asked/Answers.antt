@@ -1,18 +1,45 @@
 use Rattle.std.proofs.lemmas.Result.{err_from_is_err_and}
-use Rattle.serf_agent.proofs.Names.{◌∙◌, ap}
+use Rattle.serf_agent.proofs.Names.{◌∙◌, ◌++◌, ◌∷◌, [], Kept, List, Option, TimedEntry, ap, length, refl, slots_of, subst, ℕ}
 use Rattle.serf_snap.specs.declared.kind.ClockKind.TheVariants as kinds
-use Rattle.serf_agent.specs.View.{AgentState}
-use Rattle.serf_agent.proofs.NoteLaws.{ends-note}
+use Rattle.serf_agent.specs.Inside.{concrete_of}
+use Rattle.serf_agent.specs.Queries.{told_query}
+use Rattle.serf_agent.specs.Told.{noted_with}
+use Rattle.serf_agent.specs.View.{AgentState, ConcreteState}
+use Rattle.serf_agent.specs.Steps.{EndsWrite, HasWritten}
+use Rattle.serf_agent.proofs.NoteLaws.{ends-note, notes-agent}
+use Rattle.serf_agent.proofs.TrackLaws.{view-entered}
 use Rattle.serf_agent.proofs.agent.Agent.enter_asked.Goals as goal
 
 pub returns-in_err-note_asked-clause-line : goal.returns-in_err-note_asked-clause-line
 returns-in_err-note_asked-clause-line g c =
     let p = err_from_is_err_and c.from_residual-in_err-note_asked.result c.from_residual-in_err-note_asked.ensures.1 in
     let was = c.self.view_is in
-    let e = c.note_asked.ensures in
+    let what = c.args.query.id in
+    let told = c.in_ok-line.ensures ∙ ap (λ (a : AgentState). told_query a.concrete.config c.args.time what) was in
     let new = c.note_asked.new.snapshot in
-    rw (p.1, p.2) (ends-note kinds.Query c.args.time c.args.self.now _ c.self.inside.snapshot new c.note_asked.result c.in_err-note_asked.field-0.0 c.in_err-note_asked.was (ap (λ (a : AgentState). a.concrete.snapshot) was) (ap (λ (a : AgentState). a.device) was)
+    rw (p.1, p.2) (ends-note kinds.Query c.args.time (told_query c.args.self.now.concrete.config c.args.time what) c.args.self.now _ c.self.inside.snapshot new c.in_err-note_asked.field-0.0 (ap (λ (a : AgentState). a.concrete.snapshot) was) (ap (λ (a : AgentState). a.device) was)
     (λ k. record {
       concrete = record { config = (was k).concrete.config; member_clock = (was k).concrete.member_clock; events = (was k).concrete.events; queries = (c.prepare.ensures.concrete ∙ ap (λ (a : AgentState). a.concrete.queries) was) k; snapshot = new.snapshot; asked = (c.in_err-note_asked.ensures.asked ∙ ap (λ (a : AgentState). a.concrete.asked) was) k };
       device = new.device;
-    }) c.requires.runs (λ at. absurd (e.stopped at)) e.fault e.fault_allowed e.fault_above e.fault_device e.fault_cause e.memory)
+    }) (subst (λ (o : Option (List ℕ)). EndsWrite kinds.Query c.args.time o c.self.inside.snapshot new c.in_err-note_asked.field-0.0) told c.in_err-note_asked.ensures.line))
+
+pub returns-clause-line : goal.returns-clause-line
+returns-clause-line g c =
+    let was = c.self.view_is in
+    let what = c.args.query.id in
+    let told = c.in_ok-line.ensures ∙ ap (λ (a : AgentState). told_query a.concrete.config c.args.time what) was in
+    notes-agent kinds.Query c.args.time (told_query c.args.self.now.concrete.config c.args.time what) c.args.self.now _ c.self.inside.snapshot c.note_asked.new.snapshot (ap (λ (a : AgentState). a.concrete.snapshot) was) (ap (λ (a : AgentState). a.device) was) refl refl
+    (subst (λ (o : Option (List ℕ)). HasWritten kinds.Query c.args.time o c.self.inside.snapshot c.note_asked.new.snapshot) told c.in_ok-note_asked.ensures.line)
+
+pub returns-clause-entered : goal.returns-clause-entered
+returns-clause-entered g c = λ i is.
+    let was = ap (λ (a : AgentState). a.concrete) c.self.view_is ∙ is in
+    let e = c.enter.ensures in
+    let n = c.in_ok-note_asked.ensures in
+    let slots = c.prepare.new.self.window.slots in
+    let queries = view-entered i.config.query_buffer i.life i.queries (concrete_of c.prepare.new.self) (concrete_of c.enter.new.self) c.args.time c.args.query.id
+    (c.prepare.ensures.concrete ∙ ap (λ (s : ConcreteState). s.queries) was)
+    (λ es same. e.slots es same ∙ ap (λ (x : TimedEntry ℕ). slots_of (length slots) (es ++ x ∷ [])) c.in_ok-entry.ensures.entry) e.clock e.minimum in
+    let snapshot = n.line.snapshot ∙ (λ k. noted_with kinds.Query c.args.time ((c.in_ok-line.ensures ∙ ap (λ (s : ConcreteState). told_query s.config c.args.time c.args.query.id) was) k) (was k).snapshot Kept) in
+    let asked = n.ok ∙ ap (λ (s : ConcreteState). s.asked ++ (c.args.time, c.args.query) ∷ []) was in
+    λ k. record { config = (was k).config; member_clock = (was k).member_clock; events = (was k).events; queries = queries k; snapshot = snapshot k; asked = asked k }

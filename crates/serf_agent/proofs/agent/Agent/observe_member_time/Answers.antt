@@ -1,4 +1,4 @@
-use Rattle.serf_agent.proofs.Names.{◌≡◌, ◌+◌, ◌<◌, ◌^◌, ◌-◌, false, ap, ◌∙◌, observed, arith}
+use Rattle.serf_agent.proofs.Names.{◌+◌, false, ap, ◌∙◌, observed, arith}
 use Rattle.serf_agent.specs.MemberClock.{clock_state}
 use Rattle.serf_agent.specs.View.{AgentState, ConcreteState}
 use Rattle.serf_agent.proofs.MemberClockLaws.{heard-view}

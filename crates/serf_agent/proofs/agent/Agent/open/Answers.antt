@@ -1,36 +1,105 @@
-use Rattle.serf_agent.proofs.Names.{rules, true, ◌≡◌, ◌<◌, ◌-◌, ◌^◌, ℕ, List, subst, ap, ◌∙◌, Device, SnapshotView, opened}
+use Rattle.serf_agent.proofs.Names.{rules, false, true, ◌≡◌, ◌+◌, ◌<◌, ◌-◌, ◌^◌, ℕ, List, [], refl, subst, sym, ◌∙◌, EventBody, Device, SnapshotView, last_clock, opened}
+use Rattle.serf_window.specs.Queries.{same_id}
+use Rattle.serf_window.specs.Texts.{same_texts}
+use Rattle.serf_window.specs.Window.{slots_of}
+use Rattle.serf_snap.specs.EventLines.{least_in}
+use Rattle.serf_snap.specs.declared.kind.ClockKind.TheVariants as kinds
+use Rattle.serf_snap.specs.declared.snapshot.SealFault.{SealFault}
+use Rattle.serf_snap.specs.declared.snapshot.SealFault.TheVariants as seals
 use Rattle.serf_agent.specs.Config.{is_sound}
+use Rattle.serf_agent.specs.declared.config.Config.{Config}
+use Rattle.serf_agent.specs.declared.outcome.OpenFault.TheVariants as opens
+use Rattle.serf_agent.specs.Faults.{open_fault_of}
 use Rattle.serf_agent.specs.Ideal.{IdealAgent, with_config}
-use Rattle.serf_agent.specs.Inside.{first_concrete}
-use Rattle.serf_agent.specs.Restart.{IsInText, restarted, unopened}
+use Rattle.serf_agent.specs.Inside.{concrete_of, first_events, first_queries, first_track}
+use Rattle.serf_agent.specs.KeptLaws.{KeptRestartLaws}
+use Rattle.serf_agent.specs.KeptRestart.{HasKept, events_reached, queries_reached}
+use Rattle.serf_agent.specs.Restart.{HasPast, restarted, unopened}
 use Rattle.serf_agent.specs.Snapshots.{SnapshotLaws}
 use Rattle.serf_agent.specs.Sound.{IsSound}
+use Rattle.serf_agent.specs.Tracks.{ConcreteTrack}
 use Rattle.serf_agent.specs.View.{ConcreteState, view_of}
-use Rattle.serf_agent.proofs.SoundLaws.{sound-restarted, sound-unopened, sound-with_config, text-unopened}
+use Rattle.serf_agent.proofs.SoundLaws.{past-unopened, sound-restarted, sound-unopened, sound-with_config}
 use Rattle.serf_agent.proofs.ViewLaws.{first-view}
 use Rattle.serf_agent.proofs.agent.Agent.open.Goals as goal
 
--- what is stored behind a text's last lines is stored of each agent of these settings whose times the text has
-goes-on : SnapshotLaws → (i : IdealAgent) (text : List ℕ) (d : Device) (s : SnapshotView) (a : ConcreteState) → IsSound i → IsInText i text → s.member_clock < 2 ^ 64 - 1 → s ≡ opened text d → a ≡ first_concrete i.config s
-    → (a ≡ view_of (restarted (opened text d) i)) × IsSound (restarted (opened text d) i)
-goes-on snapshots i text d s a sound within small is stored = (
-  stored ∙ ap (λ (s : SnapshotView). first_concrete i.config s) is ∙ first-view i text d sound,
-  sound-restarted snapshots i text d sound within (subst (λ (s : SnapshotView). s.member_clock < 2 ^ 64 - 1) is small),
+-- what is stored behind a text's last lines is stored of each agent of these settings that the text has the past of
+goes-on : SnapshotLaws → KeptRestartLaws → (i : IdealAgent) (text : List ℕ) (d : Device) (s : SnapshotView) (events : ConcreteTrack EventBody) (queries : ConcreteTrack ℕ) (a : ConcreteState) → IsSound i → HasPast i.config i text → s.member_clock < 2 ^ 64 - 1 → s ≡ opened text d
+    → events ≡ first_events i.config text (last_clock kinds.Event text) → queries ≡ first_queries i.config text (last_clock kinds.Query text)
+    → a ≡ record { config = i.config; member_clock = s.member_clock + 1; events = events; queries = queries; snapshot = s; asked = [] } → (a ≡ view_of (restarted text (opened text d) i)) × IsSound (restarted text (opened text d) i)
+goes-on snapshots kept i text d s events queries a sound past small is event_track query_track stored = (
+  stored ∙ (λ k. record { config = i.config; member_clock = (is k).member_clock + 1; events = event_track k; queries = query_track k; snapshot = is k; asked = [] }) ∙ first-view kept i text d sound,
+  sound-restarted snapshots kept i text d sound past (subst (λ (s : SnapshotView). s.member_clock < 2 ^ 64 - 1) is small),
 )
 
-pub returns-in-Ok-clause-restarted : goal.returns-in-Ok-clause-restarted
-returns-in-Ok-clause-restarted g c = λ i sound said.
-    let config = c.args.config in
-    let ok : is_sound config ≡ true = search rules in
-    goes-on c.sound_snapshots.ensures (with_config config i) c.args.text.now (g.S.Sink.device c.args.sink) _ _ (sound-with_config config i sound ok) (record { events = said.events; queries = said.queries }) c.in-Ok.ensures.times.member_clock c.in-Ok.ensures.ok c.behind.ensures.concrete
+-- where the settings keep no events, a new track is that of an opening
+new-events : (config : Config) (text : List ℕ) (last : ℕ) (t : ConcreteTrack EventBody) → config.keep_events ≡ false → last ≡ last_clock kinds.Event text
+    → t ≡ record { clock = last + 1; minimum = last + 1; slots = slots_of config.event_buffer [] } → t ≡ first_events config text (last_clock kinds.Event text)
+new-events config text last t off is new = new ∙ (λ k. first_track (sym off k) same_texts config.event_buffer config.per_time (is k) (least_in kinds.Event text) (events_reached config (is k) text))
 
-pub returns-in-Ok-clause-first : goal.returns-in-Ok-clause-first
-returns-in-Ok-clause-first g c =
+new-queries : (config : Config) (text : List ℕ) (last : ℕ) (t : ConcreteTrack ℕ) → config.keep_events ≡ false → last ≡ last_clock kinds.Query text
+    → t ≡ record { clock = last + 1; minimum = last + 1; slots = slots_of config.query_buffer [] } → t ≡ first_queries config text (last_clock kinds.Query text)
+new-queries config text last t off is new = new ∙ (λ k. first_track (sym off k) same_id config.query_buffer config.per_time (is k) (least_in kinds.Query text) (queries_reached config (is k) text))
+
+pub returns-in-Some-clause-restarted : goal.returns-in-Some-clause-restarted
+returns-in-Some-clause-restarted g c = λ i sound said.
+    let config = c.args.config in
+    let text = c.args.text.now in
+    let ok : is_sound config ≡ true = search rules in
+    let past : HasPast config (with_config config i) text = record {
+      times = record { events = said.times.events; queries = said.times.queries };
+      kept = λ keeps. let had : HasKept i text = said.kept keeps in record { events = had.events; queries = had.queries };
+    } in
+    let events : concrete_of c.in-Some.events ≡ first_events config text (last_clock kinds.Event text) = search rules in
+    let queries : concrete_of c.in-Some.queries ≡ first_queries config text (last_clock kinds.Query text) = search rules in
+    goes-on c.sound_snapshots.ensures c.kept_restart_laws.ensures (with_config config i) text (g.S.Sink.device c.args.sink) _ _ _ _ (sound-with_config config i sound ok) past c.in-Ok-open.ensures.times.member_clock c.in-Ok-open.ensures.ok
+    events queries c.behind.ensures.concrete
+
+pub returns-in-Some-clause-first : goal.returns-in-Some-clause-first
+returns-in-Some-clause-first g c =
     let device = g.S.Sink.device c.args.sink in
     let text = c.args.text.now in
     let config = c.args.config in
     let i = unopened config (opened text device) in
-    let small = subst (λ (s : SnapshotView). s.member_clock < 2 ^ 64 - 1) c.in-Ok.ensures.ok c.in-Ok.ensures.times.member_clock in
+    let small = subst (λ (s : SnapshotView). s.member_clock < 2 ^ 64 - 1) c.in-Ok-open.ensures.ok c.in-Ok-open.ensures.times.member_clock in
     let ok : is_sound config ≡ true = search rules in
     let sound = sound-unopened c.sound_snapshots.ensures config text device ok small in
-    goes-on c.sound_snapshots.ensures i text device _ _ sound (text-unopened config (opened text device) text) c.in-Ok.ensures.times.member_clock c.in-Ok.ensures.ok c.behind.ensures.concrete
+    let events : concrete_of c.in-Some.events ≡ first_events config text (last_clock kinds.Event text) = search rules in
+    let queries : concrete_of c.in-Some.queries ≡ first_queries config text (last_clock kinds.Query text) = search rules in
+    goes-on c.sound_snapshots.ensures c.kept_restart_laws.ensures i text device _ _ _ _ sound (past-unopened config (opened text device) text) c.in-Ok-open.ensures.times.member_clock c.in-Ok-open.ensures.ok
+    events queries c.behind.ensures.concrete
+
+pub returns-clause-restarted : goal.returns-clause-restarted
+returns-clause-restarted g c = λ i sound said.
+    let config = c.args.config in
+    let text = c.args.text.now in
+    let ok : is_sound config ≡ true = search rules in
+    let past : HasPast config (with_config config i) text = record {
+      times = record { events = said.times.events; queries = said.times.queries };
+      kept = λ keeps. let had : HasKept i text = said.kept keeps in record { events = had.events; queries = had.queries };
+    } in
+    let off : config.keep_events ≡ false = search rules in
+    goes-on c.sound_snapshots.ensures c.kept_restart_laws.ensures (with_config config i) text (g.S.Sink.device c.args.sink) _ _ _ _ (sound-with_config config i sound ok) past c.in-Ok-open.ensures.times.member_clock c.in-Ok-open.ensures.ok
+    (new-events config text _ _ off (c.clocks-last.ensures.event ∙ (λ k. (c.in-Ok-open.ensures.ok k).event_clock)) c.new_events-events.ensures.concrete) 
+    (new-queries config text _ _ off (c.clocks-last.ensures.query ∙ (λ k. (c.in-Ok-open.ensures.ok k).query_clock)) c.new_queries-queries.ensures.concrete) c.behind-2.ensures.concrete
+
+pub returns-clause-first : goal.returns-clause-first
+returns-clause-first g c =
+    let device = g.S.Sink.device c.args.sink in
+    let text = c.args.text.now in
+    let config = c.args.config in
+    let i = unopened config (opened text device) in
+    let small = subst (λ (s : SnapshotView). s.member_clock < 2 ^ 64 - 1) c.in-Ok-open.ensures.ok c.in-Ok-open.ensures.times.member_clock in
+    let ok : is_sound config ≡ true = search rules in
+    let sound = sound-unopened c.sound_snapshots.ensures config text device ok small in
+    let off : config.keep_events ≡ false = search rules in
+    goes-on c.sound_snapshots.ensures c.kept_restart_laws.ensures i text device _ _ _ _ sound (past-unopened config (opened text device) text) c.in-Ok-open.ensures.times.member_clock c.in-Ok-open.ensures.ok
+    (new-events config text _ _ off (c.clocks-last.ensures.event ∙ (λ k. (c.in-Ok-open.ensures.ok k).event_clock)) c.new_events-events.ensures.concrete) 
+    (new-queries config text _ _ off (c.clocks-last.ensures.query ∙ (λ k. (c.in-Ok-open.ensures.ok k).query_clock)) c.new_queries-queries.ensures.concrete) c.behind-2.ensures.concrete
+
+seal-failed : (fault : SealFault) → open_fault_of fault ≡ opens.SinkFault → fault ≡ seals.SinkFault
+seal-failed seals.OutOfMemory is = absurd (cc is)
+seal-failed seals.SinkFault is = refl
+
+pub returns-in-Err-clause-cause : goal.returns-in-Err-clause-cause
+returns-in-Err-clause-cause g c = λ at. c.in-Err.ensures.fault (seal-failed c.in-Err.sealed (sym c.from-fault.ensures ∙ at))

@@ -1,14 +1,14 @@
 use Rattle.std.proofs.lemmas.Result.{err_from_is_err_and}
 use Rattle.serf_agent.proofs.Names.{◌≡◌, ap, sym, subst, refl, ◌∙◌, Ok, Err, event_of, WindowOf, EventBody, NoteFault, Kept, Failed}
 use Rattle.serf_snap.specs.declared.kind.ClockKind.TheVariants as kinds
-use Rattle.serf_agent.specs.Calls.{MayNote}
-use Rattle.serf_agent.specs.Devices.{device_noted}
+use Rattle.serf_agent.specs.Devices.{FailsLine}
 use Rattle.serf_agent.specs.declared.outcome.EventOut.{EventOut}
 use Rattle.serf_agent.specs.Faults.{receive_fault_of}
 use Rattle.serf_agent.specs.declared.outcome.ReceiveFault.{ReceiveFault}
 use Rattle.serf_agent.specs.declared.outcome.Outcome.TheVariants.{Event}
-use Rattle.serf_agent.specs.Events.{receive_event}
+use Rattle.serf_agent.specs.Events.{receive_event, told_event}
 use Rattle.serf_agent.specs.Steps.{Steps}
+use Rattle.serf_agent.specs.Told.{MayNote, bytes_with, device_noted}
 use Rattle.serf_agent.specs.View.{AgentState, ConcreteState}
 use Rattle.serf_agent.proofs.NoteLaws.{by-fault}
 use Rattle.serf_agent.proofs.StepLaws.{steps-event_ignored, steps-event_entered, steps-event_failed}
@@ -28,8 +28,8 @@ returns-in_ok-event-in-None-clause-step g c = λ i sound is _.
     let new = c.in-None.ensures in
     let e = c.in_ok-event-in-None.ensures in
     let runs = sym (ap (λ (s : ConcreteState). s.snapshot.stopped) is) ∙ c.requires in
-    let may = subst (λ (s : ConcreteState). MayNote kinds.Event c.args.time s.snapshot Kept) is e.line.allowed in
-    let device = e.line.device ∙ ap (λ (s : ConcreteState). device_noted kinds.Event c.args.time s.snapshot c.args.self.now.device) is in
+    let may = subst (λ (s : ConcreteState). MayNote kinds.Event c.args.time (told_event s.config c.args.time what) s.snapshot Kept) is e.line.allowed in
+    let device = e.line.device ∙ ap (λ (s : ConcreteState). device_noted kinds.Event c.args.time (told_event s.config c.args.time what) s.snapshot c.args.self.now.device) is in
     steps-event_entered c.sound_snapshots.ensures i c.args.time what c.args.coalesce _ c.args.self.now.device c.take_in.new.self sound runs (new.small refl) (sym (new.reason i sound is)) may (ap (λ (o : EventOut). Ok (Event o)) e.out) (e.entered i is) device
 
 pub returns-in_err-event-in-None-clause-step : goal.returns-in_err-event-in-None-clause-step
@@ -41,8 +41,9 @@ returns-in_err-event-in-None-clause-step g c = λ i sound is memory.
     let ended : result ≡ Err (receive_fault_of fault) = p.1 ∙ ap (λ (x : ReceiveFault). Err x) p.2 in
     let old = c.args.self.now in
     let new = c.take_in.new.self in
-    by-fault kinds.Event c.args.time old new fault (λ (f : NoteFault). result ≡ Err (receive_fault_of f) → Steps i (receive_event i c.args.time what c.args.coalesce) result old.device new) c.in_err-event-in-None.ensures.line (λ _ at. absurd (memory at)) (λ e answers.
+    by-fault kinds.Event c.args.time (told_event old.concrete.config c.args.time what) old new fault (λ (f : NoteFault). result ≡ Err (receive_fault_of f) → Steps i (receive_event i c.args.time what c.args.coalesce) result old.device new) c.in_err-event-in-None.ensures.line (λ _ at. absurd (memory at)) (λ e answers.
     let durable = c.take_in.new.self.concrete.snapshot.durable in
-    let may = subst (λ (s : ConcreteState). MayNote kinds.Event c.args.time s.snapshot (Failed durable)) is e.allowed in
+    let may = subst (λ (s : ConcreteState). MayNote kinds.Event c.args.time (told_event s.config c.args.time what) s.snapshot (Failed durable)) is e.allowed in
     steps-event_failed c.sound_snapshots.ensures i c.args.time what c.args.coalesce durable result old.device new sound (sym (c.in-None.ensures.reason i sound is)) may answers
-    (failed-view i c.args.self.now.concrete c.take_in.new.self.concrete kinds.Event c.args.time durable is e.failed) e.device) ended
+    (failed-view i c.args.self.now.concrete c.take_in.new.self.concrete kinds.Event c.args.time durable is e.failed)
+    (subst (λ (s : ConcreteState). FailsLine old.device new.device (bytes_with kinds.Event c.args.time (told_event s.config c.args.time what) s.snapshot)) is e.device)) ended

@@ -10,8 +10,8 @@ use Rattle.serf_agent.proofs.agent.Agent.receive_message.Goals as goal
 
 takes_memory : (call : Call (Result Outcome ReceiveFault)) → AsksSink call → TakesMemory call
 takes_memory (Ends step) asks = absurd asks
-takes_memory (Notes kind t step fault) asks = tt
-takes_memory (Replaces step fault) asks = tt
+takes_memory (Notes kind t line step fault) asks = tt
+takes_memory (Replaces lines step fault) asks = tt
 
 -- What a call says of the message that it gets is what is asked, at the message that was matched.
 

@@ -1,14 +1,14 @@
 use Rattle.std.proofs.lemmas.Result.{err_from_is_err_and}
 use Rattle.serf_agent.proofs.Names.{◌≡◌, ℕ, List, cond, Some, None, not, ap, sym, subst, ◌∙◌, Ok, Err, WindowOf, NoteFault, Kept, Failed}
 use Rattle.serf_snap.specs.declared.kind.ClockKind.TheVariants as kinds
-use Rattle.serf_agent.specs.Calls.{MayNote}
-use Rattle.serf_agent.specs.Devices.{device_noted}
+use Rattle.serf_agent.specs.Devices.{FailsLine}
 use Rattle.serf_agent.specs.Faults.{receive_fault_of}
 use Rattle.serf_agent.specs.declared.outcome.ReceiveFault.{ReceiveFault}
 use Rattle.serf_agent.specs.declared.outcome.Outcome.TheVariants as outcomes
 use Rattle.serf_wire.specs.Message.{query_said}
-use Rattle.serf_agent.specs.Queries.{ack_packet, all_pass, handed_query, has_flag, receive_query}
+use Rattle.serf_agent.specs.Queries.{ack_packet, all_pass, handed_query, has_flag, receive_query, told_query}
 use Rattle.serf_agent.specs.Steps.{Steps}
+use Rattle.serf_agent.specs.Told.{MayNote, bytes_with, device_noted}
 use Rattle.serf_agent.specs.View.{AgentState, ConcreteState}
 use Rattle.serf_agent.proofs.NoteLaws.{by-fault}
 use Rattle.serf_agent.proofs.StepLaws.{steps-query_ignored, steps-query_entered, steps-query_failed}
@@ -35,8 +35,8 @@ returns-in_ok-handed-in-None-clause-step g c = λ i sound is _.
     let ack = e.ack ∙ (λ k. cond (passed k) (cond (has_flag 1 q.flags) (Some (ack_packet (config k).name q)) None) None) in
     let broadcast = c.has_flag.ensures in
     let runs = sym (ap (λ (s : ConcreteState). s.snapshot.stopped) is) ∙ c.requires in
-    let may = subst (λ (s : ConcreteState). MayNote kinds.Query q.time s.snapshot Kept) is e.line.allowed in
-    let device = e.line.device ∙ ap (λ (s : ConcreteState). device_noted kinds.Query q.time s.snapshot c.args.self.now.device) is in
+    let may = subst (λ (s : ConcreteState). MayNote kinds.Query q.time (told_query s.config q.time q.id) s.snapshot Kept) is e.line.allowed in
+    let device = e.line.device ∙ ap (λ (s : ConcreteState). device_noted kinds.Query q.time (told_query s.config q.time q.id) s.snapshot c.args.self.now.device) is in
     steps-query_entered c.sound_snapshots.ensures c.args.tags_pass i c.args.now q _ c.args.self.now.device c.take_in_query.new.self sound runs new.small (sym (new.reason i sound is)) may
     (λ k. Ok (outcomes.Query (handed k) (ack k) (not (broadcast k)))) (e.entered i is) device
 
@@ -49,8 +49,9 @@ returns-in_err-handed-in-None-clause-step g c = λ i sound is memory.
     let ended : result ≡ Err (receive_fault_of fault) = p.1 ∙ ap (λ (x : ReceiveFault). Err x) p.2 in
     let old = c.args.self.now in
     let new = c.take_in_query.new.self in
-    by-fault kinds.Query q.time old new fault (λ (f : NoteFault). result ≡ Err (receive_fault_of f) → Steps i (receive_query c.args.tags_pass i c.args.now q) result old.device new) c.in_err-handed-in-None.ensures.line (λ _ at. absurd (memory at)) (λ e answers.
+    by-fault kinds.Query q.time (told_query old.concrete.config q.time q.id) old new fault (λ (f : NoteFault). result ≡ Err (receive_fault_of f) → Steps i (receive_query c.args.tags_pass i c.args.now q) result old.device new) c.in_err-handed-in-None.ensures.line (λ _ at. absurd (memory at)) (λ e answers.
     let durable = c.take_in_query.new.self.concrete.snapshot.durable in
-    let may = subst (λ (s : ConcreteState). MayNote kinds.Query q.time s.snapshot (Failed durable)) is e.allowed in
+    let may = subst (λ (s : ConcreteState). MayNote kinds.Query q.time (told_query s.config q.time q.id) s.snapshot (Failed durable)) is e.allowed in
     steps-query_failed c.sound_snapshots.ensures c.args.tags_pass i c.args.now q durable result old.device new sound (sym (c.in-None.ensures.reason i sound is)) may answers
-    (failed-view i c.args.self.now.concrete c.take_in_query.new.self.concrete kinds.Query q.time durable is e.failed) e.device) ended
+    (failed-view i c.args.self.now.concrete c.take_in_query.new.self.concrete kinds.Query q.time durable is e.failed)
+    (subst (λ (s : ConcreteState). FailsLine old.device new.device (bytes_with kinds.Query q.time (told_query s.config q.time q.id) s.snapshot)) is e.device)) ended

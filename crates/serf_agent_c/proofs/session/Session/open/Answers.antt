@@ -1,9 +1,9 @@
-use Rattle.std.proofs.Common.{◌≡◌, List, ℕ, subst}
+use Rattle.std.proofs.Common.{◌≡◌, List, subst, sym, ℕ}
 use Rattle.serf_snap.specs.Device.{Device, fresh_device}
 use Rattle.serf_snap.specs.Notes.{opened}
 use Rattle.serf_agent.specs.declared.config.Config.{Config}
 use Rattle.serf_agent.specs.Ideal.{IdealAgent, with_config}
-use Rattle.serf_agent.specs.Restart.{restarted}
+use Rattle.serf_agent.specs.Restart.{HasPast, restarted}
 use Rattle.serf_agent.specs.Sound.{IsSound}
 use Rattle.serf_agent.specs.View.{ConcreteState, view_of}
 use Rattle.serf_agent_c.specs.Opening.{config_of}
@@ -11,12 +11,13 @@ use Rattle.serf_agent_c.proofs.session.Session.open.Goals as goal
 
 -- what is stored of an agent that goes on from a text, over a device
 abbrev Stored : ConcreteState → List ℕ → IdealAgent → Config → Device → Type 0
-Stored a text i config d = (a ≡ view_of (restarted (opened text d) (with_config config i))) × IsSound (restarted (opened text d) (with_config config i))
+Stored a text i config d = (a ≡ view_of (restarted text (opened text d) (with_config config i))) × IsSound (restarted text (opened text d) (with_config config i))
 
 stored-same : (a : ConcreteState) (text : List ℕ) (i : IdealAgent) (config other : Config) (d e : Device) → config ≡ other → d ≡ e → Stored a text i config d → Stored a text i other e
 stored-same a text i config other d e same there h = subst (λ (c : Config). Stored a text i c e) same (subst (λ (x : Device). Stored a text i config x) there h)
 
 pub returns-in-Ok-open-clause-goes_on : goal.returns-in-Ok-open-clause-goes_on
-returns-in-Ok-open-clause-goes_on c = λ i sound said.
+returns-in-Ok-open-clause-goes_on c = λ i sound past.
     let text = c.args.text.now in
-    stored-same c.in-Ok-open.agent.concrete text i c.in-Ok.config (config_of c.args.name.now c.args.settings.now) c.in-Ok-with.sink.device (fresh_device text) c.in-Ok.ensures c.in-Ok-with.ensures (c.in-Ok-open.ensures.restarted i sound said)
+    let same : HasPast c.in-Ok.config i text = subst (λ (config : Config). HasPast config i text) (sym c.in-Ok.ensures) past in
+    stored-same c.in-Ok-open.agent.concrete text i c.in-Ok.config (config_of c.args.name.now c.args.settings.now) c.in-Ok-with.sink.device (fresh_device text) c.in-Ok.ensures c.in-Ok-with.ensures (c.in-Ok-open.ensures.restarted i sound same)

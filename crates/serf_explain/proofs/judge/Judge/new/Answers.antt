@@ -3,6 +3,7 @@ use Rattle.std.proofs.lemmas.List.Elements.{All-nil}
 use Rattle.serf_window.specs.Window.{slots_of}
 use Rattle.serf_agent.specs.declared.config.Config.{Config}
 use Rattle.serf_agent.specs.View.{ConcreteState}
+use Rattle.serf_explain.proofs.JudgeLaws.{judging-heard}
 use Rattle.serf_explain.proofs.judge.Judge.new.Goals as goal
 
 pub returns : goal.returns
@@ -11,7 +12,8 @@ returns c = λ i m sound is same.
     let clock : c.max.result ≡ max i.events.clock m.event_clock = c.max.ensures ∙ (λ q. max ((c.event_time.ensures ∙ ap (λ (s : ConcreteState). s.events.clock) is) q) (sym same q)) in
     let minimum : c.max-2.result ≡ max i.events.minimum (cond (c.args.is_join && i.config.ignore_old) m.event_clock 0) =
     c.max-2.ensures ∙ (λ q. max ((c.event_minimum.ensures ∙ ap (λ (s : ConcreteState). s.events.minimum) is) q) ((c.least.ensures ∙ (λ p. cond (c.args.is_join && (config p).ignore_old) (sym same p) 0)) q)) in
-    record {
+    judging-heard i m c.args.is_join (record { clock = c.max.result; minimum = c.max-2.result; entered = c.in-Ok.entered })
+    (record {
       entered = [];
       config_same = refl;
       life_same = refl;
@@ -23,4 +25,4 @@ returns c = λ i m sound is same.
       below = All-nil (λ e. e.time < c.max.result);
       clock_up = omega (arith, clock);
       minimum_up = omega (arith, minimum);
-    }
+    })

@@ -3,11 +3,8 @@ use Rattle.std.proofs.Math.Bool.{Bool-set}
 use Rattle.std.proofs.Math.Logic.{∥∥₁_elim, ∥∥₁_map}
 use Rattle.serf_explain.proofs.telling.Telling.go_on.Goals as goal
 
-pub add_turn-requires-clause-unpoisoned : goal.add_turn-requires-clause-unpoisoned
-add_turn-requires-clause-unpoisoned c = ∥∥₁_elim c.args.self.stands (Bool-set _ _) (λ s. s.3.unpoisoned)
-
-pub add_turn-requires-clause-stands : goal.add_turn-requires-clause-stands
-add_turn-requires-clause-stands c = ∥∥₁_map c.args.self.stands (λ s. (s.0, s.1, s.2, s.3))
+pub add_turn-requires : goal.add_turn-requires
+add_turn-requires c = ∥∥₁_elim c.args.self.stands (Bool-set _ _) (λ s. s.3.unpoisoned)
 
 pub invariant_of-result : goal.invariant_of-result
 invariant_of-result c =

@@ -1,0 +1,157 @@
+package serfagent
+
+import (
+	"fmt"
+	"os"
+	"path/filepath"
+	"testing"
+)
+
+// eventsOfAnother are another agent's events of the times 1 and on, e1 and so on, by their times.
+func eventsOfAnother(t *testing.T) [10][]byte {
+	var packets [10][]byte
+	other, _ := opened(t, "other")
+	for time := 1; time < len(packets); time++ {
+		_, packet, err := other.Fire([]byte(fmt.Sprint("e", time)), nil, false)
+		if err != nil {
+			t.Fatal(err)
+		}
+		packets[time] = packet
+	}
+	return packets
+}
+
+func openKeeping(t *testing.T, path string, keeps bool) *Agent {
+	t.Helper()
+	settings := DefaultSettings()
+	settings.EventBuffer, settings.QueryBuffer, settings.KeepEvents = 8, 8, keeps
+	agent, err := Open("keeps", path, settings)
+	if err != nil {
+		t.Fatal(err)
+	}
+	return agent
+}
+
+// life is a life on a file that ends as by a kill. It says what comes of the events of these times, as "3 new, 1 seen, 2 below".
+func life(t *testing.T, path string, keeps bool, packets [10][]byte, times ...int) (found string) {
+	t.Helper()
+	agent := openKeeping(t, path, keeps)
+	defer agent.Close()
+	for i, time := range times {
+		received, err := agent.Receive(1, packets[time])
+		if err != nil {
+			t.Fatal(err)
+		}
+		what := map[Reason]string{0: "new", Seen: "seen", BelowMinimum: "below"}[received.Reason]
+		if what == "new" && (received.Event == nil || received.Event.Time != uint64(time)) {
+			t.Error(time, received)
+		}
+		if i > 0 {
+			found += ", "
+		}
+		found += fmt.Sprint(time, " ", what)
+	}
+	return found
+}
+
+// Behind a kill what was handed out is known, and what wasn't is handed out, below the last clock line too.
+func TestARestartGoesOn(t *testing.T) {
+	packets, path := eventsOfAnother(t), filepath.Join(t.TempDir(), "file")
+	if found := life(t, path, true, packets, 3, 1, 3); found != "3 new, 1 new, 3 seen" {
+		t.Error(found)
+	}
+	lines := "event-clock: 03\n#event 3 6533 \n#event 1 6531 \n"
+	if text := textOf(t, path); text != lines {
+		t.Errorf("%q", text)
+	}
+	if found := life(t, path, true, packets, 3, 1, 2, 2); found != "3 seen, 1 seen, 2 new, 2 seen" {
+		t.Error(found)
+	}
+	if text := textOf(t, path); text != lines+"#event 2 6532 \n" {
+		t.Errorf("%q", text)
+	}
+}
+
+func TestARestartWithoutTheSetting(t *testing.T) {
+	packets, path := eventsOfAnother(t), filepath.Join(t.TempDir(), "file")
+	if DefaultSettings().KeepEvents {
+		t.Error("it is off where nothing is said")
+	}
+	if found := life(t, path, false, packets, 3, 1); found != "3 new, 1 new" {
+		t.Error(found)
+	}
+	if found := life(t, path, false, packets, 3, 2); found != "3 below, 2 below" {
+		t.Error(found)
+	}
+	if text := textOf(t, path); text != "event-clock: 3\n" {
+		t.Errorf("%q", text)
+	}
+}
+
+// The line of an event that isn't whole says nothing, so the event is handed out.
+func TestATornLine(t *testing.T) {
+	packets, path := eventsOfAnother(t), filepath.Join(t.TempDir(), "file")
+	text := "event-clock: 03\n#event 3 6533 \nevent-clock: 05\n#event 5 65"
+	if err := os.WriteFile(path, []byte(text), 0600); err != nil {
+		t.Fatal(err)
+	}
+	if found := life(t, path, true, packets, 3, 5, 4); found != "3 seen, 5 new, 4 new" {
+		t.Error(found)
+	}
+	if found := textOf(t, path); found != text+"#\n#event 5 6535 \n#event 4 6534 \n" {
+		t.Errorf("%q", found)
+	}
+}
+
+func TestLivesWithTheSettingAndWithout(t *testing.T) {
+	packets, path := eventsOfAnother(t), filepath.Join(t.TempDir(), "file")
+	for _, one := range []struct {
+		keeps bool
+		times []int
+		want  string
+	}{
+		{false, []int{3}, "3 new"}, {true, []int{2, 5}, "2 below, 5 new"}, {false, []int{4, 7}, "4 below, 7 new"},
+		{true, []int{6, 8, 9}, "6 below, 8 new, 9 new"}, {true, []int{8, 9}, "8 seen, 9 seen"},
+	} {
+		if found := life(t, path, one.keeps, packets, one.times...); found != one.want {
+			t.Errorf("%s, and %s was wanted", found, one.want)
+		}
+	}
+}
+
+// A compaction keeps what the buffers hold.
+func TestACompactionKeepsEvents(t *testing.T) {
+	packets, path := eventsOfAnother(t), filepath.Join(t.TempDir(), "file")
+	life(t, path, true, packets, 3, 1)
+	agent := openKeeping(t, path, true)
+	if err := agent.Compact(); err != nil {
+		t.Fatal(err)
+	}
+	agent.Close()
+	if text := textOf(t, path); text != "#least event-clock: 1\n#event 1 6531 \n#event 3 6533 \n#least query-clock: 1\nevent-clock: 03\n" {
+		t.Errorf("%q", text)
+	}
+	if found := life(t, path, true, packets, 1, 3, 2); found != "1 seen, 3 seen, 2 new" {
+		t.Error(found)
+	}
+}
+
+// A burst's lines are one append, behind one flush.
+func TestABurstIsKept(t *testing.T) {
+	packets, path := eventsOfAnother(t), filepath.Join(t.TempDir(), "file")
+	agent := openKeeping(t, path, true)
+	var burst Burst
+	for _, time := range []int{3, 2, 3} {
+		burst.Receive(1, packets[time])
+	}
+	if outcomes, err := agent.Burst(&burst); err != nil || len(outcomes) != 3 || agent.Flushes() != 1 {
+		t.Error(outcomes, err, agent.Flushes())
+	}
+	agent.Close()
+	if text := textOf(t, path); text != "event-clock: 03\n#event 3 6533 \n#event 2 6532 \n" {
+		t.Errorf("%q", text)
+	}
+	if found := life(t, path, true, packets, 3, 2, 1); found != "3 seen, 2 seen, 1 new" {
+		t.Error(found)
+	}
+}

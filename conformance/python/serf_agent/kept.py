@@ -1,0 +1,102 @@
+"""What an agent that keeps its events has in its snapshot beside its clock lines (docs/FORMATS.md, "What a keeping agent writes").
+
+A line of an event, a line of a query, and a line of a least time. Each begins with `#`, so that other agents pass over it.
+"""
+
+import re
+
+from .snapshot import GREATEST_VALUE, KINDS, lines_of, value_of
+from .switches import wrong
+
+GREATEST_ID = (1 << 32) - 1
+
+DIGITS = re.compile(rb"[0-9]+\Z")
+PAIRS = re.compile(rb"([0-9a-fA-F]{2})*\Z")
+
+# The kinds of clocks that have lines of their own.
+EVENTS, QUERIES = KINDS[1:]
+
+
+# Lines as they are written
+
+
+def event_line(time, name, payload):
+    texts = [name.hex(), payload.hex()]
+    if wrong("kept_texts_turned"):
+        texts.reverse()
+    return f"#event {time} {texts[0]} {texts[1]}\n".encode()
+
+
+def query_line(time, query_id):
+    return f"#query {time} {query_id}\n".encode()
+
+
+def least_line(kind, least):
+    return f"#least {kind}: {least}\n".encode()
+
+
+# Lines as they are read
+
+
+def number_of(digits, most):
+    """The number that digits write, up to the most; or None."""
+    if not DIGITS.match(digits) or int(digits) > most:
+        return None
+    return int(digits)
+
+
+def words_behind(front, line):
+    """The words behind a line's first one, between single spaces; none where it begins otherwise."""
+    if not line.startswith(front + b" "):
+        return []
+    return re.split(rb" +" if wrong("loose_kept_lines") else rb" ", line[len(front) + 1 :])
+
+
+def event_of(line):
+    """The event of a line, as time, name and payload; or None."""
+    words = words_behind(b"#event", line)
+    if len(words) != 3 or not all(PAIRS.match(word) for word in words[1:]):
+        return None
+    time = number_of(words[0], GREATEST_VALUE)
+    return (time, *(bytes.fromhex(word.decode("ascii")) for word in words[1:])) if time else None
+
+
+def query_of(line):
+    """The query of a line, as time and ID; or None."""
+    words = words_behind(b"#query", line)
+    if len(words) != 2:
+        return None
+    time, query_id = number_of(words[0], GREATEST_VALUE), number_of(words[1], GREATEST_ID)
+    return (time, query_id) if time and query_id is not None else None
+
+
+def events_in(text):
+    found = [event_of(line) for line in lines_of(text)]
+    events = [event for event in found if event]
+    return events[1:] if wrong("first_kept_event_forgotten") else events
+
+
+def queries_in(text):
+    if wrong("kept_queries_forgotten"):
+        return []
+    return [query for query in map(query_of, lines_of(text)) if query]
+
+
+def least_of_line(line, kind):
+    """The least time that a line says of a kind, or 0."""
+    front = f"#least {kind}: ".encode()
+    if line.startswith(front) and DIGITS.match(line[len(front) :]) and not wrong("least_lines_passed_over"):
+        return min(int(line[len(front) :]), GREATEST_VALUE + 1)
+    value = value_of(line, kind)
+    if value is None or wrong("clock_line_without_a_zero_passed_over"):
+        return 0
+    has_zero = line[len(kind) + 2 :].startswith(b"0") and not wrong("clock_line_with_a_zero_counts")
+    return 0 if has_zero else value + 1
+
+
+def least_in(text, kind):
+    """The least time that may be taken of a kind, by a text: the greatest that a line says, and 1 at least."""
+    found = [least_of_line(line, kind) for line in lines_of(text)]
+    if wrong("last_least_line_wins"):
+        found = [least for least in found if least][-1:]
+    return max([1, *found])

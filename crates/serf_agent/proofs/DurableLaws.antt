@@ -1,0 +1,314 @@
+-- What each change of an agent leaves durable, in a life with the setting that keeps events or without it.
+use Rattle.serf_agent.proofs.Names.{◌≡◌, ℕ, ◌+◌, ◌-◌, ◌^◌, ◌<◌, ◌≤◌, ◌⊎◌, inl, inr, max, nat_le, cond, Bool, true, false, List, [], ◌++◌, Option, Some, None, refl, sym, subst, ◌∙◌, append-nil, arith, option_map, All, All-push, All-weaker, true≢false, EventBody, TimedEntry, ClockKind, last_clock, last_line, Device, SnapshotView, Writing, Kept, Failed, KeepsEither, KeepsPart, opened, written, same_id, same_texts}
+use Rattle.std.proofs.lemmas.List.Elements.{All-map}
+use Rattle.serf_wire.specs.Bytes.{AreBytes}
+use Rattle.serf_window.specs.Recall.{RecallLaws}
+use Rattle.serf_snap.specs.declared.kept.KeptQuery.{KeptQuery}
+use Rattle.serf_snap.specs.declared.kept.Wanted.{Wanted}
+use Rattle.serf_snap.specs.declared.kind.ClockKind.TheVariants as kinds
+use Rattle.serf_snap.specs.Clocks.{sealed}
+use Rattle.serf_snap.specs.Device.{Observable}
+use Rattle.serf_snap.specs.EventLines.{events_in, least_in, queries_in, query_line}
+use Rattle.serf_snap.specs.KeptNotes.{MayReplaceBy, text_replaced}
+use Rattle.serf_snap.specs.Notes.{AreTimes, compaction_of, with_line}
+use Rattle.serf_snap.specs.TimedEvent.{TimedEvent}
+use Rattle.serf_agent.specs.Events.{event_entered, texts_len, told_event}
+use Rattle.serf_agent.specs.Ideal.{IdealAgent, Past, with_snapshot}
+use Rattle.serf_agent.specs.Keeping.{KeepingLaws, opened_clock, taken_back}
+use Rattle.serf_agent.specs.KeptLaws.{KeptRestartLaws}
+use Rattle.serf_agent.specs.KeptLines.{AreTold, CompactionLaws, kept_lines}
+use Rattle.serf_agent.specs.KeptLives.{IsDurable, IsLeast}
+use Rattle.serf_agent.specs.KeptRestart.{HasKept, IsKeptSound, events_reached, queries_reached}
+use Rattle.serf_agent.specs.KeptSteps.{KeptNoteLaws}
+use Rattle.serf_agent.specs.KeptTexts.{AreKept, IsIdShort, IsIdTold, IsShort, IsTold, KeptEventLaws, KeptQueryLaws, event_entry, kept_events, kept_queries, line_of_event, query_entry, within_reach}
+use Rattle.serf_agent.specs.Queries.{query_entered, told_query}
+use Rattle.serf_agent.specs.Restart.{restarted, restarted_by}
+use Rattle.serf_agent.specs.Sound.{IsSound}
+use Rattle.serf_agent.specs.States.{told_lines}
+use Rattle.serf_agent.specs.Told.{MayNote, bytes_with, noted_with, text_with}
+use Rattle.serf_agent.specs.Unkept.{HasSaid, IsSaid, IsSaidSound, UnkeptLaws}
+use Rattle.serf_agent.specs.View.{view_of}
+use Rattle.serf_agent.proofs.ConfigLaws.{buffers-sound}
+use Rattle.serf_agent.proofs.KeptRestartLaws.{among}
+use Rattle.serf_agent.proofs.KeptStepLaws.{part-durable, some-same}
+use Rattle.serf_agent.proofs.SoundLaws.{may-part}
+
+-- ---- what the crates below promise, and the laws of this one
+
+pub record BelowDurable : Type 0 where
+  pub steps : KeptNoteLaws
+  pub unkept : UnkeptLaws
+  pub compactions : CompactionLaws
+  pub restart : KeptRestartLaws
+  pub events : KeepingLaws EventBody same_texts
+  pub queries : KeepingLaws ℕ same_id
+  pub recalled_events : RecallLaws EventBody
+  pub recalled_queries : RecallLaws ℕ
+  pub event_texts : KeptEventLaws
+  pub query_texts : KeptQueryLaws
+  pub least_grows : (k : ClockKind) (front tail : List ℕ) → least_in k front ≤ least_in k (front ++ tail)
+  pub times : (k : ClockKind) (text : List ℕ) → last_clock k text < 2 ^ 64 - 1
+  pub events_read : (w : Wanted) (text : List ℕ) → All (λ e. (0 < e.time) × (e.time < 2 ^ 64 - 1) × AreBytes e.name × AreBytes e.payload) (events_in w text)
+  pub queries_read : (w : Wanted) (text : List ℕ) → All (λ q. (0 < q.time) × (q.time < 2 ^ 64 - 1) × (q.id < 2 ^ 32)) (queries_in w text)
+  pub least_read : (k : ClockKind) (text : List ℕ) → (1 ≤ least_in k text) × (least_in k text ≤ 2 ^ 64 - 1)
+
+-- ---- the last lines are times
+
+times-line : (kind : ClockKind) (t : ℕ) (s : SnapshotView) → AreTimes s → t < 2 ^ 64 - 1 → AreTimes (with_line kind t s)
+times-line kinds.Member t s h small = record { member_clock = small; event_clock = h.event_clock; query_clock = h.query_clock }
+times-line kinds.Event t s h small = record { member_clock = h.member_clock; event_clock = small; query_clock = h.query_clock }
+times-line kinds.Query t s h small = record { member_clock = h.member_clock; event_clock = h.event_clock; query_clock = small }
+
+times-last : (kind : ClockKind) (s : SnapshotView) → AreTimes s → last_line kind s < 2 ^ 64 - 1
+times-last kinds.Member s h = h.member_clock
+times-last kinds.Event s h = h.event_clock
+times-last kinds.Query s h = h.query_clock
+
+pub times-noted : (kind : ClockKind) (t : ℕ) (line : Option (List ℕ)) (s : SnapshotView) → AreTimes s → t < 2 ^ 64 - 1 → AreTimes (noted_with kind t line s Kept)
+times-noted kind t None s h small = by (nat_le t (last_line kind s))
+  where
+    by : (b : Bool) → AreTimes (cond b s (written kind t s Kept))
+    by true = h
+    by false = let with = times-line kind t s h small in record { member_clock = with.member_clock; event_clock = with.event_clock; query_clock = with.query_clock }
+times-noted kind t (Some line) s h small =
+    let last = times-last kind s h in
+    let with = times-line kind (max (last_line kind s) t) s h (omega (arith, last, small)) in
+    record { member_clock = with.member_clock; event_clock = with.event_clock; query_clock = with.query_clock }
+
+-- ---- nothing enters
+
+-- An agent goes on with what it has entered: its least times don't fall, and what is durable is longer, if anything.
+pub record Carries (i j : IdealAgent) : Type 0 where
+  pub keeps : j.config.keep_events ≡ i.config.keep_events
+  pub events : j.events.history ≡ i.events.history
+  pub queries : j.queries.history ≡ i.queries.history
+  pub events_up : i.events.minimum ≤ j.events.minimum
+  pub queries_up : i.queries.minimum ≤ j.queries.minimum
+  pub events_low : j.events.minimum ≤ 2 ^ 64 - 1
+  pub queries_low : j.queries.minimum ≤ 2 ^ 64 - 1
+  pub last_event : j.snapshot.event_clock ≡ i.snapshot.event_clock
+  pub last_query : j.snapshot.query_clock ≡ i.snapshot.query_clock
+  pub times : AreTimes j.snapshot
+  pub durable : (new : List ℕ) → j.snapshot.durable ≡ Some new → (old : List ℕ) × (more : List ℕ) × (i.snapshot.durable ≡ Some old) × (old ++ more ≡ new)
+
+-- what is durable is what was
+pub as-before : (s : Option (List ℕ)) (new : List ℕ) → s ≡ Some new → (old : List ℕ) × (more : List ℕ) × (s ≡ Some old) × (old ++ more ≡ new)
+as-before s new at = (new, [], at, append-nil new)
+
+has-kept : BelowDurable → (i j : IdealAgent) (old more : List ℕ) → Carries i j → HasKept i old → HasKept j (old ++ more)
+has-kept laws i j old more c had = record {
+  events = subst (λ (l : List (Past EventBody)). AreKept kinds.Event kept_events l (old ++ more)) (sym c.events) (laws.event_texts.grows i.events.history old more had.events);
+  queries = subst (λ (l : List (Past ℕ)). AreKept kinds.Query kept_queries l (old ++ more)) (sym c.queries) (laws.query_texts.grows i.queries.history old more had.queries);
+}
+
+said-on : BelowDurable → (kind : ClockKind) (minimum up last next : ℕ) (old more : List ℕ) → minimum ≤ up → next ≡ last → IsSaid kind minimum last old → IsSaid kind up next (old ++ more)
+said-on laws kind minimum up last next old more higher same (inl low) = inl (omega (arith, higher, same, low))
+said-on laws kind minimum up last next old more higher same (inr said) = inr (omega (arith, same, said, laws.least_grows kind old more))
+
+has-said : BelowDurable → (i j : IdealAgent) (old more : List ℕ) → Carries i j → HasSaid i old → HasSaid j (old ++ more)
+has-said laws i j old more c had = record {
+  kept = has-kept laws i j old more c had.kept;
+  events = said-on laws kinds.Event i.events.minimum j.events.minimum i.snapshot.event_clock j.snapshot.event_clock old more c.events_up c.last_event had.events;
+  queries = said-on laws kinds.Query i.queries.minimum j.queries.minimum i.snapshot.query_clock j.snapshot.query_clock old more c.queries_up c.last_query had.queries;
+}
+
+pub carried : BelowDurable → (i j : IdealAgent) → Carries i j → IsDurable i → IsDurable j
+carried laws i j c h = record {
+  kept = λ new at. let d = c.durable new at in subst (HasKept j) d.3 (has-kept laws i j d.0 d.1 c (h.kept d.0 d.2));
+  said = λ off new at. let d = c.durable new at in subst (HasSaid j) d.3 (has-said laws i j d.0 d.1 c (h.said (sym c.keeps ∙ off) d.0 d.2));
+  times = c.times;
+  events_told = subst (λ (l : List (Past EventBody)). AreTold IsTold l) (sym c.events) h.events_told;
+  queries_told = subst (λ (l : List (Past ℕ)). AreTold IsIdTold l) (sym c.queries) h.queries_told;
+  events_least = (omega (arith, c.events_up, h.events_least.0), c.events_low);
+  queries_least = (omega (arith, c.queries_up, h.queries_least.0), c.queries_low);
+}
+
+-- the sink fails at a note
+pub fails : BelowDurable → (kind : ClockKind) (t : ℕ) (line durable : Option (List ℕ)) (i : IdealAgent) → IsDurable i → MayNote kind t line i.snapshot (Failed durable) → IsDurable (with_snapshot (written kind t i.snapshot (Failed durable)) i)
+fails laws kind t line durable i h may = carried laws i (with_snapshot (written kind t i.snapshot (Failed durable)) i) (record {
+  keeps = refl;
+  events = refl;
+  queries = refl;
+  events_up = omega arith;
+  queries_up = omega arith;
+  events_low = h.events_least.1;
+  queries_low = h.queries_least.1;
+  last_event = refl;
+  last_query = refl;
+  times = record { member_clock = h.times.member_clock; event_clock = h.times.event_clock; query_clock = h.times.query_clock };
+  durable = part;
+}) h
+  where
+    part : (new : List ℕ) → durable ≡ Some new → (old : List ℕ) × (more : List ℕ) × (i.snapshot.durable ≡ Some old) × (old ++ more ≡ new)
+    part new at =
+        let p = part-durable i.snapshot.durable (bytes_with kind t line i.snapshot) new (subst (KeepsPart i.snapshot.durable (bytes_with kind t line i.snapshot)) at (may-part kind i.snapshot t line durable may)) in
+        (p.0, p.1, p.2, sym p.3)
+
+-- ---- an event enters, and a query
+
+pub enters-event : BelowDurable → (t : ℕ) (what : EventBody) (i : IdealAgent) → IsSound i → IsDurable i → i.snapshot.stopped ≡ false → i.events.minimum ≤ t → t < 2 ^ 64 - 1 → IsTold what → texts_len what ≤ 9216
+    → IsDurable (with_snapshot (noted_with kinds.Event t (told_event i.config t what) i.snapshot Kept) (event_entered t what i))
+enters-event laws t what i s h runs from small told short = by i.config.keep_events refl
+  where
+    some : 0 < t
+    some = omega (arith, from, h.events_least.0)
+
+    next : Bool → IdealAgent
+    next b = with_snapshot (noted_with kinds.Event t (cond b (Some (line_of_event t what)) None) i.snapshot Kept) (event_entered t what i)
+
+    all : (b : Bool) → IsKeptSound (next b) → (i.config.keep_events ≡ false → IsSaidSound (next b)) → IsDurable (next b)
+    all b kept said = record {
+      kept = kept;
+      said = said;
+      times = times-noted kinds.Event t (cond b (Some (line_of_event t what)) None) i.snapshot h.times small;
+      events_told = All-push (λ (p : Past EventBody). (0 < p.entry.time) × (p.entry.time < 2 ^ 64 - 1) × IsTold p.entry.key) i.events.history (record { life = i.life; entry = record { time = t; key = what } }) h.events_told (some, small, told);
+      queries_told = h.queries_told;
+      events_least = h.events_least;
+      queries_least = h.queries_least;
+    }
+
+    by : (b : Bool) → i.config.keep_events ≡ b → IsDurable (next b)
+    by true on = all true (laws.steps.enters_event t what i h.kept s.snapshot runs some small told short) (λ off. absurd (true≢false (sym on ∙ off)))
+    by false off = let said = laws.unkept.enters_event t what i (h.said off) s.snapshot runs from small in all false (λ durable at. (said durable at).kept) (λ again. said)
+
+pub enters-query : BelowDurable → (t id : ℕ) (i : IdealAgent) → IsSound i → IsDurable i → i.snapshot.stopped ≡ false → i.queries.minimum ≤ t → t < 2 ^ 64 - 1 → IsIdTold id
+    → IsDurable (with_snapshot (noted_with kinds.Query t (told_query i.config t id) i.snapshot Kept) (query_entered t id i))
+enters-query laws t id i s h runs from small told = by i.config.keep_events refl
+  where
+    some : 0 < t
+    some = omega (arith, from, h.queries_least.0)
+
+    next : Bool → IdealAgent
+    next b = with_snapshot (noted_with kinds.Query t (cond b (Some (query_line t id)) None) i.snapshot Kept) (query_entered t id i)
+
+    all : (b : Bool) → IsKeptSound (next b) → (i.config.keep_events ≡ false → IsSaidSound (next b)) → IsDurable (next b)
+    all b kept said = record {
+      kept = kept;
+      said = said;
+      times = times-noted kinds.Query t (cond b (Some (query_line t id)) None) i.snapshot h.times small;
+      events_told = h.events_told;
+      queries_told = All-push (λ (p : Past ℕ). (0 < p.entry.time) × (p.entry.time < 2 ^ 64 - 1) × IsIdTold p.entry.key) i.queries.history (record { life = i.life; entry = record { time = t; key = id } }) h.queries_told (some, small, told);
+      events_least = h.events_least;
+      queries_least = h.queries_least;
+    }
+
+    by : (b : Bool) → i.config.keep_events ≡ b → IsDurable (next b)
+    by true on = all true (laws.steps.enters_query t id i h.kept s.snapshot runs some small told) (λ off. absurd (true≢false (sym on ∙ off)))
+    by false off = let said = laws.unkept.enters_query t id i (h.said off) s.snapshot runs from small in all false (λ durable at. (said durable at).kept) (λ again. said)
+
+-- ---- a compaction
+
+-- what is durable once a text was to be replaced by another: this, or what was
+pub either : (s durable : Option (List ℕ)) (text new : List ℕ) → KeepsEither s text durable → durable ≡ Some new → (s ≡ Some new) ⊎ (text ≡ new)
+either None durable text new keeps at = absurd (let none : durable ≡ None = keeps in cc)
+either (Some k) durable text new (inl old) at = inl (sym old ∙ at)
+either (Some k) durable text new (inr other) at = inr (some-same text new (sym other ∙ at))
+
+pub replaced-by : (s : Option (List ℕ)) (text new : List ℕ) → option_map (λ (k : List ℕ). text) s ≡ Some new → text ≡ new
+replaced-by None text new at = absurd (cc at)
+replaced-by (Some k) text new at = some-same text new at
+
+replaces : (text : List ℕ) (w : Writing) (i : IdealAgent) → IsDurable i → HasKept i text → (i.config.keep_events ≡ false → HasSaid i text) → MayReplaceBy text i.snapshot w → IsDurable (with_snapshot (text_replaced text i.snapshot w) i)
+replaces text Kept i h kept said may = record {
+  kept = λ new at. let has : HasKept i new = subst (HasKept i) (replaced-by i.snapshot.durable text new at) kept in record { events = has.events; queries = has.queries };
+  said = λ off new at. let has : HasSaid i new = subst (HasSaid i) (replaced-by i.snapshot.durable text new at) (said off) in record { kept = record { events = has.kept.events; queries = has.kept.queries }; events = has.events; queries = has.queries };
+  times = record { member_clock = h.times.member_clock; event_clock = h.times.event_clock; query_clock = h.times.query_clock };
+  events_told = h.events_told;
+  queries_told = h.queries_told;
+  events_least = h.events_least;
+  queries_least = h.queries_least;
+}
+replaces text (Failed durable) i h kept said may = record {
+  kept = λ new at. let has : HasKept i new = kept-either new (either i.snapshot.durable durable text new may.0 at) in record { events = has.events; queries = has.queries };
+  said = λ off new at. let has : HasSaid i new = said-either off new (either i.snapshot.durable durable text new may.0 at) in record { kept = record { events = has.kept.events; queries = has.kept.queries }; events = has.events; queries = has.queries };
+  times = record { member_clock = h.times.member_clock; event_clock = h.times.event_clock; query_clock = h.times.query_clock };
+  events_told = h.events_told;
+  queries_told = h.queries_told;
+  events_least = h.events_least;
+  queries_least = h.queries_least;
+}
+  where
+    kept-either : (new : List ℕ) → (i.snapshot.durable ≡ Some new) ⊎ (text ≡ new) → HasKept i new
+    kept-either new (inl old) = h.kept new old
+    kept-either new (inr is) = subst (HasKept i) is kept
+
+    said-either : i.config.keep_events ≡ false → (new : List ℕ) → (i.snapshot.durable ≡ Some new) ⊎ (text ≡ new) → HasSaid i new
+    said-either off new (inl old) = h.said off new old
+    said-either off new (inr is) = subst (HasSaid i) is (said off)
+
+pub compacts : BelowDurable → (w : Writing) (i : IdealAgent) → IsSound i → IsDurable i → (let text = text_with (told_lines (view_of i)) i.snapshot in MayReplaceBy text i.snapshot w → IsDurable (with_snapshot (text_replaced text i.snapshot w) i))
+compacts laws w i s h = by i.config.keep_events refl
+  where
+    by : (b : Bool) → i.config.keep_events ≡ b → (let text = text_with (cond b (Some (kept_lines (view_of i))) None) i.snapshot in MayReplaceBy text i.snapshot w → IsDurable (with_snapshot (text_replaced text i.snapshot w) i))
+    by true on may =
+        let buffers = buffers-sound i.config s.config in
+        replaces (text_with (Some (kept_lines (view_of i))) i.snapshot) w i h
+        (laws.compactions.keeps i s buffers.0 buffers.1 h.times h.events_least.1 h.queries_least.1 h.events_told h.queries_told)
+        (λ off. absurd (true≢false (sym on ∙ off))) may
+    by false off may = let said = laws.unkept.compacts i s h.times in replaces (compaction_of i.snapshot) w i h said.kept (λ again. said) may
+
+-- ---- an opening
+
+-- what is read of a text can be told
+told-events : BelowDurable → (w : Wanted) (text : List ℕ) → All (λ e. (0 < e.time) × (e.time < 2 ^ 64 - 1) × IsTold e.key) (kept_events w text)
+told-events laws w text =
+    let P : TimedEntry EventBody → Type 0 = λ e. (0 < e.time) × (e.time < 2 ^ 64 - 1) × IsTold e.key in
+    All-map P event_entry (events_in w text)
+    (All-weaker (λ (e : TimedEvent). (0 < e.time) × (e.time < 2 ^ 64 - 1) × AreBytes e.name × AreBytes e.payload) (λ (e : TimedEvent). P (event_entry e)) (λ e h. (h.0, h.1, record { name = h.2; payload = h.3 })) (events_in w text) (laws.events_read w text))
+
+told-queries : BelowDurable → (w : Wanted) (text : List ℕ) → All (λ e. (0 < e.time) × (e.time < 2 ^ 64 - 1) × IsIdTold e.key) (kept_queries w text)
+told-queries laws w text =
+    let P : TimedEntry ℕ → Type 0 = λ e. (0 < e.time) × (e.time < 2 ^ 64 - 1) × IsIdTold e.key in
+    All-map P query_entry (queries_in w text) (All-weaker (λ (q : KeptQuery). (0 < q.time) × (q.time < 2 ^ 64 - 1) × (q.id < 2 ^ 32)) (λ (q : KeptQuery). P (query_entry q)) (λ q h. (h.0, h.1, h.2)) (queries_in w text) (laws.queries_read w text))
+
+-- the least time that comes of a text
+least-back : {K : Type 0} → RecallLaws K → (same : K → K → Bool) (n k last least : ℕ) (kept : List (TimedEntry K)) → last < 2 ^ 64 - 1 → 1 ≤ least → least ≤ 2 ^ 64 - 1 → All (λ e. e.time ≤ last) kept
+    → IsLeast (max (taken_back same n k last least kept).minimum (opened_clock last least - n))
+least-back {K} recalls same n k last least kept small some bound under =
+    let up : least ≤ (taken_back same n k last least kept).minimum = recalls.minimum same n k (opened_clock last least) (record { entries = []; minimum = least }) kept in
+    let low : (taken_back same n k last least kept).minimum ≤ opened_clock last least =
+    recalls.bounded same n k (opened_clock last least) (record { entries = []; minimum = least }) kept (omega arith) (All-weaker (λ (e : TimedEntry K). e.time ≤ last) (λ (e : TimedEntry K). e.time < opened_clock last least) (λ e h. omega (arith, h)) kept under) in
+    (omega (arith, up, some), omega (arith, low, small, bound))
+
+pub opened-durable : (o : Option Observable) (text new : List ℕ) → option_map (λ (t : Observable). sealed text) o ≡ Some new → sealed text ≡ new
+opened-durable None text new at = absurd (cc at)
+opened-durable (Some t) text new at = some-same (sealed text) new at
+
+times-opened : BelowDurable → (text : List ℕ) (d : Device) → AreTimes (opened text d)
+times-opened laws text d = record { member_clock = laws.times kinds.Member text; event_clock = laws.times kinds.Event text; query_clock = laws.times kinds.Query text }
+
+pub opens : BelowDurable → (i : IdealAgent) (text : List ℕ) (d : Device) → AreTold IsTold i.events.history → AreTold IsIdTold i.queries.history → HasKept i text → IsDurable (restarted text (opened text d) i)
+opens laws i text d events queries had = by i.config.keep_events refl
+  where
+    by : (b : Bool) → i.config.keep_events ≡ b → IsDurable (restarted_by b text (opened text d) i)
+    by true on =
+        let last : ℕ = last_clock kinds.Event text in
+        let last_query : ℕ = last_clock kinds.Query text in
+        let least = laws.least_read kinds.Event text in
+        let least_query = laws.least_read kinds.Query text in
+        record {
+          kept = λ new at. subst (HasKept (restarted_by true text (opened text d) i)) (opened-durable d.observed_bytes text new at) (laws.restart.kept i text d had);
+          said = λ off. absurd (true≢false (sym on ∙ off));
+          times = times-opened laws text d;
+          events_told = among (λ (e : TimedEntry EventBody). (0 < e.time) × (e.time < 2 ^ 64 - 1) × IsTold e.key) i.events.history (restarted_by true text (opened text d) i).events.history (events_reached i.config last text) events
+              (told-events laws (within_reach i.config.event_buffer last (least_in kinds.Event text)) text)
+              (laws.events.only_kept i.config.event_buffer i.config.per_time (i.life + 1) last (least_in kinds.Event text) (events_reached i.config last text) i.events);
+          queries_told = among (λ (e : TimedEntry ℕ). (0 < e.time) × (e.time < 2 ^ 64 - 1) × IsIdTold e.key) i.queries.history (restarted_by true text (opened text d) i).queries.history (queries_reached i.config last_query text) queries
+              (told-queries laws (within_reach i.config.query_buffer last_query (least_in kinds.Query text)) text)
+              (laws.queries.only_kept i.config.query_buffer i.config.per_time (i.life + 1) last_query (least_in kinds.Query text) (queries_reached i.config last_query text) i.queries);
+          events_least = least-back laws.recalled_events same_texts i.config.event_buffer i.config.per_time last (least_in kinds.Event text) (events_reached i.config last text) (laws.times kinds.Event text) least.0 least.1
+              (All-weaker (λ (e : TimedEntry EventBody). (e.time ≤ last) × IsShort 9216 e.key) (λ (e : TimedEntry EventBody). e.time ≤ last) (λ e h. h.0) (events_reached i.config last text) (laws.event_texts.inside i.config.event_buffer last (least_in kinds.Event text) text));
+          queries_least = least-back laws.recalled_queries same_id i.config.query_buffer i.config.per_time last_query (least_in kinds.Query text) (queries_reached i.config last_query text) (laws.times kinds.Query text) least_query.0 least_query.1
+              (All-weaker (λ (e : TimedEntry ℕ). (e.time ≤ last_query) × IsIdShort 9216 e.key) (λ (e : TimedEntry ℕ). e.time ≤ last_query) (λ e h. h.0) (queries_reached i.config last_query text) (laws.query_texts.inside i.config.query_buffer last_query (least_in kinds.Query text) text));
+        }
+    by false off =
+        let said : HasSaid (restarted_by false text (opened text d) i) (sealed text) = subst (λ (b : Bool). HasSaid (restarted_by b text (opened text d) i) (sealed text)) off (laws.unkept.restarts i text d off had) in
+        record {
+          kept = λ new at. (subst (HasSaid (restarted_by false text (opened text d) i)) (opened-durable d.observed_bytes text new at) said).kept;
+          said = λ again new at. subst (HasSaid (restarted_by false text (opened text d) i)) (opened-durable d.observed_bytes text new at) said;
+          times = times-opened laws text d;
+          events_told = events;
+          queries_told = queries;
+          events_least = (omega arith, omega (arith, laws.times kinds.Event text));
+          queries_least = (omega arith, omega (arith, laws.times kinds.Query text));
+        }

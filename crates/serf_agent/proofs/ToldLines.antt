@@ -1,0 +1,90 @@
+-- The lines of what slots hold, as they are lent and as they are stored, and how long they are.
+use Rattle.serf_agent.proofs.Names.{◌≡◌, ℕ, ◌++◌, Bool, true, false, cond, List, [], ◌∷◌, map, flat_map, nat_lt, refl, sym, ap, ◌∙◌, append_assoc, TimedEntry, SlotOf, slot_view, ◌≤◌, ◌<◌, ◌+◌, ◌-◌, ◌^◌, ◌&&◌, nat_le, length, length-append, min, arith, IfSome, Option, Some, None, subst, leb-false, lt-leb, ClockKind, SnapshotView}
+use Rattle.std.specs.Prelude.{◌*◌}
+use Rattle.serf_wire.specs.Buffers.{slot_in_memory}
+use Rattle.serf_wire.specs.declared.texts.TimeSlot.{TimeSlot}
+use Rattle.serf_snap.specs.declared.kind.ClockKind.TheVariants as kinds
+use Rattle.serf_snap.specs.Clocks.{line_above_zero}
+use Rattle.serf_snap.specs.Compaction.{counted, is_worth_replacing}
+use Rattle.serf_snap.specs.EventLines.{least_line}
+use Rattle.serf_snap.specs.KeptNotes.{kept_compaction_of, kept_line_above_zero}
+use Rattle.serf_agent.specs.KeptLines.{held_from, held_in, kept_lines, least_told, lines_of_slot, lines_told, stored_lines}
+use Rattle.serf_agent.specs.States.{told_lines}
+use Rattle.serf_agent.specs.Told.{text_with}
+use Rattle.serf_agent.specs.Tracks.{ConcreteTrack}
+use Rattle.serf_agent.specs.View.{ConcreteState}
+
+-- the lines of two lists of entries, and of the keys of a time
+told-append : {K : Type 0} (line : ℕ → K → List ℕ) (xs ys : List (TimedEntry K)) → lines_told line (xs ++ ys) ≡ lines_told line xs ++ lines_told line ys
+told-append line [] ys = refl
+told-append line (x ∷ xs) ys = ap (λ (l : List ℕ). line x.time x.key ++ l) (told-append line xs ys) ∙ sym (append_assoc (line x.time x.key) (lines_told line xs) (lines_told line ys))
+
+told-keys : {K : Type 0} (line : ℕ → K → List ℕ) (t : ℕ) (keys : List K) → flat_map (line t) keys ≡ lines_told line (map (λ key. record { time = t; key = key }) keys)
+told-keys line t [] = refl
+told-keys line t (key ∷ keys) = ap (λ (l : List ℕ). line t key ++ l) (told-keys line t keys)
+
+pub slot-lines : {K : Type 0} (line : ℕ → K → List ℕ) (least : ℕ) (slots : List (TimeSlot K)) → flat_map (lines_of_slot line least) (map slot_in_memory slots) ≡ lines_told line (held_from least (map slot_view slots))
+slot-lines line least [] = refl
+slot-lines {K} line least (s ∷ ss) =
+    (λ k. one (nat_lt s.time least) k ++ slot-lines line least ss k)
+    ∙ sym (told-append line (held_in least (slot_view s)) (held_from least (map slot_view ss)))
+  where
+    one : (b : Bool) → cond b [] (flat_map (line s.time) s.held.items) ≡ lines_told line (cond b [] (map (λ (key : K). record { time = s.time; key = key }) s.held.items))
+    one true = refl
+    one false = told-keys line s.time s.held.items
+
+-- ---- how long they are
+
+-- two texts, one after the other, are counted
+pub counted-append : (xs ys : List ℕ) (m n all : ℕ) → m ≡ counted xs → n ≡ counted ys → all ≡ min (m + n) (2 ^ 64 - 1) → all ≡ counted (xs ++ ys)
+counted-append xs ys m n all first second sum =
+    let both : all ≡ min (length xs + length ys) (2 ^ 64 - 1) = omega (arith, first, second, sum) in
+    both ∙ ap (λ (k : ℕ). min k (2 ^ 64 - 1)) (sym (length-append xs ys))
+
+-- the lines of what is stored of a track: the least time that is told, and then what is lent of its slots
+pub stored-length : {K : Type 0} (kind : ClockKind) (line : ℕ → K → List ℕ) (n last : ℕ) (track : ConcreteTrack K) (slots : List (TimeSlot K)) (least first rest all : ℕ) → least ≡ least_told n last track.minimum → map slot_view slots ≡ track.slots
+    → first ≡ length (least_line kind least) → first < 2 ^ 64 → rest ≡ counted (flat_map (lines_of_slot line least) (map slot_in_memory slots)) → all ≡ min (first + rest) (2 ^ 64 - 1) → all ≡ counted (stored_lines kind line n last track)
+stored-length {K} kind line n last track slots least first rest all told view long small held sum =
+    let lines = slot-lines line least slots ∙ ap (λ (ss : List (SlotOf K)). lines_told line (held_from least ss)) view in
+    let front : first ≡ counted (least_line kind least) = omega (arith, long, small) in
+    let both = counted-append (least_line kind least) (lines_told line (held_from least track.slots)) first rest all front (held ∙ ap (λ (l : List ℕ). counted l) lines) sum in
+    both ∙ ap (λ (t : ℕ). counted (least_line kind t ++ lines_told line (held_from t track.slots))) told
+
+-- ---- whether a compaction that keeps them is worth doing
+
+-- a text that isn't worth being replaced by one isn't by a longer one
+worth-less : (limit : ℕ) (new longer text : List ℕ) → length new ≤ length longer → is_worth_replacing limit new text ≡ false → is_worth_replacing limit longer text ≡ false
+worth-less limit new longer text more = by (nat_lt limit (counted text))
+  where
+    by : (b : Bool) → (b && nat_le (2 * length new) (counted text)) ≡ false → (b && nat_le (2 * length longer) (counted text)) ≡ false
+    by false none = refl
+    by true none = let short : counted text < 2 * length new = leb-false _ _ none in lt-leb _ _ (omega arith)
+
+-- the text of a compaction with no lines is no longer than with some
+kept-longer : (lines : List ℕ) (s : SnapshotView) → length (kept_compaction_of [] s) ≤ length (kept_compaction_of lines s)
+kept-longer lines s =
+    let member : List ℕ = line_above_zero kinds.Member s.member_clock in
+    let event : List ℕ = kept_line_above_zero kinds.Event s.event_clock in
+    let asked : List ℕ = kept_line_above_zero kinds.Query s.query_clock in
+    let a = length-append lines member in
+    let b = length-append (lines ++ member) event in
+    let c = length-append ((lines ++ member) ++ event) asked in
+    let d = length-append member event in
+    let e = length-append (member ++ event) asked in
+    omega (arith, a, b, c, d, e)
+
+-- of an agent that keeps events it is so with the lines that it keeps
+pub worth-with : (a : ConcreteState) (limit : ℕ) (r : Bool) → a.config.keep_events ≡ true → IfSome a.snapshot.durable (λ text. r ≡ is_worth_replacing limit (kept_compaction_of (kept_lines a) a.snapshot) text)
+    → IfSome a.snapshot.durable (λ text. r ≡ is_worth_replacing limit (text_with (told_lines a) a.snapshot) text)
+worth-with a limit r keeps worth =
+    let told : text_with (told_lines a) a.snapshot ≡ kept_compaction_of (kept_lines a) a.snapshot = ap (λ (b : Bool). text_with (cond b (Some (kept_lines a)) None) a.snapshot) keeps in
+    subst (λ (new : List ℕ). IfSome a.snapshot.durable (λ text. r ≡ is_worth_replacing limit new text)) (sym told) worth
+
+-- and where it isn't with none, it isn't with these
+pub worth-without : (a : ConcreteState) (limit : ℕ) (r : Bool) → a.config.keep_events ≡ true → r ≡ false → IfSome a.snapshot.durable (λ text. r ≡ is_worth_replacing limit (kept_compaction_of [] a.snapshot) text)
+    → IfSome a.snapshot.durable (λ text. r ≡ is_worth_replacing limit (text_with (told_lines a) a.snapshot) text)
+worth-without a limit r keeps is worth = worth-with a limit r keeps (by a.snapshot.durable worth)
+  where
+    by : (o : Option (List ℕ)) → IfSome o (λ text. r ≡ is_worth_replacing limit (kept_compaction_of [] a.snapshot) text) → IfSome o (λ text. r ≡ is_worth_replacing limit (kept_compaction_of (kept_lines a) a.snapshot) text)
+    by None worth = tt
+    by (Some text) worth = is ∙ sym (worth-less limit (kept_compaction_of [] a.snapshot) (kept_compaction_of (kept_lines a) a.snapshot) text (kept-longer (kept_lines a) a.snapshot) (sym worth ∙ is))

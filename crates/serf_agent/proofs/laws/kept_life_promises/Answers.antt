@@ -1,0 +1,71 @@
+use Rattle.serf_agent.proofs.HandsOutLaws.{BelowHandsOut}
+use Rattle.serf_agent.proofs.JoinLaws.{remembers_joins}
+use Rattle.serf_agent.proofs.KeptLifeLaws as lives
+use Rattle.serf_agent.proofs.OfferLaws.{hands_out_new, taking_laws}
+use Rattle.serf_agent.proofs.laws.kept_life_promises.Goals as goal
+
+below : goal.After-unkept_laws → lives.BelowKeptLives
+below c = record {
+  life = record { times = c.text_laws.ensures.below; grows = c.text_laws.ensures.grows; ranged = c.decoded_ranges.ensures; snapshots = c.sound_snapshots.ensures; restart = c.kept_restart_laws.ensures };
+  durable = record {
+    steps = c.kept_step_laws.ensures;
+    unkept = c.unkept_laws.ensures;
+    compactions = c.kept_compaction_laws.ensures;
+    restart = c.kept_restart_laws.ensures;
+    events = c.keeping_laws.ensures.events;
+    queries = c.keeping_laws.ensures.queries;
+    recalled_events = c.recall_laws.ensures.events;
+    recalled_queries = c.recall_laws.ensures.queries;
+    event_texts = c.kept_text_laws.ensures.events;
+    query_texts = c.kept_text_laws.ensures.queries;
+    least_grows = c.least_time_laws.ensures.grows;
+    times = c.text_laws.ensures.below;
+    events_read = c.read_laws.ensures.events;
+    queries_read = c.read_laws.ensures.queries;
+    least_read = c.read_laws.ensures.least;
+  };
+}
+
+pub returns-clause-begins : goal.returns-clause-begins
+returns-clause-begins c = lives.begins_durable (below c)
+
+pub returns-clause-stays : goal.returns-clause-stays
+returns-clause-stays c = lives.stays_durable (below c)
+
+pub returns-clause-behind : goal.returns-clause-behind
+returns-clause-behind c = lives.keeps_behind (below c)
+
+pub returns-clause-kept : goal.returns-clause-kept
+returns-clause-kept c = lives.durable_has_kept (below c)
+
+pub returns-clause-suffices : goal.returns-clause-suffices
+returns-clause-suffices c = lives.disk_suffices (below c)
+
+below_offers : goal.After-unkept_laws → BelowHandsOut
+below_offers c = record {
+  kept = below c;
+  event_slots = c.slot_laws.ensures.events;
+  query_slots = c.slot_laws.ensures.queries;
+  least_event = c.least_time_laws.ensures.event;
+  least_query = c.least_time_laws.ensures.query;
+  least_own = c.least_time_laws.ensures.own_line;
+  least_other = c.least_time_laws.ensures.other_line;
+  least_kept_clock = c.least_time_laws.ensures.kept_clock_line;
+  least_other_clock = c.least_time_laws.ensures.other_clock_line;
+  least_sealed = c.least_time_laws.ensures.sealed;
+  event_whole = c.kept_note_laws.ensures.event;
+  query_whole = c.kept_note_laws.ensures.query;
+  least_whole = c.kept_note_laws.ensures.least;
+  whole = c.kept_note_laws.ensures.whole;
+  clock_whole = c.text_laws.ensures.line_whole;
+  kept_clock_whole = c.kept_note_laws.ensures.clock_line_whole;
+}
+
+pub returns-clause-handed_out : goal.returns-clause-handed_out
+returns-clause-handed_out c = hands_out_new (below_offers c)
+
+pub returns-clause-remembered : goal.returns-clause-remembered
+returns-clause-remembered c = remembers_joins (below_offers c)
+
+pub returns-clause-taking : goal.returns-clause-taking
+returns-clause-taking c = taking_laws (below_offers c)

@@ -1,0 +1,20 @@
+use Rattle.serf_agent.proofs.Names.{ap, map, subst, sym, ◌+◌, ◌<◌, ◌≡◌, ◌∙◌, All, List, event_of}
+use Rattle.serf_wire.specs.declared.lists.EventView.{EventView}
+use Rattle.serf_window.specs.declared.recall.Offer.{Offer}
+use Rattle.serf_window.specs.Recall.{entries_offered}
+use Rattle.serf_snap.specs.declared.kept.Wanted.{Wanted}
+use Rattle.serf_snap.specs.EventLines.{events_in}
+use Rattle.serf_agent.specs.KeptTexts.{IsShort, event_entry, kept_events, within_reach}
+use Rattle.serf_agent.proofs.RecallViews.{offers-below}
+use Rattle.serf_agent.proofs.reopening.recalled_events.Goals as goal
+
+pub recall-requires-clause-times : goal.recall-requires-clause-times
+recall-requires-clause-times c =
+    let n = c.args.config.now.event_buffer in
+    let last = c.read_clocks-last.result.event_clock in
+    let least = c.read_least_times-least.result.events in
+    let text = c.args.text.now in
+    let read = c.in_ok-kept.ensures ∙ ap (λ (w : Wanted). events_in w text) c.within_reach.ensures in
+    let offered : entries_offered (λ (e : EventView). event_of e.name.now e.payload.now) c.in_ok-offers.offers.items ≡ kept_events (within_reach n last least) text = c.in_ok-offers.ensures ∙ ap (map event_entry) (c.as_slice.ensures.value ∙ read) in
+    subst (λ (l : List (Offer EventView)). All (λ offer. offer.time < last + 1) l) (sym c.as_slice-2.ensures.value)
+    (offers-below (λ (e : EventView). event_of e.name.now e.payload.now) (λ e. IsShort 9216 e.key) last c.in_ok-offers.offers.items (kept_events (within_reach n last least) text) offered (c.kept_text_laws.ensures.events.inside n last least text))

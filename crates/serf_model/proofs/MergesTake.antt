@@ -1,0 +1,251 @@
+-- An agent that keeps its events hands out what it has to take: of a packet, and of a state that it merges.
+use Rattle.serf_model.proofs.Names.{◌≡◌, ◌≢◌, ◌&&◌, ◌⊎◌, ◌∙◌, ◌==◌, inl, inr, ℕ, ◌+◌, ◌-◌, ◌^◌, ◌<◌, ◌≤◌, Bool, true, false, true≢false, cond, List, [], ◌∷◌, ◌++◌, Option, Some, None, Result, Ok, Err, refl, sym, subst, ap, arith, map, map-append, append_assoc, All, AllByRecursion, Contains, and_parts, eq-eqb, eqb-true, All-cons, All-contains, All-head, All-nil, All-tail, Contains-append_left, Contains-append_right, WireFault, EventBody, decoded, Message, PushPull, user_event, query, query_response, push_pull, foreign, IsRangedPushPull, TimedEntry, event_of, same_texts, observed, texts_len, Writing, Kept, Failed, Config, Call, answers, planned, ended, will, IdealAgent, EventOut, MergeFault, Outcome, Reason, ReceiveFault, admission, received_as, receive_read, events_of, merge_refusal, receive_one, handed_by}
+use Rattle.std.proofs.lemmas.Bool.{and_from}
+use Rattle.std.proofs.lemmas.List.Elements.{Contains-append_cases}
+use Rattle.std.proofs.lemmas.Slice.Eq.{bytes_eq-Decides}
+use Rattle.std.specs.Prelude.{max}
+use Rattle.serf_agent.specs.declared.outcome.MergeFault.TheVariants as merges
+use Rattle.serf_agent.specs.declared.outcome.ReceiveFault.TheVariants as receives
+use Rattle.serf_agent.specs.Kept.{IsFull, IsMet}
+use Rattle.serf_agent.specs.KeptLives.{IsDurable}
+use Rattle.serf_agent.specs.KeptTexts.{IsTold}
+use Rattle.serf_agent.specs.Lives.{Takes}
+use Rattle.serf_agent.specs.States.{hear}
+use Rattle.serf_agent.specs.Taking.{TakesAt, TakesOrFull}
+use Rattle.serf_model.specs.Below.{Below}
+use Rattle.serf_model.specs.declared.action.Act.TheVariants as acts
+use Rattle.serf_model.specs.declared.line.Answer.TheVariants as lines
+use Rattle.serf_model.specs.declared.line.Refusal.TheVariants as refusals
+use Rattle.serf_model.specs.Cluster.{IdealNode, delivers, merges_as, merges_events, merges_heard, merges_on, receive_gives}
+use Rattle.serf_model.specs.NotMissed.{clock_told, hears_of}
+use Rattle.serf_model.specs.Trace.{events_brought, events_in_packet}
+use Rattle.serf_model.proofs.CallsKept.{ready-received}
+use Rattle.serf_model.proofs.ClockShown.{heard-low, received-low, rising, rising-up}
+use Rattle.serf_model.proofs.DurableKept.{durable-heard, durable-received, may-end}
+use Rattle.serf_model.proofs.InvariantKept.{hears-on, ready-heard, runs-on, times-of}
+use Rattle.serf_model.proofs.PerTimeBound.{none-if, out_in}
+use Rattle.serf_model.proofs.ReadyLaws.{IsReady}
+use Rattle.serf_model.proofs.SeenLaws.{same-texts}
+use Rattle.serf_model.proofs.TakesKept.{full-wider, goes-heard}
+
+-- An event that an agent has to take, with what was handed to the agent before and what stood in its tails.
+pub record Coming : Type 0 where
+  pub event : TimedEntry EventBody
+  pub config : Config
+  pub stood : List (TimedEntry EventBody)
+  pub on : config.keep_events ≡ true
+  pub some : 0 < event.time
+  pub short : texts_len event.key ≤ 9216
+
+-- it isn't too old where this is the clock
+abbrev pub IsYoung : Coming → ℕ → Type 0
+IsYoung g clock = clock ≤ g.event.time + g.config.event_buffer
+
+abbrev pub IsNew : Coming → List (TimedEntry EventBody) → Type 0
+IsNew g handed = IsMet handed g.stood g.event → ⊥
+
+-- it is among what is handed out, or no more of its time are taken
+abbrev pub Comes : Coming → List (TimedEntry EventBody) → List EventOut → Type 0
+Comes g handed outs = Contains (map out_in outs) g.event ⊎ IsFull g.config.per_time g.event.time (handed ++ map out_in outs) g.stood
+
+pub full-comes : (g : Coming) (handed : List (TimedEntry EventBody)) (outs : List EventOut) → IsFull g.config.per_time g.event.time handed g.stood → Comes g handed outs
+full-comes g handed outs full = inr (full-wider g.config.per_time g.event.time handed g.stood (handed ++ map out_in outs) g.stood (λ e m. wider e m) full)
+  where
+    wider : (e : TimedEntry EventBody) → IsMet handed g.stood e → IsMet (handed ++ map out_in outs) g.stood e
+    wider e (inl h) = inl (Contains-append_left handed (map out_in outs) e h)
+    wider e (inr h) = inr h
+
+only-in : (x e : TimedEntry EventBody) → Contains (x ∷ []) e → e ≡ x
+only-in x e there = All-contains (λ (y : TimedEntry EventBody). y ≡ x) (x ∷ []) e (All-cons (λ (y : TimedEntry EventBody). y ≡ x) x [] refl (All-nil (λ (y : TimedEntry EventBody). y ≡ x))) there
+
+pub none-in : (e : TimedEntry EventBody) → Contains [] e → ⊥
+none-in e h = absurd (let lt = h.1 in omega arith)
+
+decide : (x e : TimedEntry EventBody) → (x ≡ e) ⊎ (x ≢ e)
+decide x e = by ((x.time == e.time) && same_texts x.key e.key) refl
+  where
+    itself : same_texts x.key x.key ≡ true
+    itself = and_from _ _ ((bytes_eq-Decides x.key.name x.key.name).1 refl) ((bytes_eq-Decides x.key.payload x.key.payload).1 refl)
+
+    equal : x ≡ e → ((x.time == e.time) && same_texts x.key e.key) ≡ true
+    equal same = subst (λ (y : TimedEntry EventBody). ((x.time == y.time) && same_texts x.key y.key) ≡ true) same (and_from _ _ (eq-eqb x.time x.time refl) itself)
+
+    by : (b : Bool) → ((x.time == e.time) && same_texts x.key e.key) ≡ b → (x ≡ e) ⊎ (x ≢ e)
+    by true is =
+        let parts = and_parts _ _ is in
+        let time : x.time ≡ e.time = eqb-true _ _ parts.0 in
+        let texts : x.key ≡ e.key = same-texts x.key e.key parts.1 in
+        inl (λ k. record { time = time k; key = texts k })
+    by false is = inr (λ same. true≢false (sym (equal same) ∙ is))
+
+-- ---- a packet
+
+-- what is admitted is handed out, where its line is kept
+event-taken : (i : IdealAgent) (packet : List ℕ) (t : ℕ) (what : EventBody) (coalesce : Bool) (r : Option Reason) → r ≡ None → hears_of (receive_gives packet (planned i (received_as r i t what coalesce)).answer).answer ≡ true
+    → map out_in (receive_gives packet (planned i (received_as r i t what coalesce)).answer).events ≡ record { time = t; key = what } ∷ []
+event-taken i packet t what coalesce (Some reason) none hears = absurd (cc none)
+event-taken i packet t what coalesce None none hears = by (will i (received_as None i t what coalesce)) hears
+  where
+    by : (w : Writing) → hears_of (receive_gives packet (ended i (received_as None i t what coalesce) w).answer).answer ≡ true → map out_in (receive_gives packet (ended i (received_as None i t what coalesce) w).answer).events ≡ record { time = t; key = what } ∷ []
+    by Kept hears = refl
+    by (Failed durable) hears = absurd (cc hears)
+
+read-takes : Below → (g : Coming) (i : IdealAgent) (number now clock : ℕ) (packet : List ℕ) (handed : List (TimedEntry EventBody)) (r : Result Message WireFault) → IsReady i → i.events.clock ≤ clock → IsYoung g (clock_told clock (acts.Deliver number now) r)
+    → Contains (events_brought r) g.event → IsNew g handed → TakesAt g.event.time g.config handed g.stood i → hears_of (receive_gives packet (planned i (receive_read false i now r)).answer).answer ≡ true
+    → Comes g handed (receive_gives packet (planned i (receive_read false i now r)).answer).events
+read-takes lower g i number now clock packet handed (Ok (user_event e)) ready low young there new takes hears =
+    let what : EventBody = event_of e.name e.payload in
+    let same : g.event ≡ record { time = e.time; key = what } = only-in (record { time = e.time; key = event_of e.name e.payload }) g.event there in
+    let time : g.event.time ≡ e.time = ap (λ (x : TimedEntry EventBody). x.time) same in
+    let outs = event-taken i packet e.time what e.coalesce (admission i e.time what) in
+    elim (lower.keeps.taking.takes g.event.time g.config handed g.stood i g.event.key ready.consistent.sound takes g.short (omega (arith, young, low, time)) new) [
+      | inl none ↦
+          let admitted : admission i e.time what ≡ None = subst (λ (x : TimedEntry EventBody). admission i x.time x.key ≡ None) same none in
+          inl (subst (λ (l : List (TimedEntry EventBody)). Contains l g.event) (sym (outs admitted hears)) (0, omega arith, sym same))
+      | inr full ↦ full-comes g handed (receive_gives packet (planned i (receive_read false i now (Ok (user_event e)))).answer).events full
+    ]
+read-takes lower g i number now clock packet handed (Ok (query q)) ready low young there new takes hears = absurd (none-in g.event there)
+read-takes lower g i number now clock packet handed (Ok (query_response r)) ready low young there new takes hears = absurd (none-in g.event there)
+read-takes lower g i number now clock packet handed (Ok (push_pull m)) ready low young there new takes hears = absurd (cc hears)
+read-takes lower g i number now clock packet handed (Ok (foreign kind)) ready low young there new takes hears = absurd (none-in g.event there)
+read-takes lower g i number now clock packet handed (Err fault) ready low young there new takes hears = absurd (none-in g.event there)
+
+pub delivers-takes : Below → (g : Coming) (m : IdealNode) (number now clock : ℕ) (packet : List ℕ) (handed : List (TimedEntry EventBody)) → IsReady m.agent → m.agent.events.clock ≤ clock → IsYoung g (clock_told clock (acts.Deliver number now) (decoded packet))
+    → Contains (events_in_packet packet) g.event → IsNew g handed → TakesAt g.event.time g.config handed g.stood m.agent → hears_of (delivers m now (Some packet)).done.answer ≡ true → Comes g handed (delivers m now (Some packet)).done.events
+delivers-takes lower g m number now clock packet handed ready low young there new takes = by m.agent.snapshot.stopped
+  where
+    by : (b : Bool) → (let call = cond b (answers m.agent (Err receives.Stopped)) (receive_read false m.agent now (decoded packet)) in
+        hears_of (receive_gives packet (planned m.agent call).answer).answer ≡ true → Comes g handed (receive_gives packet (planned m.agent call).answer).events)
+    by true = λ hears. absurd (cc hears)
+    by false = read-takes lower g m.agent number now clock packet handed (decoded packet) ready low young there new takes
+
+-- ---- a state
+
+-- what an event that is received hands out is that event
+received-outs : (i : IdealAgent) (x : TimedEntry EventBody) (r : Option Reason) → All (λ y. y ≡ x) (map out_in (handed_by (planned i (received_as r i x.time x.key false)).answer))
+received-outs i x (Some reason) = All-nil (λ (y : TimedEntry EventBody). y ≡ x)
+received-outs i x None = by (will i (received_as None i x.time x.key false))
+  where
+    by : (w : Writing) → All (λ y. y ≡ x) (map out_in (handed_by (ended i (received_as None i x.time x.key false) w).answer))
+    by Kept = All-cons (λ (y : TimedEntry EventBody). y ≡ x) x [] refl (All-nil (λ (y : TimedEntry EventBody). y ≡ x))
+    by (Failed durable) = All-nil (λ (y : TimedEntry EventBody). y ≡ x)
+
+-- and where it is admitted, it does
+taken-outs : (i : IdealAgent) (x : TimedEntry EventBody) (outcome : Outcome) (r : Option Reason) → r ≡ None → (planned i (received_as r i x.time x.key false)).answer ≡ Ok outcome → map out_in (handed_by (Ok outcome)) ≡ x ∷ []
+taken-outs i x outcome (Some reason) none is = absurd (cc none)
+taken-outs i x outcome None none is = by (will i (received_as None i x.time x.key false)) is
+  where
+    by : (w : Writing) → (ended i (received_as None i x.time x.key false) w).answer ≡ Ok outcome → map out_in (handed_by (Ok outcome)) ≡ x ∷ []
+    by Kept is = ap (λ (a : Result Outcome ReceiveFault). map out_in (handed_by a)) (sym is)
+    by (Failed durable) is = absurd (cc is)
+
+-- what the rest of a state's events come to, where the first has this outcome
+abbrev More : Coming → List (TimedEntry EventBody) → IdealAgent → List (TimedEntry EventBody) → Type 0
+More g es i handed = Contains es g.event → IsNew g handed → TakesOrFull g.event.time g.config handed g.stood i → (merges_events es i).failed ≡ false → Comes g handed (merges_events es i).events
+
+take-next : Below → (g : Coming) (x : TimedEntry EventBody) (es : List (TimedEntry EventBody)) (i : IdealAgent) (handed : List (TimedEntry EventBody)) (clock : ℕ) → IsReady i → IsDurable i → i.snapshot.stopped ≡ false → x.time < 2 ^ 64 - 1 → IsTold x.key
+    → i.events.clock ≤ clock → IsYoung g (rising clock (x ∷ es)) → ((outcome : Outcome) → (planned i (receive_one i x)).answer ≡ Ok outcome → More g es (planned i (receive_one i x)).agent (handed ++ map out_in (handed_by (Ok outcome))))
+    → Contains (x ∷ es) g.event → IsNew g handed → TakesAt g.event.time g.config handed g.stood i → (merges_events (x ∷ es) i).failed ≡ false → Comes g handed (merges_events (x ∷ es) i).events
+take-next lower g x es i handed clock ready d runs small told low young more there new takes failed = by (planned i (receive_one i x)).answer refl failed
+  where
+    j : IdealAgent
+    j = (planned i (receive_one i x)).agent
+
+    rest : List EventOut
+    rest = (merges_events es (planned i (receive_one i x)).agent).events
+
+    call : Call (Result Outcome ReceiveFault)
+    call = receive_one i x
+
+    next : TakesOrFull g.event.time g.config (handed ++ map out_in (handed_by (planned i (receive_one i x)).answer)) g.stood (planned i (receive_one i x)).agent
+    next =
+        lower.keeps.taking.stays g.event.time g.config handed g.stood i (Takes x (will i (receive_one i x))) g.on g.some ready.consistent.sound d takes ((runs, small, may-end i (receive_one i x) ready.consistent.observable), told) tt tt
+
+    all : (outcome : Outcome) → map out_in (handed_by (Ok outcome) ++ rest) ≡ map out_in (handed_by (Ok outcome)) ++ map out_in rest
+    all outcome = map-append out_in (handed_by (Ok outcome)) rest
+
+    here : (outcome : Outcome) → (planned i (receive_one i x)).answer ≡ Ok outcome → x ≡ g.event → Comes g handed (handed_by (Ok outcome) ++ rest)
+    here outcome is same =
+        let time : x.time ≡ g.event.time = ap (λ (y : TimedEntry EventBody). y.time) same in
+        let up = rising-up (observed clock x.time) es in
+        elim (lower.keeps.taking.takes g.event.time g.config handed g.stood i g.event.key ready.consistent.sound takes g.short (omega (arith, young, low, time, up)) new) [
+          | inl none ↦
+              let admitted : admission i x.time x.key ≡ None = subst (λ (y : TimedEntry EventBody). admission i y.time y.key ≡ None) (sym same) none in
+              let first : map out_in (handed_by (Ok outcome)) ≡ x ∷ [] = taken-outs i x outcome (admission i x.time x.key) admitted is in
+              let found : Contains (map out_in (handed_by (Ok outcome))) g.event = subst (λ (l : List (TimedEntry EventBody)). Contains l g.event) (sym first) (0, omega arith, same) in
+              inl (subst (λ (l : List (TimedEntry EventBody)). Contains l g.event) (sym (all outcome)) (Contains-append_left (map out_in (handed_by (Ok outcome))) (map out_in rest) g.event found))
+          | inr full ↦ full-comes g handed (handed_by (Ok outcome) ++ rest) full
+        ]
+
+    later : (outcome : Outcome) → (planned i (receive_one i x)).answer ≡ Ok outcome → x ≢ g.event → (merges_events es (planned i (receive_one i x)).agent).failed ≡ false → Comes g handed (handed_by (Ok outcome) ++ rest)
+    later outcome is differs failed =
+        let outs : List (TimedEntry EventBody) = map out_in (handed_by (Ok outcome)) in
+        let within : Contains es g.event = elim (Contains-append_cases (x ∷ []) es g.event there) [
+          | inl first ↦ absurd (differs (sym (only-in x g.event first)))
+          | inr found ↦ found
+        ] in
+        let those : All (λ y. y ≡ x) (map out_in (handed_by (Ok outcome))) = subst (λ (a : Result Outcome ReceiveFault). All (λ y. y ≡ x) (map out_in (handed_by a))) is (received-outs i x (admission i x.time x.key)) in
+        let goes = subst (λ (a : Result Outcome ReceiveFault). TakesOrFull g.event.time g.config (handed ++ map out_in (handed_by a)) g.stood (planned i (receive_one i x)).agent) is next in
+        elim (more outcome is within (λ met. still outcome those differs met) goes failed) [
+          | inl found ↦ inl (subst (λ (l : List (TimedEntry EventBody)). Contains l g.event) (sym (all outcome)) (Contains-append_right (map out_in (handed_by (Ok outcome))) (map out_in rest) g.event found))
+          | inr full ↦
+              inr (subst (λ (l : List (TimedEntry EventBody)). IsFull g.config.per_time g.event.time l g.stood)
+              (append_assoc handed (map out_in (handed_by (Ok outcome))) (map out_in rest) ∙ ap (λ (l : List (TimedEntry EventBody)). handed ++ l) (sym (all outcome))) full)
+        ]
+      where
+        still : (outcome : Outcome) → All (λ y. y ≡ x) (map out_in (handed_by (Ok outcome))) → x ≢ g.event → IsMet (handed ++ map out_in (handed_by (Ok outcome))) g.stood g.event → ⊥
+        still outcome those differs (inr stood) = new (inr stood)
+        still outcome those differs (inl met) = elim (Contains-append_cases handed (map out_in (handed_by (Ok outcome))) g.event met) [
+          | inl before ↦ new (inl before)
+          | inr now ↦ differs (sym (All-contains (λ (y : TimedEntry EventBody). y ≡ x) (map out_in (handed_by (Ok outcome))) g.event those now))
+        ]
+
+    by : (r : Result Outcome ReceiveFault) → (planned i (receive_one i x)).answer ≡ r → (merges_on (record { agent = (planned i (receive_one i x)).agent; answer = r }) (merges_events es)).failed ≡ false
+        → Comes g handed (merges_on (record { agent = (planned i (receive_one i x)).agent; answer = r }) (merges_events es)).events
+    by (Err fault) is failed = absurd (cc failed)
+    by (Ok outcome) is failed = elim (decide x g.event) [
+      | inl same ↦ here outcome is same
+      | inr differs ↦ later outcome is differs failed
+    ]
+
+merges-take : Below → (g : Coming) (es : List (TimedEntry EventBody)) (i : IdealAgent) (handed : List (TimedEntry EventBody)) (clock : ℕ) → IsReady i → IsDurable i → i.snapshot.stopped ≡ false → AllByRecursion (λ e. e.time < 2 ^ 64 - 1) es → All (λ e. IsTold e.key) es
+    → i.events.clock ≤ clock → IsYoung g (rising clock es) → More g es i handed
+merges-take lower g [] i handed clock ready d runs times told low young there new goes failed = absurd (none-in g.event there)
+merges-take lower g (x ∷ es) i handed clock ready d runs times told low young there new (inr full) failed = full-comes g handed (merges_events (x ∷ es) i).events full
+merges-take lower g (x ∷ es) i handed clock ready d runs times told low young there new (inl takes) failed =
+    let first : IsTold x.key = All-head (λ (e : TimedEntry EventBody). IsTold e.key) x es told in
+    take-next lower g x es i handed clock ready d runs times.0 first low young
+    (λ outcome is. merges-take lower g es (planned i (receive_one i x)).agent (handed ++ map out_in (handed_by (Ok outcome))) (observed clock x.time)
+    (ready-received lower i x.time x.key false (admission i x.time x.key) ready runs times.0 refl) (durable-received lower i x ready d runs times.0 first)
+    (runs-on i x.time x.key false (admission i x.time x.key) outcome runs is) times.1 (All-tail (λ (e : TimedEntry EventBody). IsTold e.key) x es told)
+    (received-low i x.time clock x.key false (admission i x.time x.key) low) young) there new takes failed
+
+-- a merge whose sink doesn't fail
+unfailed : (b : Bool) → hears_of (cond b (lines.Refused refusals.SinkFault) lines.Merged) ≡ true → b ≡ false
+unfailed true hears = absurd (cc hears)
+unfailed false hears = refl
+
+merged-takes : Below → (g : Coming) (m : IdealNode) (join : Bool) (s : PushPull) (handed : List (TimedEntry EventBody)) (clock : ℕ) → IsReady m.agent → IsDurable m.agent → m.agent.snapshot.stopped ≡ false → IsRangedPushPull s → All (λ e. IsTold e.key) (events_of s.slots)
+    → ((join && m.agent.config.ignore_old) ≡ true → s.event_clock ≤ g.event.time) → m.agent.events.clock ≤ clock → IsYoung g (rising (max clock s.event_clock) (events_of s.slots)) → Contains (events_of s.slots) g.event → IsNew g handed
+    → TakesAt g.event.time g.config handed g.stood m.agent
+    → (let o = merges_heard m (events_of s.slots) (planned m.agent (hear m.agent s join)) in hears_of o.done.answer ≡ true → Comes g handed o.done.events)
+merged-takes lower g m join s handed clock ready d runs ranged told least low young there new takes hears =
+    by (planned m.agent (hear m.agent s join)).answer (goes-heard lower (record { time = g.event.time; config = g.config; handed = handed; stood = g.stood; on = g.on; some = g.some }) m.agent s join ready d runs ranged least takes)
+    (durable-heard lower m.agent s join ready d runs ranged) (ready-heard lower m.agent s join ready runs ranged) (λ done says. hears-on m.agent s join done runs says) (heard-low m.agent s join clock low) hears
+  where
+    by : (x : Result (Unit {0}) MergeFault) → TakesOrFull g.event.time g.config handed g.stood (planned m.agent (hear m.agent s join)).agent → IsDurable (planned m.agent (hear m.agent s join)).agent → IsReady (planned m.agent (hear m.agent s join)).agent
+        → ((done : Unit {0}) → x ≡ Ok done → (planned m.agent (hear m.agent s join)).agent.snapshot.stopped ≡ false) → (planned m.agent (hear m.agent s join)).agent.events.clock ≤ max clock s.event_clock
+        → (let o = merges_heard m (events_of s.slots) (record { agent = (planned m.agent (hear m.agent s join)).agent; answer = x }) in hears_of o.done.answer ≡ true → Comes g handed o.done.events)
+    by (Ok done) goes heard is_ready on under hears =
+        let j : IdealAgent = (planned m.agent (hear m.agent s join)).agent in
+        merges-take lower g (events_of s.slots) j handed (max clock s.event_clock) is_ready heard (on done refl) (times-of s.slots ranged.slots) told under young there new goes (unfailed (merges_events (events_of s.slots) j).failed hears)
+    by (Err fault) goes heard is_ready on under hears = absurd (cc hears)
+
+pub merge-takes : Below → (g : Coming) (m : IdealNode) (number : ℕ) (join : Bool) (packet : List ℕ) (handed : List (TimedEntry EventBody)) (clock : ℕ) (f : Option MergeFault) (r : Result Message WireFault) → IsReady m.agent → IsDurable m.agent → All (λ e. IsTold e.key) (events_brought r)
+    → decoded packet ≡ r → merge_refusal m.agent.snapshot r ≡ f → ((s : PushPull) → r ≡ Ok (push_pull s) → (join && m.agent.config.ignore_old) ≡ true → s.event_clock ≤ g.event.time) → m.agent.events.clock ≤ clock → IsYoung g (clock_told clock (acts.Merge number join) r)
+    → Contains (events_brought r) g.event → IsNew g handed → TakesAt g.event.time g.config handed g.stood m.agent → hears_of (merges_as f m join r).done.answer ≡ true → Comes g handed (merges_as f m join r).done.events
+merge-takes lower g m number join packet handed clock None (Ok (push_pull s)) ready d told is refuses least low young there new takes hears =
+    let runs = none-if m.agent.snapshot.stopped merges.Stopped None refuses in
+    merged-takes lower g m join s handed clock ready d runs.0 (lower.in_range packet (push_pull s) is) told (least s refl) low young there new takes hears
+merge-takes lower g m number join packet handed clock (Some fault) r ready d told is refuses least low young there new takes hears = absurd (cc hears)
+merge-takes lower g m number join packet handed clock None _ ready d told is refuses least low young there new takes hears = absurd (cc hears)

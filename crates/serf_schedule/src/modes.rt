@@ -1,0 +1,69 @@
+//! The word MODE of an agent's line.
+
+ghost use Rattle.std.specs.Prelude.{◌≡◌, map};
+ghost use Rattle.serf_text.specs.Gives.{Gives};
+ghost use Rattle.serf_schedule.specs.Line.{mode_in, mode_of};
+ghost use Rattle.serf_schedule.specs.ScheduleText.{mode_word};
+
+use serf_agent::Config;
+use serf_text::{Cause, LineFault, is_word, word_at};
+
+/// What the word MODE of an agent's line says: `ignore` or `keep`, with `+events` after it or without.
+#[derive(Clone, Copy)]
+pub struct Mode {
+    /// Whether the agent ignores old events at a join.
+    pub ignore_old: bool,
+    /// Whether the agent also keeps its events over a restart.
+    pub keep_events: bool,
+}
+
+/// The mode that a word says; `None` for any other word. Takes no memory.
+fn mode_of(word: &[u8]) -> Option<Mode>
+    ensures { result ≡ mode_of word.now }
+{
+    let (ignore_old, keep_events) = if is_word(word, b"keep") {
+        (false, false)
+    } else if is_word(word, b"ignore") {
+        (true, false)
+    } else if is_word(word, b"keep+events") {
+        (false, true)
+    } else if is_word(word, b"ignore+events") {
+        (true, true)
+    } else {
+        return None;
+    };
+    Some(Mode {
+        ignore_old,
+        keep_events,
+    })
+}
+
+/// The mode at a place of a line, counting from 1.
+///
+/// A word that says none, or is missing, is a bad word at this place. Takes no memory.
+#[tactic(auto, unfolding(crate::specs::Line::mode_in))]
+pub(crate) fn mode_at(words: &[&[u8]], place: usize) -> Result<Mode, LineFault>
+    ensures { Gives (λ m. m) result (mode_in place (map (λ w. w.now) words.now)) }
+{
+    match mode_of(word_at(words, place)) {
+        Some(found) => Ok(found),
+        None => Err(LineFault::Bad(Cause::BadWord(place as u64))),
+    }
+}
+
+/// The word that says whether an agent of these settings ignores old events at a join, and keeps its events.
+pub(crate) fn mode_word(config: &Config) -> &'static [u8]
+    ensures { result.now ≡ mode_word config.now }
+{
+    if config.keep_events {
+        if config.ignore_old {
+            b"ignore+events"
+        } else {
+            b"keep+events"
+        }
+    } else if config.ignore_old {
+        b"ignore"
+    } else {
+        b"keep"
+    }
+}

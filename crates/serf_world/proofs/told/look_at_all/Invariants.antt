@@ -1,0 +1,7 @@
+use Rattle.serf_world.proofs.Names.{ℕ, ◌<◌, slice_index_or, Action}
+use Rattle.serf_model.specs.Tails.{BringsTold}
+use Rattle.serf_world.proofs.told.look_at_all.Given as goal
+
+-- what the actions so far bring can be told
+abbrev pub invariant-loop-action : goal.invariant-loop-action
+invariant-loop-action l = (k : ℕ) (d : Action) → k < l.action-index → BringsTold (slice_index_or l.actions k d)

@@ -1,0 +1,74 @@
+//! What the types of an action say of what it brings: its texts are bytes, and its query's ID has 32 bits.
+
+ghost use Rattle.std.specs.Prelude.{All};
+ghost use Rattle.serf_window.specs.Texts.{event_of};
+ghost use Rattle.serf_agent.specs.KeptTexts.{IsIdTold, IsTold};
+ghost use Rattle.serf_model.specs.HandOuts.{events_given};
+ghost use Rattle.serf_model.specs.Tails.{BringsTold, BringsToldBy};
+ghost use Rattle.serf_model.specs.Trace.{events_in_packet, given_by};
+
+use serf_model::{Act, Action, told_packets};
+use serf_wire::Bytes;
+
+/// Texts are bytes. Does nothing.
+fn know_texts(name: &[u8], payload: &[u8])
+    ensures { IsTold (event_of name.now payload.now) }
+{
+    let _name = name;
+    let _payload = payload;
+}
+
+/// An ID has 32 bits. Does nothing.
+fn know_id(id: u32)
+    ensures { IsIdTold id }
+{}
+
+/// The events that a packet carries have texts of bytes. Does nothing.
+pub(crate) fn know_packet(packet: &[u8])
+    ensures { All (λ e. IsTold e.key) (events_in_packet packet.now) }
+{
+    told_packets();
+    let _bytes = packet;
+}
+
+/// Looks at what an act brings, so that contracts know that it can be told in lines. Does nothing.
+fn look_at_act(act: &Act)
+    ensures { BringsToldBy act.now }
+{
+    match act {
+        Act::Fire { name, payload, .. } => know_texts(name.as_slice(), payload.as_slice()),
+        Act::Query(query) => know_id(query.get().id),
+        _ => {}
+    }
+}
+
+/// Looks at what an act brings, and at the packet that it gives, where these were sent. Does nothing.
+pub(crate) fn look_at_given(sent: &[Bytes], act: &Act)
+    ensures brings { BringsToldBy act.now }
+    ensures given { All (λ e. IsTold e.key) (events_given (given_by sent.now act.now)) }
+{
+    look_at_act(act);
+    match act.given(sent) {
+        Some(packet) => know_packet(packet),
+        None => {}
+    }
+}
+
+/// Looks at what an action brings, so that contracts know that it can be told in lines. Does nothing.
+pub fn look_at(action: &Action)
+    ensures { BringsTold action.now }
+{
+    match action {
+        Action::Inject { bytes } => know_packet(bytes.as_slice()),
+        Action::Of { act, .. } => look_at_act(act),
+    }
+}
+
+/// Looks at what all actions bring. Does nothing.
+pub(crate) fn look_at_all(actions: &[Action])
+    ensures { All BringsTold actions.now }
+{
+    for action in actions {
+        look_at(action);
+    }
+}

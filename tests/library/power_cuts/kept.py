@@ -1,0 +1,103 @@
+"""Power cuts of agents that keep their events: what the next life hands out, and what it misses.
+
+A hand-out is a line as a host says it: `e TIME NAME` of an event, `h TIME ID` of a query.
+"""
+
+import re
+
+import scripts
+from scripts import messages
+
+LEAST = re.compile(rb"#least event-clock: ([0-9]+)")
+EVENT = re.compile(rb"#event ([0-9]+) ([0-9a-f]*) ([0-9a-f]*)")
+QUERY = re.compile(rb"#query ([0-9]+) ([0-9]+)")
+
+
+def handed_by(packet):
+    """What a packet, a line of a script, can have an agent hand out."""
+    message = messages.decode(bytes.fromhex(packet.split()[1]))
+    if isinstance(message, messages.UserEvent):
+        return {f"e {message.LTime} {message.Name.hex()}"}
+    if isinstance(message, messages.Query):
+        return {f"h {message.LTime} {message.ID}"}
+    slots = [slot for slot in message.Events if slot is not None]
+    return {f"e {slot.LTime} {event.Name.hex()}" for slot in slots for event in slot.Events}
+
+
+def wanted_of(run):
+    """What all packets of a run bring that no life is to miss: all but what was handed out before its file began."""
+    clocks = scripts.clocks_of(run.text or b"")
+    offered = set().union(*(handed_by(packet) for packet in run.packets()))
+    return frozenset(line for line in offered if int(line.split()[1]) > clocks[line[0]])
+
+
+def noted_in(text):
+    """The events and queries that have whole lines of their own in a text."""
+    found = set()
+    for line in text.split(b"\n")[:-1]:
+        event, query = EVENT.fullmatch(line), QUERY.fullmatch(line)
+        if event:
+            found.add(f"e {int(event[1])} {event[2].decode()}")
+        elif query:
+            found.add(f"h {int(query[1])} {int(query[2])}")
+    return found
+
+
+def least_in(text):
+    """The least time of events that a text's `#least` lines say; 0 where there is none."""
+    found = [LEAST.fullmatch(line) for line in text.split(b"\n")[:-1]]
+    return max((int(line[1]) for line in found if line), default=0)
+
+
+def is_taken(line, least):
+    """Whether a hand-out may come where no event below this time is taken."""
+    return line[0] != "e" or int(line.split()[1]) >= least
+
+
+def has_own_line(said, text):
+    """Whether the hand-out that a host says has its line in a text."""
+    return said in noted_in(text)
+
+
+class Missed:
+    """What lives behind cuts didn't hand out, though nobody did: what was in flight, its line whole and no handler run; and
+    all else."""
+
+    def __init__(self):
+        self.openings = self.in_flight = self.openings_with_flight = self.others = 0
+
+    def note(self, text, before, wanted, again):
+        """Notes an opening on a text behind which everything was offered again. Gives what it missed, but for what was in flight, and for
+        what a join had refused."""
+        least = least_in(text)
+        missed = {line for line in wanted - before - again if is_taken(line, least)}
+        flight = noted_in(text) & missed
+        self.openings += 1
+        self.in_flight += len(flight)
+        self.openings_with_flight += bool(flight)
+        self.others += len(missed - flight)
+        return missed - flight
+
+    def add(self, other):
+        for name, value in vars(other).items():
+            setattr(self, name, getattr(self, name) + value)
+
+    def said(self):
+        return (
+            f"{self.openings:,} openings: {self.in_flight:,} missed in flight, in {self.openings_with_flight:,} of them; "
+            f"{self.others:,} others missed"
+        )
+
+
+def of_opening(seen, text, before, wanted, again, missed, least):
+    """What an agent that keeps its events does wrong on a text that a cut left. least: the least time that joins had set."""
+    if least_in(text) < least:
+        seen.wrong(f"it was left {text!r}, and a join set the least time {least}")
+    old = [line for line in again if not is_taken(line, least)]
+    if old:
+        seen.wrong(f"it was left {text!r}, and hands out {sorted(old)[:3]}; a join set the least time {least}")
+    others = missed.note(text, before, wanted, again)
+    if others:
+        seen.wrong(f"it was left {text!r}, and misses {sorted(others)[:3]}")
+    if noted_in(text) & again:
+        seen.wrong(f"it was left {text!r}, and hands out {sorted(noted_in(text) & again)[:3]}, which it has in it")

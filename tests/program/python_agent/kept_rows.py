@@ -1,0 +1,119 @@
+"""Worked rows of agents that keep their events, run on the agent in Python: those of tests/rows whose names begin with `keeps_`.
+
+Beside these, NAME.calls is a dialogue of the pipe: each call, its reply, and a full stop.
+"""
+
+import os
+
+from serf_agent.pipe import Pipe
+
+HERE = os.path.dirname(os.path.abspath(__file__))
+DIALOGUES = os.path.join(HERE, "rows")
+ROWS = os.path.join(HERE, "..", "..", "rows")
+
+# Where the number of a packet stands in an action's words.
+GIVEN = {"deliver": 2, "merge": 2}
+
+
+class Cluster:
+    """Agents behind the pipe, the packets that they sent, and the trace."""
+
+    def __init__(self, agents):
+        self.packets, self.number, self.trace = [], 0, []
+        self.pipes = [opened(words) for words in agents]
+
+    def act(self, words):
+        self.number += 1
+        if words[0] == "inject":
+            self.tell(None, ["injected", f"sent {words[1]}"])
+            return
+        given = words[2:]
+        if words[0] in GIVEN:
+            given[0] = self.packets[int(given[0])]
+        reply = self.pipes[int(words[1])].reply(" ".join([words[0], *given]).encode("ascii"))
+        self.tell(int(words[1]), [line for line in reply if not line.startswith("counted ")])
+
+    def tell(self, agent, lines):
+        """Puts an action's lines into the trace: there a packet has its number, and a hand-out its agent."""
+        for line in lines:
+            first, _, rest = line.partition(" ")
+            if first == "sent":
+                line = f"sent {len(self.packets)} {rest}"
+                self.packets.append(rest)
+            elif first in ("event", "handed"):
+                line = f"{first} {agent} {rest}"
+            self.trace.append(f"{self.number} {line}")
+
+
+def opened(words):
+    """An agent behind the pipe, by the words of its line."""
+    pipe = Pipe()
+    pipe.reply(" ".join(["open", *words[:6], *(words[6:] or ["1024"]), "-"]).encode("ascii"))
+    return pipe
+
+
+def trace_of(schedule):
+    """The lines of a schedule's trace."""
+    lines = [line.split() for line in schedule.splitlines() if line.strip() and not line.startswith("#")]
+    cluster = Cluster([words[1:] for words in lines if words[0] == "agent"])
+    for words in lines:
+        if words[0] != "agent":
+            cluster.act(words)
+    return cluster.trace
+
+
+def is_kept(fact, trace):
+    if fact.startswith("="):
+        number, count = fact[1:].split()
+        return sum(line.split(" ")[0] == number for line in trace) == int(count)
+    return fact in trace
+
+
+def dialogue(text):
+    """The calls of a dialogue, each with its reply."""
+    found, lines = [], []
+    for line in text.splitlines():
+        if line == ".":
+            found.append((lines[0], lines[1:]))
+            lines = []
+        elif not line.startswith("#"):
+            lines.append(line)
+    return found
+
+
+def unlike(text):
+    """Where a dialogue differs, or None."""
+    pipe = Pipe()
+    for call, wanted in dialogue(text):
+        got = pipe.reply(call.encode("ascii"))
+        if got != wanted:
+            return f"{call}: wanted {wanted}, got {got}"
+    return None
+
+
+def text_of(name, ending):
+    """The text of a row's file, or None where it has no such file."""
+    path = os.path.join(DIALOGUES if ending == "calls" else ROWS, f"{name}.{ending}")
+    if not os.path.exists(path):
+        return None
+    with open(path, encoding="ascii") as file:
+        return file.read()
+
+
+def fault_of(name):
+    """What differs in a row, or None."""
+    calls = text_of(name, "calls")
+    if calls is not None:
+        return unlike(calls) if dialogue(calls) else "there are no calls"
+    trace, whole, facts = trace_of(text_of(name, "schedule")), text_of(name, "trace"), text_of(name, "lines")
+    if whole is not None:
+        return None if trace == whole.splitlines() else f"the trace differs: {trace}"
+    if not facts:
+        return "there are no facts"
+    missing = [fact for fact in facts.splitlines() if not is_kept(fact, trace)]
+    return f"{missing} in {trace}" if missing else None
+
+
+def names():
+    rows = [name for name in os.listdir(ROWS) if name.startswith("keeps_") and name.endswith(".schedule")]
+    return sorted(name.rpartition(".")[0] for name in [*rows, *os.listdir(DIALOGUES)])
