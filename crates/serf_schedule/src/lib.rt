@@ -18,7 +18,9 @@ mod written_lines;
 mod written_words;
 
 pub use command::{Command, Verb, command_in};
-pub use laws::{comments_skipped, lines_grow, lines_stay, sized_schedules, text_reads_back, told_schedules};
+pub use laws::{
+    comments_skipped, lines_grow, lines_stay, sized_schedules, text_reads_back, told_schedules,
+};
 pub use parse::{ScheduleFault, fault_at, parse_schedule, read_line, read_schedule_line};
 pub use replay_fault::ReplayFault;
 pub use sayable::{has_byte_name, is_sayable};
