@@ -10,6 +10,9 @@ edits of its crate are. tools/edit_checks.py says how edits are tried, and what 
 --list prints each edit with the functions that it turns, and tries none. --control makes the same checks without the
 edits: each function that an edit turns has to be proved there. --over-ci takes the libraries that `rt ci` left, as the
 gate does; without it they are built first. --anew tries all. --write writes what was found to tests/refused.
+
+Status 0 where each edit is refused, 1 where one isn't or an edit can't be read, 2 for an option that is none of these or
+a crate without edits, and 3 where the toolchain isn't there.
 """
 
 import os
@@ -31,6 +34,8 @@ import evidence
 import libraries
 import reach
 import toolchain
+
+OPTIONS = ("--list", "--control", "--over-ci", "--anew", "--write")
 
 # How many crates are tried side by side: a check takes one processor, and up to 3 GB.
 LANES = min(os.cpu_count() or 1, 5)
@@ -179,6 +184,11 @@ def unbuilt(crates, over_ci):
 
 def main(words):
     names = [word for word in words if not word.startswith("--")]
+    unknown = [word for word in words if word.startswith("--") and word not in OPTIONS]
+    unknown += [name for name in names if not os.path.isdir(os.path.join(TOP, "crates", name, "mutants"))]
+    if unknown:
+        print(__doc__.strip(), file=sys.stderr)
+        return 2
     rt = toolchain.load()
     if rt is None:
         print("mutants: rt, the command of the Rattle toolchain, is not on PATH\n0 passed, 1 failed")

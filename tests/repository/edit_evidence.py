@@ -5,6 +5,7 @@ of them are harmless.
 """
 
 import os
+import subprocess
 import sys
 import tempfile
 
@@ -281,6 +282,14 @@ def kinds(count):
     count.check("a twin's texts", twin.twin().pairs[0][2] == "if a == 0 { add(a, a) } else { add(a, a) }")
 
 
+def words(count):
+    """A word that tools/mutants.py doesn't know is told, and nothing is tried."""
+    tool = os.path.join(checks.TOP, "tools", "mutants.py")
+    for word in ("--help", "--overci", "serf_nothing"):
+        ran = subprocess.run([sys.executable, tool, word], stdout=subprocess.PIPE, stderr=subprocess.PIPE, text=True, timeout=checks.LIMIT)
+        count.check(f"mutants.py {word}", ran.returncode == 2 and not ran.stdout and "[CRATE..]" in ran.stderr, ran)
+
+
 def of_edits(count):
     with tempfile.TemporaryDirectory(prefix="evidence-") as room:
         repository(room)
@@ -288,6 +297,7 @@ def of_edits(count):
         kinds(count)
         believed(count, room)
         drawn_share(count)
+    words(count)
 
 
 if __name__ == "__main__":
