@@ -184,9 +184,16 @@ func (n *Node) settleConflict() error {
 		return nil
 	}
 	answers, matching := 0, 0
-	for answer := range asked.Answers {
+	for more := true; more; {
+		var answer rpc.Answer
+		select {
+		case <-n.ctx.Done():
+			// (the node ends, so nothing closes the query)
+			return nil
+		case answer, more = <-asked.Answers:
+		}
 		addr, port, err := wire.ReadMember(answer.Payload)
-		if answer.IsAck || err != nil || len(addr) == 0 {
+		if !more || answer.IsAck || err != nil || len(addr) == 0 {
 			continue
 		}
 		answers++

@@ -363,6 +363,27 @@ func TestWhoHasAName(t *testing.T) {
 	}
 }
 
+// A node that is to end while the others are asked who has its name doesn't wait for what they say.
+func TestEndsWhileItsNameIsAskedFor(t *testing.T) {
+	a, _ := pair(t)
+	a.NotifyConflict(a.List().LocalNode(), &memberlist.Node{Name: "a", Addr: []byte{127, 9, 9, 9}, Port: 1})
+	eventually(t, "the others are asked", func() bool {
+		a.order.Lock()
+		defer a.order.Unlock()
+		return len(a.open) == 1
+	})
+	ended := make(chan error, 1)
+	go func() { ended <- a.Shutdown() }()
+	select {
+	case err := <-ended:
+		if err != nil {
+			t.Error(err)
+		}
+	case <-time.After(20 * time.Second):
+		t.Fatal("it goes on")
+	}
+}
+
 // The second node of a name ends, and the first stays.
 func TestTwoNodesOfOneName(t *testing.T) {
 	a, b := pair(t)

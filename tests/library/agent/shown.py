@@ -100,11 +100,18 @@ class Stage:
         named = re.search(r"-node (\S+)", text)
         name = named[1] if named else next(it for it in NAMES if it not in self.names)
         if name in self.names:
-            agent = self.agents[self.names.index(name)]
-            agent.terminate()
-            agent.wait()
+            at = self.names.index(name)
+            self.agents[at].terminate()
+            self.agents[at].wait()
+            # (its place stays, since addresses go by it)
+            self.names[at] = None
         self.names.append(name)
         return name
+
+    def has_started(self, command):
+        """Whether an agent of the name in this line was started before."""
+        named = re.search(r"-node (\S+)", command.text)
+        return named is not None and named[1] in self.names
 
     def start(self, command):
         """Starts an agent as its line says, and waits until it takes requests."""
@@ -194,15 +201,14 @@ def try_pages(count, library, folder):
                 package(stage, command)
             elif command.text.startswith("serf "):
                 serf(stage, command)
-            elif "-record " in command.text:
-                # (web1 is started anew: its event goes round before)
-                handled_once(stage)
-                stage.start(command)
-                record = os.path.join(stage.state, "record")
-                count.check("its record", until(lambda: stage.text_of(record).startswith("#")), stage.text_of(record)[:300])
             elif command.text.startswith("kitchenrue-agent "):
-                # AGENT.md's agent joins the one of README
+                # AGENT.md's agent joins the one of README; where it is started anew, its event goes round before
+                if stage.has_started(command):
+                    handled_once(stage)
                 stage.start(command)
+                if "-record " in command.text:
+                    record = os.path.join(stage.state, "record")
+                    count.check("its record", until(lambda: stage.text_of(record).startswith("#")), stage.text_of(record)[:300])
         handled_once(stage)
     finally:
         stage.end()
