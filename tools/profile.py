@@ -68,8 +68,32 @@ def crate_of(name):
     return crate, [*rt.rtlib.guarded(), rt.rtlib.RATTLE]
 
 
+def children_of(pid):
+    """The processes that a process has started, of which none has ended yet."""
+    found = []
+    for task in os.listdir(f"/proc/{pid}/task"):
+        try:
+            with open(f"/proc/{pid}/task/{task}/children", encoding="utf-8") as file:
+                found += file.read().split()
+        except OSError:
+            continue
+    return found
+
+
+def used_below(pid):
+    """What a process has used, and all that it started. A large crate's functions are checked by copies of the process."""
+    _, used = costs.stat_of(pid)
+    for child in children_of(pid):
+        try:
+            used += used_below(child)
+        except (OSError, IndexError):
+            # (it has ended meanwhile, and the next look has it)
+            continue
+    return used
+
+
 class Meter:
-    """How much of the processor a process had used at each time, by looks at it until it ends."""
+    """How much of the processor a process and its copies had used at each time, by looks at them until it ends."""
 
     def __init__(self, process):
         self.times, self.used = [time.time()], [0.0]
@@ -79,9 +103,10 @@ class Meter:
     def look_on(self, pid):
         try:
             while True:
-                _, used = costs.stat_of(pid)
+                used = used_below(pid)
                 self.times.append(time.time())
-                self.used.append(used)
+                # (a copy that ends between two readings of one look is missing in that look)
+                self.used.append(max(used, self.used[-1]))
                 time.sleep(PERIOD_SECONDS)
         except (OSError, IndexError):
             return
