@@ -9,8 +9,7 @@ use Rattle.serf_snap.specs.declared.kind.ClockKind.TheVariants as kinds
 use Rattle.serf_snap.specs.Clocks.{sealed}
 use Rattle.serf_snap.specs.Device.{Observable}
 use Rattle.serf_snap.specs.EventLines.{events_in, least_in, queries_in, query_line}
-use Rattle.serf_snap.specs.KeptNotes.{MayReplaceBy, text_replaced}
-use Rattle.serf_snap.specs.Notes.{AreTimes, compaction_of, with_line}
+use Rattle.serf_snap.specs.Notes.{AreTimes, MayReplaceBy, compaction_of, text_replaced, with_line}
 use Rattle.serf_snap.specs.TimedEvent.{TimedEvent}
 use Rattle.serf_agent.specs.Events.{event_entered, texts_len, told_event}
 use Rattle.serf_agent.specs.Ideal.{IdealAgent, Past, with_snapshot}

@@ -5,7 +5,8 @@ use Rattle.serf_window.specs.Laws.{SlotLaws}
 use Rattle.serf_snap.specs.declared.kind.ClockKind.TheVariants as kinds
 use Rattle.serf_snap.specs.Clocks.{is_whole, line_above_zero, sealed}
 use Rattle.serf_snap.specs.EventLines.{event_line, kept_clock_line, least_in, least_line, query_line}
-use Rattle.serf_snap.specs.KeptNotes.{MayReplaceBy, SaysNoClock, kept_bytes, kept_compaction_of, kept_line_above_zero, text_replaced}
+use Rattle.serf_snap.specs.Notes.{MayReplaceBy, text_replaced}
+use Rattle.serf_snap.specs.KeptNotes.{SaysNoClock, kept_bytes, kept_compaction_of, kept_line_above_zero}
 use Rattle.serf_agent.specs.declared.config.Config.{Config}
 use Rattle.serf_agent.specs.Calls.{AsksSink, MayEnd, ended}
 use Rattle.serf_agent.specs.Events.{event_entered, told_event}

@@ -4,7 +4,8 @@ use Rattle.std.proofs.lemmas.List.Elements.{All-append}
 use Rattle.serf_snap.specs.declared.kind.ClockKind.TheVariants as kinds
 use Rattle.serf_snap.specs.Clocks.{sealed}
 use Rattle.serf_snap.specs.EventLines.{least_in, least_line}
-use Rattle.serf_snap.specs.KeptNotes.{MayReplaceBy, kept_bytes, kept_compaction_of, text_replaced}
+use Rattle.serf_snap.specs.Notes.{MayReplaceBy, text_replaced}
+use Rattle.serf_snap.specs.KeptNotes.{kept_bytes, kept_compaction_of}
 use Rattle.serf_agent.specs.declared.open_query.OpenQuery.{OpenQuery}
 use Rattle.serf_agent.specs.declared.outcome.FireFault.{FireFault}
 use Rattle.serf_agent.specs.declared.outcome.QueryFault.{QueryFault}

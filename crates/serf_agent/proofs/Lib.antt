@@ -10,6 +10,7 @@ pub mod RecallViews
 pub mod ToldLines
 pub mod SoundLaws
 pub mod StepLaws
+pub mod TakenPackets
 pub mod TakenQueries
 pub mod TrackLaws
 pub mod ViewLaws

@@ -1,12 +1,11 @@
 -- How the calls end that only note or replace.
-use Rattle.serf_agent.proofs.Names.{◌≡◌, ◌≢◌, ◌↔◌, ℕ, ◌-◌, ◌^◌, ◌<◌, ◌≤◌, Bool, true, false, cond, IsTrue, List, None, Result, Ok, Err, OnOk, IsErrOf, refl, sym, ap, subst, ◌∙◌, arith, NoteFault, clock_line, Device, appended, flushed, replaced, SnapshotView, SnapshotState, Kept, Failed, noted, written, MayWrite}
+use Rattle.serf_agent.proofs.Names.{◌≡◌, ◌≢◌, ◌↔◌, ℕ, ◌-◌, ◌^◌, ◌<◌, Bool, true, false, cond, IsTrue, List, None, Result, Ok, Err, OnOk, refl, sym, ap, subst, ◌∙◌, arith, NoteFault, clock_line, Device, replaced, SnapshotView, SnapshotState, Kept, Failed, noted, written, MayWrite}
 use Rattle.serf_snap.specs.declared.kind.ClockKind.TheVariants as kinds
 use Rattle.serf_snap.specs.declared.snapshot.NoteFault.TheVariants as notes
 use Rattle.serf_snap.specs.Device.{replace_called}
-use Rattle.serf_snap.specs.KeptNotes.{MayReplaceBy, text_replaced}
 use Rattle.serf_agent.specs.Snapshots.{SnapshotLaws}
 use Rattle.serf_agent.specs.Calls.{Call, Notes, Replaces, answers}
-use Rattle.serf_agent.specs.Devices.{FailsLine, FailsText}
+use Rattle.serf_snap.specs.Ends.{FailsLine, NotesTime, ReplacesText}
 use Rattle.serf_agent.specs.Ideal.{IdealAgent}
 use Rattle.serf_agent.specs.Sound.{IsSound}
 use Rattle.serf_agent.specs.States.{compact, save, told_lines}
@@ -26,38 +25,24 @@ runs-by false r when other = refl
 abbrev pub agent_with : SnapshotState → ConcreteState → AgentState
 agent_with s concrete = record { concrete = concrete_with s.snapshot concrete; device = s.device }
 
--- what a note of the member clock gives, over a device
-pub record IsNoted (t : ℕ) (old : SnapshotView) (device : Device) (new : SnapshotState) (r : Result (Unit {0}) NoteFault) : Type 0 where
-  pub stopped : (r ≡ Err notes.Stopped) ↔ IsTrue old.stopped
-  pub ok : OnOk r (new.snapshot ≡ noted kinds.Member t old Kept)
-  pub ok_allowed : OnOk r (old.member_clock < t → MayWrite old (clock_line kinds.Member t) Kept)
-  pub ok_device : OnOk r (old.member_clock < t → new.device ≡ flushed (appended (clock_line kinds.Member t) device))
-  pub none : old.stopped ≡ false → t ≤ old.member_clock → new.device ≡ device
-  pub fault : IsErrOf r notes.SinkFault → new.snapshot ≡ written kinds.Member t old (Failed new.snapshot.durable)
-  pub fault_allowed : IsErrOf r notes.SinkFault → MayWrite old (clock_line kinds.Member t) (Failed new.snapshot.durable)
-  pub fault_above : IsErrOf r notes.SinkFault → old.member_clock < t
-  pub fault_device : IsErrOf r notes.SinkFault → FailsLine device new.device (clock_line kinds.Member t)
-  pub stays : IsErrOf r notes.Stopped → new.snapshot ≡ old
-  pub stays_device : IsErrOf r notes.Stopped → new.device ≡ device
-
 -- a note of the member clock, and a compaction, by whether the agent is stopped
 abbrev pub saves_so : IdealAgent → Bool → Call (Result (Unit {0}) NoteFault)
 saves_so i b = cond b (answers i (Err notes.Stopped)) (Notes kinds.Member (i.member_clock - 1) None (record { agent = i; answer = Ok tt }) (Err notes.SinkFault))
 
-pub steps-save : SnapshotLaws → (i : IdealAgent) (t : ℕ) (old : Device) (new : SnapshotState) (r : Result (Unit {0}) NoteFault) → IsSound i → t ≡ i.member_clock - 1 → IsNoted t i.snapshot old new r → r ≢ Err notes.OutOfMemory → Steps i (save i) r old (agent_with new (view_of i))
+pub steps-save : SnapshotLaws → (i : IdealAgent) (t : ℕ) (old : Device) (new : SnapshotState) (r : Result (Unit {0}) NoteFault) → IsSound i → t ≡ i.member_clock - 1 → NotesTime kinds.Member t (record { snapshot = i.snapshot; device = old }) new r → r ≢ Err notes.OutOfMemory → Steps i (save i) r old (agent_with new (view_of i))
 steps-save snapshots i t old new (Ok done) sound is n other =
     let runs = runs-by i.snapshot.stopped (Ok done) n.stopped (λ q. cc) in
     let small : i.member_clock - 1 < 2 ^ 64 - 1 = omega (arith, sound.member_clock) in
     let may = subst (λ (u : ℕ). i.snapshot.member_clock < u → MayWrite i.snapshot (clock_line kinds.Member u) Kept) is n.ok_allowed in
     let same = n.ok ∙ ap (λ (u : ℕ). noted kinds.Member u i.snapshot Kept) is in
-    let device : new.device ≡ device_noted kinds.Member (i.member_clock - 1) None i.snapshot old = device-noted kinds.Member t i.snapshot old new.device (n.none runs) n.ok_device ∙ ap (λ (u : ℕ). device_noted kinds.Member u None i.snapshot old) is in
+    let device : new.device ≡ device_noted kinds.Member (i.member_clock - 1) None i.snapshot old = device-noted kinds.Member t i.snapshot old new.device (λ low. ap (λ (s : SnapshotState). s.device) (n.none runs low).1) n.ok_device ∙ ap (λ (u : ℕ). device_noted kinds.Member u None i.snapshot old) is in
     let kept : Steps i (saves_so i false) (Ok done) old (agent_with new (view_of i)) =
     steps-kept i kinds.Member (i.member_clock - 1) None _ _ (Ok done) old _ (may-kept kinds.Member (i.member_clock - 1) i.snapshot may) refl (ap (λ (s : SnapshotView). concrete_with s (view_of i)) same) (sound-saved snapshots (i.member_clock - 1) i sound runs small) device in
     subst (λ (b : Bool). Steps i (saves_so i b) (Ok done) old (agent_with new (view_of i))) (sym runs) kept
 steps-save snapshots i t old new (Err notes.Stopped) sound is n other =
     let stopped : i.snapshot.stopped ≡ true = n.stopped.0 refl in
     subst (λ (b : Bool). Steps i (saves_so i b) (Err notes.Stopped) old (agent_with new (view_of i))) (sym stopped)
-    (steps-answers i (Err notes.Stopped) (Err notes.Stopped) old _ sound refl (ap (λ (s : SnapshotView). concrete_with s (view_of i)) (n.stays refl)) (n.stays_device refl))
+    (steps-answers i (Err notes.Stopped) (Err notes.Stopped) old _ sound refl (ap (λ (s : SnapshotState). concrete_with s.snapshot (view_of i)) (n.stays refl)) (ap (λ (s : SnapshotState). s.device) (n.stays refl)))
 steps-save snapshots i t old new (Err notes.OutOfMemory) sound is n other = absurd (other refl)
 steps-save snapshots i t old new (Err notes.SinkFault) sound is n other =
     let runs = runs-by i.snapshot.stopped (Err notes.SinkFault) n.stopped (λ q. cc) in
@@ -69,18 +54,6 @@ steps-save snapshots i t old new (Err notes.SinkFault) sound is n other =
     steps-failed snapshots i kinds.Member (i.member_clock - 1) None _ _ (Err notes.SinkFault) old _ new.snapshot.durable sound (may-failed kinds.Member (i.member_clock - 1) i.snapshot new.snapshot.durable above may) refl (ap (λ (s : SnapshotView). concrete_with s (view_of i)) same) device in
     subst (λ (b : Bool). Steps i (saves_so i b) (Err notes.SinkFault) old (agent_with new (view_of i))) (sym runs) failed
 
--- what a compaction gives that leaves this text, over a device
-pub record IsCompacted (text : List ℕ) (old : SnapshotView) (device : Device) (new : SnapshotState) (r : Result (Unit {0}) NoteFault) : Type 0 where
-  pub stopped : (r ≡ Err notes.Stopped) ↔ IsTrue old.stopped
-  pub ok : OnOk r (new.snapshot ≡ text_replaced text old Kept)
-  pub ok_allowed : OnOk r (MayReplaceBy text old Kept)
-  pub ok_device : OnOk r (new.device ≡ replaced text device)
-  pub fault : IsErrOf r notes.SinkFault → new.snapshot ≡ text_replaced text old (Failed new.snapshot.durable)
-  pub fault_allowed : IsErrOf r notes.SinkFault → MayReplaceBy text old (Failed new.snapshot.durable)
-  pub fault_device : IsErrOf r notes.SinkFault → FailsText device new.device text
-  pub stays : IsErrOf r notes.Stopped → new.snapshot ≡ old
-  pub stays_device : IsErrOf r notes.Stopped → new.device ≡ device
-
 -- the text of an agent's compaction
 abbrev pub text_of : IdealAgent → List ℕ
 text_of i = text_with (told_lines (view_of i)) i.snapshot
@@ -88,7 +61,7 @@ text_of i = text_with (told_lines (view_of i)) i.snapshot
 abbrev pub compacts_so : IdealAgent → Bool → Call (Result (Unit {0}) NoteFault)
 compacts_so i b = cond b (answers i (Err notes.Stopped)) (Replaces (told_lines (view_of i)) (record { agent = i; answer = Ok tt }) (Err notes.SinkFault))
 
-pub steps-compact : SnapshotLaws → (i : IdealAgent) (old : Device) (new : SnapshotState) (r : Result (Unit {0}) NoteFault) → IsSound i → IsCompacted (text_of i) i.snapshot old new r → r ≢ Err notes.OutOfMemory → Steps i (compact i) r old (agent_with new (view_of i))
+pub steps-compact : SnapshotLaws → (i : IdealAgent) (old : Device) (new : SnapshotState) (r : Result (Unit {0}) NoteFault) → IsSound i → ReplacesText (text_of i) (record { snapshot = i.snapshot; device = old }) new r → r ≢ Err notes.OutOfMemory → Steps i (compact i) r old (agent_with new (view_of i))
 steps-compact snapshots i old new (Ok done) sound n other =
     let runs = runs-by i.snapshot.stopped (Ok done) n.stopped (λ q. cc) in
     let kept : Steps i (compacts_so i false) (Ok done) old (agent_with new (view_of i)) =
@@ -97,7 +70,7 @@ steps-compact snapshots i old new (Ok done) sound n other =
 steps-compact snapshots i old new (Err notes.Stopped) sound n other =
     let stopped : i.snapshot.stopped ≡ true = n.stopped.0 refl in
     subst (λ (b : Bool). Steps i (compacts_so i b) (Err notes.Stopped) old (agent_with new (view_of i))) (sym stopped)
-    (steps-answers i (Err notes.Stopped) (Err notes.Stopped) old _ sound refl (ap (λ (s : SnapshotView). concrete_with s (view_of i)) (n.stays refl)) (n.stays_device refl))
+    (steps-answers i (Err notes.Stopped) (Err notes.Stopped) old _ sound refl (ap (λ (s : SnapshotState). concrete_with s.snapshot (view_of i)) (n.stays refl)) (ap (λ (s : SnapshotState). s.device) (n.stays refl)))
 steps-compact snapshots i old new (Err notes.OutOfMemory) sound n other = absurd (other refl)
 steps-compact snapshots i old new (Err notes.SinkFault) sound n other =
     let runs = runs-by i.snapshot.stopped (Err notes.SinkFault) n.stopped (λ q. cc) in

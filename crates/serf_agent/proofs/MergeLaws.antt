@@ -9,7 +9,8 @@ use Rattle.serf_agent.specs.declared.outcome.MergeFault.TheVariants as merges
 use Rattle.serf_agent.specs.declared.outcome.Reason.{Reason}
 use Rattle.serf_agent.specs.declared.outcome.ReceiveFault.TheVariants.{SinkFault}
 use Rattle.serf_agent.specs.Calls.{MayEnd, AsksSink, ended}
-use Rattle.serf_agent.specs.Devices.{FailsLine, device_after}
+use Rattle.serf_snap.specs.Ends.{FailsLine}
+use Rattle.serf_agent.specs.Devices.{device_after}
 use Rattle.serf_agent.specs.Events.{admission, event_entered, event_observed, event_out, received_as, told_event}
 use Rattle.serf_agent.specs.Faults.{merge_fault_of}
 use Rattle.serf_agent.specs.Ideal.{IdealAgent, with_snapshot}

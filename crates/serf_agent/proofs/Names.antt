@@ -1,5 +1,5 @@
 -- What the proofs of this crate use of other crates.
-pub use Rattle.std.proofs.Common.{Bool, Err, IfSome, IsErrOf, IsOk, IsSomeAnd, IsTrue, List, MatchBool, None, Ok, OnErr, OnOk, Option, Result, Some}
+pub use Rattle.std.proofs.Common.{Bool, Err, IfSome, IsOk, IsSomeAnd, IsTrue, List, MatchBool, None, Ok, OnErr, OnOk, Option, Result, Some}
 pub use Rattle.std.proofs.Common.{[], ap, append-nil, append_assoc, arith, cond, drop, false, filter, get_or, inl, inr, length, length-append, map, max}
 pub use Rattle.std.proofs.Common.{min, nat_eq, nat_le, nat_lt, not, refl, rules, subst, suc, sym, take, true, zero, ℕ, ◌%◌, ◌&&◌, ◌++◌, ◌+◌, ◌-◌, ◌<◌}
 pub use Rattle.std.proofs.Common.{◌==◌, ◌^◌, ◌||◌, ◌↔◌, ◌∙◌, ◌∷◌, ◌≡◌, ◌≢◌, ◌≤◌, ◌⊎◌}
@@ -14,7 +14,7 @@ pub use Rattle.std.proofs.lemmas.List.Kept.{AllPairs-filter}
 pub use Rattle.std.proofs.lemmas.List.Quantifiers.{all_pairs_push}
 pub use Rattle.std.proofs.lemmas.Option.{get_or_from_slice_get, slice_get_cases, slice_get-map, slice_get_within}
 pub use Rattle.std.proofs.lemmas.Slice.Eq.{bytes_eq-Decides}
-pub use Rattle.std.specs.List.{flat_map, list_any, range_with_len, slice_get}
+pub use Rattle.std.specs.List.{flat_map, list_any, slice_get}
 pub use Rattle.std.specs.Map.{lookup, set_value}
 pub use Rattle.std.specs.Option.{option_copied, option_copied_mut, option_map}
 pub use Rattle.std.specs.Prelude.{All, AllPairs}
@@ -27,7 +27,7 @@ pub use Rattle.serf_lamport.specs.Clock.{observed}
 pub use Rattle.serf_pack.specs.Canonical.{raw_bytes, raw_head}
 pub use Rattle.serf_snap.specs.Clocks.{clock_line, last_clock}
 pub use Rattle.serf_snap.specs.Device.{Device, appended, flushed, replaced}
-pub use Rattle.serf_snap.specs.Notes.{Failed, KeepsEither, KeepsPart, Kept, MayReplace, MayWrite, SnapshotState, SnapshotView, Writing, compacted}
+pub use Rattle.serf_snap.specs.Notes.{Failed, KeepsEither, KeepsPart, Kept, MayWrite, SnapshotState, SnapshotView, Writing}
 pub use Rattle.serf_snap.specs.Notes.{compaction_of, last_line, noted, opened, written}
 pub use Rattle.serf_snap.specs.declared.kind.ClockKind.{ClockKind}
 pub use Rattle.serf_snap.specs.declared.snapshot.NoteFault.{NoteFault}
@@ -38,7 +38,7 @@ pub use Rattle.serf_window.specs.Window.{SlotOf, TimedEntry, TimesBelow, WindowO
 pub use Rattle.serf_window.specs.Window.{was_entered}
 pub use Rattle.serf_window.specs.declared.verdict.Verdict.{Verdict}
 pub use Rattle.serf_wire.specs.Buffers.{slots_lent}
-pub use Rattle.serf_wire.specs.Canonical.{is_long, list_bytes}
+pub use Rattle.serf_wire.specs.Canonical.{is_long}
 unfoldable pub use Rattle.serf_wire.specs.Canonical.{canonical, has_long}
 pub use Rattle.serf_wire.specs.Decoded.{decoded}
 pub use Rattle.serf_wire.specs.Lists.{events_left, slot_of_view, slots_left, status_of, texts_left}

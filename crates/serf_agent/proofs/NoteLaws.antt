@@ -1,9 +1,9 @@
 -- What a note's answer says of the sink's choice.
-use Rattle.serf_agent.proofs.Names.{◌≡◌, ℕ, ◌<◌, ◌≤◌, ◌↔◌, nat_le, inl, inr, Bool, true, false, MatchBool, IsTrue, List, Option, Some, None, refl, sym, subst, ap, ◌∙◌, cases_Bool, leb-false, leb-true, lt-leb, ClockKind, clock_line, Device, appended, flushed, Result, Ok, Err, OnOk, IsErrOf, NoteFault, SnapshotState, SnapshotView, Kept, Failed, last_line, noted, MayWrite, written, true≢false}
+use Rattle.serf_agent.proofs.Names.{◌≡◌, ℕ, ◌<◌, ◌≤◌, max, nat_le, inl, inr, Bool, true, false, MatchBool, List, Option, Some, None, refl, sym, subst, ap, ◌∙◌, cases_Bool, leb-false, leb-true, lt-leb, ClockKind, clock_line, Device, appended, flushed, Result, Ok, Err, NoteFault, SnapshotState, SnapshotView, Kept, Failed, last_line, MayWrite, written, true≢false}
 use Rattle.serf_snap.specs.declared.snapshot.NoteFault.TheVariants as notes
 use Rattle.serf_snap.specs.Device.{HasFailed}
-use Rattle.serf_snap.specs.KeptNotes.{kept_bytes, kept_noted}
-use Rattle.serf_agent.specs.Devices.{FailsLine}
+use Rattle.serf_snap.specs.KeptNotes.{kept_bytes}
+use Rattle.serf_snap.specs.Ends.{FailsLine, NotesTime, WritesBytes}
 use Rattle.serf_agent.specs.Steps.{EndsNote, EndsWrite, FailsNote, HasNoted, HasWritten, WritesLine}
 use Rattle.serf_agent.specs.Told.{MayNote, bytes_with, device_noted, noted_with}
 use Rattle.serf_agent.specs.View.{AgentState, concrete_with}
@@ -32,42 +32,14 @@ device-noted kind t s old new none due = elim (cases_Bool (nat_le t (last_line k
 
 -- ---- a note of a snapshot
 
--- what a note gives that has no line of its own
-pub record IsClockNoted (kind : ClockKind) (t : ℕ) (old new : SnapshotState) (r : Result (Unit {0}) NoteFault) : Type 0 where
-  pub stopped : (r ≡ Err notes.Stopped) ↔ IsTrue old.snapshot.stopped
-  pub none : old.snapshot.stopped ≡ false → t ≤ last_line kind old.snapshot → new ≡ old
-  pub ok : OnOk r (new.snapshot ≡ noted kind t old.snapshot Kept)
-  pub ok_allowed : OnOk r (last_line kind old.snapshot < t → MayWrite old.snapshot (clock_line kind t) Kept)
-  pub ok_device : OnOk r (last_line kind old.snapshot < t → new.device ≡ flushed (appended (clock_line kind t) old.device))
-  pub fault : IsErrOf r notes.SinkFault → new.snapshot ≡ written kind t old.snapshot (Failed new.snapshot.durable)
-  pub fault_allowed : IsErrOf r notes.SinkFault → MayWrite old.snapshot (clock_line kind t) (Failed new.snapshot.durable)
-  pub fault_above : IsErrOf r notes.SinkFault → last_line kind old.snapshot < t
-  pub fault_device : IsErrOf r notes.SinkFault → FailsLine old.device new.device (clock_line kind t)
-  pub fault_cause : IsErrOf r notes.SinkFault → HasFailed old.device.failures new.device.failures
-  pub memory : IsErrOf r notes.OutOfMemory → new ≡ old
-  pub calm : OnOk r (new.device.failures ≡ old.device.failures)
-
--- and one that has
-pub record IsLineNoted (kind : ClockKind) (t : ℕ) (line : List ℕ) (old new : SnapshotState) (r : Result (Unit {0}) NoteFault) : Type 0 where
-  pub stopped : (r ≡ Err notes.Stopped) ↔ IsTrue old.snapshot.stopped
-  pub ok : OnOk r (new.snapshot ≡ kept_noted kind t line old.snapshot Kept)
-  pub ok_allowed : OnOk r (MayWrite old.snapshot (kept_bytes kind t line (last_line kind old.snapshot)) Kept)
-  pub ok_device : OnOk r (new.device ≡ flushed (appended (kept_bytes kind t line (last_line kind old.snapshot)) old.device))
-  pub fault : IsErrOf r notes.SinkFault → new.snapshot ≡ kept_noted kind t line old.snapshot (Failed new.snapshot.durable)
-  pub fault_allowed : IsErrOf r notes.SinkFault → MayWrite old.snapshot (kept_bytes kind t line (last_line kind old.snapshot)) (Failed new.snapshot.durable)
-  pub fault_device : IsErrOf r notes.SinkFault → FailsLine old.device new.device (kept_bytes kind t line (last_line kind old.snapshot))
-  pub fault_cause : IsErrOf r notes.SinkFault → HasFailed old.device.failures new.device.failures
-  pub memory : IsErrOf r notes.OutOfMemory → new ≡ old
-  pub calm : OnOk r (new.device.failures ≡ old.device.failures)
-
 never-stopped : (s : SnapshotState) → s.snapshot.stopped ≡ true → s.snapshot.stopped ≡ false → ⊥
 never-stopped s stopped runs = true≢false (sym stopped ∙ runs)
 
-pub writes-clock : (kind : ClockKind) (t : ℕ) (old new : SnapshotState) (r : Result (Unit {0}) NoteFault) → old.snapshot.stopped ≡ false → IsClockNoted kind t old new r → WritesLine kind t None old new r
+pub writes-clock : (kind : ClockKind) (t : ℕ) (old new : SnapshotState) (r : Result (Unit {0}) NoteFault) → old.snapshot.stopped ≡ false → NotesTime kind t old new r → WritesLine kind t None old new r
 writes-clock kind t old new (Ok done) runs n = record {
   snapshot = n.ok;
   allowed = may-kept kind t old.snapshot n.ok_allowed;
-  device = device-noted kind t old.snapshot old.device new.device (λ low. ap (λ (s : SnapshotState). s.device) (n.none runs low)) n.ok_device;
+  device = device-noted kind t old.snapshot old.device new.device (λ low. ap (λ (s : SnapshotState). s.device) (n.none runs low).1) n.ok_device;
   runs = ap (λ (s : SnapshotView). s.stopped) n.ok ∙ stopped-noted kind t None old.snapshot ∙ runs;
   calm = n.calm;
 }
@@ -80,7 +52,7 @@ writes-clock kind t old new (Err notes.SinkFault) runs n = record {
   cause = n.fault_cause refl;
 }
 
-pub writes-line : (kind : ClockKind) (t : ℕ) (line : List ℕ) (old new : SnapshotState) (r : Result (Unit {0}) NoteFault) → old.snapshot.stopped ≡ false → IsLineNoted kind t line old new r → WritesLine kind t (Some line) old new r
+pub writes-line : (kind : ClockKind) (t : ℕ) (line : List ℕ) (old new : SnapshotState) (r : Result (Unit {0}) NoteFault) → old.snapshot.stopped ≡ false → WritesBytes kind (max (last_line kind old.snapshot) t) (kept_bytes kind t line (last_line kind old.snapshot)) old new r → WritesLine kind t (Some line) old new r
 writes-line kind t line old new (Ok done) runs n = record { snapshot = n.ok; allowed = n.ok_allowed; device = n.ok_device; runs = ap (λ (s : SnapshotView). s.stopped) n.ok ∙ runs; calm = n.calm }
 writes-line kind t line old new (Err notes.Stopped) runs n = never-stopped old (n.stopped.0 refl) runs
 writes-line kind t line old new (Err notes.OutOfMemory) runs n = n.memory refl

@@ -1,8 +1,8 @@
 -- Each change of a sound agent leaves a sound agent.
 use Rattle.serf_agent.proofs.Names.{◌≡◌, ◌≢◌, ℕ, ◌+◌, ◌-◌, ◌^◌, ◌<◌, ◌≤◌, ◌==◌, ◌&&◌, nat_lt, nat_le, nat_eq, max, not, cond, Bool, true, false, List, [], ◌∷◌, ◌++◌, Option, Some, None, MatchBool, refl, sym, subst, arith, inl, inr, All, AllPairs, cases_Bool, leb-true, leb-false, and_from, eq-eqb, All-nil, All-push, All-weaker, All-filter, AllPairs-filter, all_pairs_push, bytes_eq-Decides, EventBody, TimedEntry, PushPull, Query, QueryResponse, same_texts, same_id, ClockKind, clock_line, last_clock, Device, SnapshotView, Writing, Kept, Failed, last_line, noted, written, KeepsPart, MayWrite, opened, ltb-false}
 use Rattle.serf_snap.specs.declared.kind.ClockKind.TheVariants as kinds
-use Rattle.serf_snap.specs.KeptNotes.{MayReplaceBy, SaysNoClock, kept_noted, text_replaced}
-use Rattle.serf_snap.specs.Notes.{IsSnapshotSound}
+use Rattle.serf_snap.specs.KeptNotes.{SaysNoClock, kept_noted}
+use Rattle.serf_snap.specs.Notes.{IsSnapshotSound, MayReplaceBy, text_replaced}
 use Rattle.std.specs.Prelude.{◌⊎◌, Contains}
 use Rattle.serf_snap.specs.EventLines.{least_in, least_line, query_line}
 use Rattle.serf_agent.specs.KeptLines.{held_from, least_told, lines_told, stored_lines}

@@ -17,7 +17,7 @@ use Rattle.serf_agent.specs.declared.outcome.Reason.{Reason}
 use Rattle.serf_agent.specs.declared.outcome.ReceiveFault.{ReceiveFault}
 use Rattle.serf_agent.specs.declared.outcome.ReceiveFault.TheVariants.{SinkFault, Stopped}
 use Rattle.serf_agent.specs.Calls.{Ends, Notes, Step, answers}
-use Rattle.serf_agent.specs.Devices.{FailsLine}
+use Rattle.serf_snap.specs.Ends.{FailsLine}
 use Rattle.serf_agent.specs.Events.{admission, event_observed, event_entered, event_out, event_packet, received_as, receive_event, fire_fault, fired_as, fire, texts_len, told_event, is_too_large, drawn}
 use Rattle.serf_agent.specs.declared.open_query.OpenQuery.{OpenQuery}
 use Rattle.serf_agent.specs.Receive.{receive_read, receive_tagged}

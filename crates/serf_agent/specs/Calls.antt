@@ -2,8 +2,7 @@
 -- and then the sink's choice decides.
 use Rattle.std.specs.Prelude.{◌≡◌, ℕ, List, Option}
 use Rattle.serf_snap.specs.declared.kind.ClockKind.{ClockKind}
-use Rattle.serf_snap.specs.KeptNotes.{MayReplaceBy, text_replaced}
-use Rattle.serf_snap.specs.Notes.{Writing, Kept, Failed, written}
+use Rattle.serf_snap.specs.Notes.{Failed, Kept, MayReplaceBy, Writing, text_replaced, written}
 use Rattle.serf_agent.specs.Ideal.{IdealAgent, with_snapshot}
 use Rattle.serf_agent.specs.Told.{MayNote, noted_with, text_with, will_note, will_replace_with}
 

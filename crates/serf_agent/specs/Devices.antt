@@ -1,24 +1,12 @@
 -- What a call does to the device that keeps the agent's clock lines, whatever the device shows of its bytes
 -- (`snapshot.go`, `appendLine`; Serf flushes at intervals, here each line is flushed by itself).
-use Rattle.std.specs.Prelude.{◌≡◌, ℕ, List}
-use Rattle.std.specs.Option.{option_map}
-use Rattle.serf_snap.specs.Device.{Device, Fails, FailsReplace, replace_called, replace_decremented, replaced}
-use Rattle.serf_snap.specs.Notes.{Writing, Kept, Failed, HasTriedNote, note_decremented}
+use Rattle.std.specs.Prelude.{◌≡◌}
+use Rattle.serf_snap.specs.Device.{Device, replaced}
+use Rattle.serf_snap.specs.Ends.{FailsLine, FailsText}
+use Rattle.serf_snap.specs.Notes.{Writing, Kept, Failed}
 use Rattle.serf_agent.specs.Calls.{Call, Ends, Notes, Replaces}
 use Rattle.serf_agent.specs.Ideal.{IdealAgent}
 use Rattle.serf_agent.specs.Told.{bytes_with, device_noted, text_with}
-
--- the device failed when bytes were appended and flushed, each once at most
-pub record FailsLine (old new : Device) (line : List ℕ) : Type 0 where
-  pub fails : Fails old new line
-  pub called : HasTriedNote old.calls new.calls
-  pub plan : new.plan ≡ option_map note_decremented old.plan
-
--- the device failed when its text was replaced by this one
-pub record FailsText (old new : Device) (text : List ℕ) : Type 0 where
-  pub fails : FailsReplace old new text
-  pub called : new.calls ≡ replace_called old.calls
-  pub plan : new.plan ≡ option_map replace_decremented old.plan
 
 -- the device after a call in which it didn't fail: a call that ends at once leaves it as it was
 abbrev pub device_after : {R : Type 0} → IdealAgent → Call R → Device → Device

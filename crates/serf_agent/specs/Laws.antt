@@ -7,8 +7,7 @@ use Rattle.serf_wire.specs.Message.{PushPull, Query, query, response_of, user_ev
 use Rattle.serf_snap.specs.declared.kind.ClockKind.{ClockKind}
 use Rattle.serf_snap.specs.declared.kind.ClockKind.TheVariants as kinds
 use Rattle.serf_snap.specs.Device.{Device}
-use Rattle.serf_snap.specs.KeptNotes.{MayReplaceBy, text_replaced}
-use Rattle.serf_snap.specs.Notes.{Writing, Kept, Failed, noted, opened, written}
+use Rattle.serf_snap.specs.Notes.{Failed, Kept, MayReplaceBy, Writing, noted, opened, text_replaced, written}
 use Rattle.serf_agent.specs.Calls.{ended}
 use Rattle.serf_agent.specs.Config.{greatest_packet_limit, is_sound, longest_texts}
 use Rattle.serf_agent.specs.declared.config.Config.{Config}

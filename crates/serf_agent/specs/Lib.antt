@@ -14,6 +14,7 @@ pub mod States
 pub mod Queries
 pub mod Receive
 pub mod Answers
+pub mod TakesPacket
 pub mod Restart
 pub mod Lives
 pub mod Reasons

@@ -5,8 +5,8 @@ use Rattle.serf_lamport.specs.Clock.{greatest_clock}
 use Rattle.serf_snap.specs.declared.kind.ClockKind.{ClockKind}
 use Rattle.serf_snap.specs.Device.{Device}
 use Rattle.serf_snap.specs.EventLines.{event_line, least_line, query_line}
-use Rattle.serf_snap.specs.KeptNotes.{SaysNoClock, kept_compaction_of, kept_noted as kept_note, text_replaced}
-use Rattle.serf_snap.specs.Notes.{Failed, IsSnapshotSound, Kept, KeepsEither, KeepsPart, SnapshotView, compacted as compaction, compaction_of, noted as note, opened as opening, written}
+use Rattle.serf_snap.specs.KeptNotes.{SaysNoClock, kept_compaction_of, kept_noted as kept_note}
+use Rattle.serf_snap.specs.Notes.{Failed, IsSnapshotSound, KeepsEither, KeepsPart, Kept, SnapshotView, compacted as compaction, compaction_of, noted as note, opened as opening, text_replaced, written}
 
 pub record SnapshotLaws : Type 0 where
   pub opened : (text : List ℕ) (d : Device) → IsSnapshotSound (opening text d)

@@ -1,16 +1,16 @@
 -- What the contract of a call says.
-use Rattle.std.specs.Prelude.{◌≡◌, ◌↔◌, ◌⊎◌, ℕ, false, IsErrOf, IsTrue, List, OnOk, Option, Result, Ok, Err}
+use Rattle.std.specs.Prelude.{◌≡◌, ℕ, false, List, Option, Result, Ok, Err}
 use Rattle.serf_snap.specs.declared.kind.ClockKind.{ClockKind}
 use Rattle.serf_snap.specs.declared.snapshot.NoteFault.{NoteFault}
 use Rattle.serf_snap.specs.declared.snapshot.NoteFault.TheVariants as notes
-use Rattle.serf_snap.specs.Device.{Device, HasFailed, replaced, unreplaced}
-use Rattle.serf_snap.specs.KeptNotes.{MayReplaceBy, text_replaced}
-use Rattle.serf_snap.specs.Notes.{SnapshotState, Writing, Kept, Failed, written}
+use Rattle.serf_snap.specs.Device.{Device, HasFailed}
+use Rattle.serf_snap.specs.Notes.{Failed, Kept, SnapshotState, Writing, written}
 use Rattle.serf_agent.specs.Ideal.{IdealAgent}
 use Rattle.serf_agent.specs.Calls.{Call, MayEnd, ended}
-use Rattle.serf_agent.specs.Devices.{FailsLine, FailsText, LeavesDevice}
+use Rattle.serf_snap.specs.Ends.{FailsLine}
+use Rattle.serf_agent.specs.Devices.{LeavesDevice}
 use Rattle.serf_agent.specs.Sound.{IsSound}
-use Rattle.serf_agent.specs.Told.{MayNote, bytes_with, device_noted, noted_with, text_with}
+use Rattle.serf_agent.specs.Told.{MayNote, bytes_with, device_noted, noted_with}
 use Rattle.serf_agent.specs.View.{AgentState, concrete_with, view_of}
 
 -- The call did what the ideal agent does, with a choice that its sink may take: it answered what the ideal agent
@@ -49,21 +49,6 @@ EndsWrite kind time line old new notes.Stopped = ⊥
 abbrev pub WritesLine : {T : Type 0} → ClockKind → ℕ → Option (List ℕ) → SnapshotState → SnapshotState → Result T NoteFault → Type 0
 WritesLine kind time line old new (Ok done) = HasWritten kind time line old new
 WritesLine kind time line old new (Err fault) = EndsWrite kind time line old new fault
-
--- What is left of a snapshot and its device where its text is replaced, which keeps these lines where there are some: the text is
--- the new one, or the device failed, or there was no memory.
-pub record Replaced (lines : Option (List ℕ)) (old new : SnapshotState) (r : Result (Unit {0}) NoteFault) : Type 0 where
-  pub stopped : (r ≡ Err notes.Stopped) ↔ IsTrue old.snapshot.stopped
-  pub ok : OnOk r (new.snapshot ≡ text_replaced (text_with lines old.snapshot) old.snapshot Kept)
-  pub ok_allowed : OnOk r (MayReplaceBy (text_with lines old.snapshot) old.snapshot Kept)
-  pub ok_device : OnOk r (new.device ≡ replaced (text_with lines old.snapshot) old.device)
-  pub fault : IsErrOf r notes.SinkFault → new.snapshot ≡ text_replaced (text_with lines old.snapshot) old.snapshot (Failed new.snapshot.durable)
-  pub fault_allowed : IsErrOf r notes.SinkFault → MayReplaceBy (text_with lines old.snapshot) old.snapshot (Failed new.snapshot.durable)
-  pub fault_device : IsErrOf r notes.SinkFault → FailsText old.device new.device (text_with lines old.snapshot)
-  pub fault_cause : IsErrOf r notes.SinkFault → HasFailed old.device.failures new.device.failures
-  pub stays : IsErrOf r notes.Stopped → new ≡ old
-  pub memory : IsErrOf r notes.OutOfMemory → new.snapshot ≡ old.snapshot
-  pub memory_device : IsErrOf r notes.OutOfMemory → (new.device ≡ old.device) ⊎ (new.device ≡ unreplaced old.device)
 
 -- What is left of an agent and its device where a time of a kind is so noted before anything else is done.
 pub record HasNoted (kind : ClockKind) (time : ℕ) (line : Option (List ℕ)) (old new : AgentState) : Type 0 where

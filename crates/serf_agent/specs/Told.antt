@@ -1,11 +1,11 @@
 -- The lines that a note or a compaction writes beside the clock lines, where it has some: an agent that keeps its events writes
 -- them, every other agent writes none.
-use Rattle.std.specs.Prelude.{◌≡◌, ℕ, ◌==◌, nat_le, if◌then◌else◌, List, MatchBool, Option, Some, None}
+use Rattle.std.specs.Prelude.{◌≡◌, ℕ, nat_le, if◌then◌else◌, List, MatchBool, Option, Some, None}
 use Rattle.serf_snap.specs.declared.kind.ClockKind.{ClockKind}
 use Rattle.serf_snap.specs.Clocks.{clock_line}
-use Rattle.serf_snap.specs.Device.{Device, FailurePlan, appended, flushed}
+use Rattle.serf_snap.specs.Device.{Device, appended, flushed}
 use Rattle.serf_snap.specs.KeptNotes.{SaysNoClock, kept_bytes, kept_compaction_of, kept_noted}
-use Rattle.serf_snap.specs.Notes.{SnapshotView, Writing, Kept, Failed, MayWrite, compaction_of, durable_left_by, last_line, noted, will_replace, will_write}
+use Rattle.serf_snap.specs.Notes.{SnapshotView, Writing, Kept, MayWrite, compaction_of, last_line, noted, will_put, will_write}
 
 -- the snapshot after a note of a time, with a line of its own where it has one
 abbrev pub noted_with : ClockKind → ℕ → Option (List ℕ) → SnapshotView → Writing → SnapshotView
@@ -39,14 +39,9 @@ abbrev pub text_with : Option (List ℕ) → SnapshotView → List ℕ
 text_with None s = compaction_of s
 text_with (Some lines) s = kept_compaction_of lines s
 
--- what a sink with a plan does with this text
-abbrev pub will_put : List ℕ → SnapshotView → Option FailurePlan → Writing
-will_put text s None = Kept
-will_put text s (Some p) = if p.replaces == 1 then Failed (durable_left_by p text s.durable) else Kept
-
+-- what a sink with a plan does with it
 abbrev pub will_replace_with : Option (List ℕ) → SnapshotView → Writing
-will_replace_with None s = will_replace s
-will_replace_with (Some lines) s = will_put (kept_compaction_of lines s) s s.plan
+will_replace_with lines s = will_put (text_with lines s) s s.plan
 
 -- the lines say no clock
 abbrev pub AreQuiet : Option (List ℕ) → Type 0

@@ -1,23 +1,22 @@
 //! User events: firing them, and taking those that come.
 
-ghost use Rattle.std.specs.Prelude.{◌≡◌, ◌≢◌, ◌<◌, ◌≤◌, ◌+◌, ◌-◌, false, List, None, length, Err, OnOk, OnErr, IfOk, IsErrOf, Ok};
+ghost use Rattle.std.specs.Prelude.{◌≡◌, ◌≢◌, ◌<◌, ◌≤◌, ◌+◌, false, None, length, Err, OnOk, OnErr, IfOk, IsErrOf};
 ghost use Rattle.serf_lamport.specs.Clock.{greatest_clock};
-ghost use Rattle.serf_wire.specs.Canonical.{canonical};
-ghost use Rattle.serf_wire.specs.Message.{user_event_of};
 ghost use Rattle.serf_window.specs.Texts.{event_of};
 ghost use Rattle.serf_window.specs.Window.{count_in, time_in};
 ghost use Rattle.serf_snap.specs.declared.kind.ClockKind.TheVariants as kinds;
 ghost use Rattle.serf_snap.specs.Device.{HasFailed};
-ghost use Rattle.serf_snap.specs.Notes.{Kept, Failed, written};
+ghost use Rattle.serf_snap.specs.Notes.{Kept};
 ghost use Rattle.serf_agent.specs.Calls.{AsksSink};
 ghost use Rattle.serf_agent.specs.Config.{longest_texts};
-ghost use Rattle.serf_agent.specs.Devices.{FailsLine};
-ghost use Rattle.serf_agent.specs.Events.{admission, drawn, event_entered, event_out, event_packet, fire, is_too_large, receive_event, told_event};
+ghost use Rattle.serf_snap.specs.Ends.{FailsLine};
+ghost use Rattle.serf_agent.specs.Events.{admission, event_entered, event_out, event_packet, fire, is_too_large, receive_event, told_event};
 ghost use Rattle.serf_agent.specs.Ideal.{IdealAgent, with_snapshot};
 ghost use Rattle.serf_agent.specs.Sound.{IsSound};
+ghost use Rattle.serf_agent.specs.TakesPacket.{TakesPacket};
 ghost use Rattle.serf_agent.specs.Steps.{NotesLine, Steps};
-ghost use Rattle.serf_agent.specs.Told.{MayNote, bytes_with, device_noted, noted_with};
-ghost use Rattle.serf_agent.specs.View.{concrete_with, view_of};
+ghost use Rattle.serf_agent.specs.Told.{bytes_with, device_noted, noted_with};
+ghost use Rattle.serf_agent.specs.View.{view_of};
 
 use crate::agent::Agent;
 use crate::config::LONGEST_TEXTS;
@@ -170,18 +169,8 @@ impl<S: Sink> Agent<S> {
         coalesce: bool,
     ) -> Result<Outcome, ReceiveFault>
         requires { self.old.concrete.snapshot.stopped ≡ false }
-        ensures step { (i : IdealAgent) → IsSound i → self.old.concrete ≡ view_of i
-            → result ≢ Err ReceiveFault.OutOfMemory
-            → Steps i (receive_event i time (event_of name.now payload.now) coalesce)
-            result self.old.device self.new }
-        ensures only_new { (i : IdealAgent) → IsSound i → self.old.concrete ≡ view_of i
-            → IsErrOf result ReceiveFault.OutOfMemory
-            → AsksSink (receive_event i time (event_of name.now payload.now) coalesce) }
-        ensures memory { IsErrOf result ReceiveFault.OutOfMemory → self.new ≡ self.old }
-        ensures refused { OnErr result (result ≢ Err ReceiveFault.SinkFault → self.new ≡ self.old) }
-        ensures cause { IsErrOf result ReceiveFault.SinkFault
-            → HasFailed self.old.device.failures self.new.device.failures }
-        ensures no_answer { (result ≢ Ok Outcome.Ack) × (result ≢ Ok Outcome.Response) }
+        ensures { TakesPacket (λ i. receive_event i time (event_of name.now payload.now) coalesce)
+            None self.old self.new result }
     {
         sound_snapshots();
         match self.admission(time, name, payload) {

@@ -1,7 +1,9 @@
 //! Clock lines, and the lines of what is kept beside them.
 
 ghost use Rattle.std.specs.Prelude.{◌≡◌, false};
-ghost use Rattle.serf_agent.specs.Steps.{Replaced, WritesLine};
+ghost use Rattle.serf_snap.specs.Ends.{ReplacesText};
+ghost use Rattle.serf_agent.specs.Steps.{WritesLine};
+ghost use Rattle.serf_agent.specs.Told.{text_with};
 
 use serf_lamport::Time;
 use serf_snap::{ClockKind, NoteFault, ReplaceSink, Sink, Snapshot};
@@ -31,7 +33,8 @@ pub(crate) fn replace_lines<S: ReplaceSink>(
     alloc: Global,
     lines: &Option<Bytes>,
 ) -> Result<(), NoteFault>
-    ensures { Replaced lines.now snapshot.old snapshot.new result }
+    ensures { ReplacesText (text_with lines.now snapshot.old.snapshot) snapshot.old snapshot.new
+        result }
 {
     match lines {
         Some(lines) => snapshot.compact_with(alloc, lines.as_slice()),

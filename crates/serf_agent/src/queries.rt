@@ -1,25 +1,21 @@
 //! Queries: taking those that come, and counting what is answered.
 
-ghost use Rattle.std.specs.Prelude.{◌≡◌, ◌≢◌, ◌<◌, ◌≤◌, false, true, if◌then◌else◌, ◌&&◌, None, Some, [], filter, length, not, Ok, Err, OnOk, OnErr, IfOk, IsOk, IsErrOf};
+ghost use Rattle.std.specs.Prelude.{◌≡◌, ◌<◌, ◌≤◌, false, true, if◌then◌else◌, ◌&&◌, None, Some, [], filter, not, OnOk, OnErr, IfOk, IsOk};
 ghost use Rattle.serf_lamport.specs.Clock.{greatest_clock};
 ghost use Rattle.serf_wire.specs.Lists.{texts_left};
 ghost use Rattle.serf_wire.specs.Message.{query_said, query_with, response_said};
 ghost use Rattle.serf_wire.specs.Passes.{passes_of};
 ghost use Rattle.serf_window.specs.Window.{count_in, time_in};
 ghost use Rattle.serf_snap.specs.declared.kind.ClockKind.TheVariants as kinds;
-ghost use Rattle.serf_snap.specs.Device.{HasFailed};
-ghost use Rattle.serf_snap.specs.Notes.{Kept, Failed, written};
-ghost use Rattle.serf_agent.specs.Answers.{Counts};
-ghost use Rattle.serf_agent.specs.Calls.{AsksSink};
+ghost use Rattle.serf_snap.specs.Notes.{Kept};
 ghost use Rattle.serf_agent.specs.Config.{is_sound};
-ghost use Rattle.serf_agent.specs.Devices.{FailsLine};
 ghost use Rattle.serf_agent.specs.Ideal.{IdealAgent, with_snapshot};
 ghost use Rattle.serf_agent.specs.Queries.{ack_packet, all_pass, close_due, counted_as, handed_query, has_flag, is_ack, is_due, is_tag_filter, query_admission, query_entered, receive_query, receive_response, told_query};
-ghost use Rattle.serf_agent.specs.Receive.{TakesMemory};
 ghost use Rattle.serf_agent.specs.Sound.{IsSound};
-ghost use Rattle.serf_agent.specs.Steps.{NotesLine, Steps};
-ghost use Rattle.serf_agent.specs.Told.{MayNote, bytes_with, device_noted, noted_with};
-ghost use Rattle.serf_agent.specs.View.{concrete_with, view_of};
+ghost use Rattle.serf_agent.specs.TakesPacket.{TakesPacket};
+ghost use Rattle.serf_agent.specs.Steps.{NotesLine};
+ghost use Rattle.serf_agent.specs.Told.{noted_with};
+ghost use Rattle.serf_agent.specs.View.{view_of};
 
 use crate::agent::Agent;
 use crate::answer::is_ack;
@@ -135,18 +131,8 @@ impl<S: Sink> Agent<S> {
         tags_pass: bool,
     ) -> Result<Outcome, ReceiveFault>
         requires { self.old.concrete.snapshot.stopped ≡ false }
-        ensures step { (i : IdealAgent) → IsSound i → self.old.concrete ≡ view_of i
-            → result ≢ Err ReceiveFault.OutOfMemory
-            → Steps i (receive_query tags_pass i now (query_said query.now))
-            result self.old.device self.new }
-        ensures only_new { (i : IdealAgent) → IsSound i → self.old.concrete ≡ view_of i
-            → IsErrOf result ReceiveFault.OutOfMemory
-            → AsksSink (receive_query tags_pass i now (query_said query.now)) }
-        ensures memory { IsErrOf result ReceiveFault.OutOfMemory → self.new ≡ self.old }
-        ensures refused { OnErr result (result ≢ Err ReceiveFault.SinkFault → self.new ≡ self.old) }
-        ensures cause { IsErrOf result ReceiveFault.SinkFault
-            → HasFailed self.old.device.failures self.new.device.failures }
-        ensures no_answer { (result ≢ Ok Outcome.Ack) × (result ≢ Ok Outcome.Response) }
+        ensures { TakesPacket (λ i. receive_query tags_pass i now (query_said query.now)) None
+            self.old self.new result }
     {
         sound_snapshots();
         match self.query_admission(query.time, query.id) {
@@ -241,22 +227,8 @@ impl<S: Sink> Agent<S> {
         now: u64,
         answer: &QueryResponse,
     ) -> Result<Outcome, ReceiveFault>
-        ensures step { (i : IdealAgent) → IsSound i → self.old.concrete ≡ view_of i
-            → result ≢ Err ReceiveFault.OutOfMemory
-            → Steps i (receive_response i now (response_said answer.now))
-            result self.old.device self.new }
-        ensures only_counted { (i : IdealAgent) → IsSound i → self.old.concrete ≡ view_of i
-            → IsErrOf result ReceiveFault.OutOfMemory
-            → TakesMemory (receive_response i now (response_said answer.now)) }
-        ensures memory { IsErrOf result ReceiveFault.OutOfMemory → self.new ≡ self.old }
-        ensures refused { OnErr result (result ≢ Err ReceiveFault.SinkFault → self.new ≡ self.old) }
-        ensures no_fault { result ≢ Err ReceiveFault.SinkFault }
-        ensures ack { result ≡ Ok Outcome.Ack
-            → (is_ack (response_said answer.now) ≡ true)
-            × Counts (response_said answer.now) self.old.concrete.asked self.new.concrete.asked }
-        ensures response { result ≡ Ok Outcome.Response
-            → (is_ack (response_said answer.now) ≡ false)
-            × Counts (response_said answer.now) self.old.concrete.asked self.new.concrete.asked }
+        ensures { TakesPacket (λ i. receive_response i now (response_said answer.now))
+            (Some (response_said answer.now)) self.old self.new result }
     {
         let Some(query) = self.asked.get(answer.time) else {
             return Ok(Outcome::Ignored(Reason::NotOpen));

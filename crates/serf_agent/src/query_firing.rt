@@ -9,7 +9,7 @@ ghost use Rattle.serf_snap.specs.Device.{HasFailed};
 ghost use Rattle.serf_snap.specs.Notes.{Kept, Failed, written};
 ghost use Rattle.serf_agent.specs.Calls.{AsksSink};
 ghost use Rattle.serf_agent.specs.Config.{greatest_packet_limit, is_sound};
-ghost use Rattle.serf_agent.specs.Devices.{FailsLine};
+ghost use Rattle.serf_snap.specs.Ends.{FailsLine};
 ghost use Rattle.serf_agent.specs.Ideal.{IdealAgent, with_asked, with_snapshot};
 ghost use Rattle.serf_agent.specs.Queries.{all_pass, fire_query, fired_query, has_flag, is_no_timeout, is_too_large_query, opened_query, query_asked, query_at, query_entered, told_query};
 ghost use Rattle.serf_agent.specs.Sound.{IsSound};

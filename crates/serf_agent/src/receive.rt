@@ -1,14 +1,10 @@
 //! Packets that come.
 
-ghost use Rattle.std.specs.Prelude.{◌≡◌, ◌≢◌, false, true, Ok, Err, OnErr, IsErrOf};
+ghost use Rattle.std.specs.Prelude.{◌≡◌, false};
 ghost use Rattle.serf_wire.specs.Message.{message_of};
-ghost use Rattle.serf_snap.specs.Device.{HasFailed};
-ghost use Rattle.serf_agent.specs.Answers.{CountsAnswer, answer_in, answer_of};
-ghost use Rattle.serf_agent.specs.Ideal.{IdealAgent};
-ghost use Rattle.serf_agent.specs.Receive.{TakesMemory, receive, receive_message, receive_tagged};
-ghost use Rattle.serf_agent.specs.Sound.{IsSound};
-ghost use Rattle.serf_agent.specs.Steps.{Steps};
-ghost use Rattle.serf_agent.specs.View.{view_of};
+ghost use Rattle.serf_agent.specs.Answers.{answer_in, answer_of};
+ghost use Rattle.serf_agent.specs.Receive.{receive, receive_message, receive_tagged};
+ghost use Rattle.serf_agent.specs.TakesPacket.{TakesPacket};
 
 use crate::agent::Agent;
 use crate::outcome::{Outcome, ReceiveFault};
@@ -34,25 +30,8 @@ impl<S: Sink> Agent<S> {
         now: u64,
         packet: &[u8],
     ) -> Result<Outcome, ReceiveFault>
-        ensures step { (i : IdealAgent) → IsSound i → self.old.concrete ≡ view_of i
-            → result ≢ Err ReceiveFault.OutOfMemory
-            → Steps i (receive i now packet.now) result self.old.device self.new }
-
-        // Memory is wanted only where an event or a query is new, or an answer is counted; its want changes nothing.
-        ensures only_new { (i : IdealAgent) → IsSound i → self.old.concrete ≡ view_of i
-            → IsErrOf result ReceiveFault.OutOfMemory → TakesMemory (receive i now packet.now) }
-        ensures memory { IsErrOf result ReceiveFault.OutOfMemory → self.new ≡ self.old }
-        ensures refused { OnErr result (result ≢ Err ReceiveFault.SinkFault → self.new ≡ self.old) }
-        ensures cause { IsErrOf result ReceiveFault.SinkFault
-            → HasFailed self.old.device.failures self.new.device.failures }
-
-        // What was counted is just the answer that the packet is, which [`answer_in`](crate::answer_in) lends.
-        ensures ack { result ≡ Ok Outcome.Ack
-            → CountsAnswer true (answer_in packet.now)
-            self.old.concrete.asked self.new.concrete.asked }
-        ensures response { result ≡ Ok Outcome.Response
-            → CountsAnswer false (answer_in packet.now)
-            self.old.concrete.asked self.new.concrete.asked }
+        ensures { TakesPacket (λ i. receive i now packet.now) (answer_in packet.now)
+            self.old self.new result }
     {
         self.receive_tagged(alloc, now, packet, false)
     }
@@ -71,26 +50,8 @@ impl<S: Sink> Agent<S> {
         packet: &[u8],
         tags_pass: bool,
     ) -> Result<Outcome, ReceiveFault>
-        ensures step { (i : IdealAgent) → IsSound i → self.old.concrete ≡ view_of i
-            → result ≢ Err ReceiveFault.OutOfMemory
-            → Steps i (receive_tagged tags_pass i now packet.now) result self.old.device self.new }
-
-        // Memory is wanted only where an event or a query is new, or an answer is counted; its want changes nothing.
-        ensures only_new { (i : IdealAgent) → IsSound i → self.old.concrete ≡ view_of i
-            → IsErrOf result ReceiveFault.OutOfMemory
-            → TakesMemory (receive_tagged tags_pass i now packet.now) }
-        ensures memory { IsErrOf result ReceiveFault.OutOfMemory → self.new ≡ self.old }
-        ensures refused { OnErr result (result ≢ Err ReceiveFault.SinkFault → self.new ≡ self.old) }
-        ensures cause { IsErrOf result ReceiveFault.SinkFault
-            → HasFailed self.old.device.failures self.new.device.failures }
-
-        // What was counted is just the answer that the packet is, which [`answer_in`](crate::answer_in) lends.
-        ensures ack { result ≡ Ok Outcome.Ack
-            → CountsAnswer true (answer_in packet.now)
-            self.old.concrete.asked self.new.concrete.asked }
-        ensures response { result ≡ Ok Outcome.Response
-            → CountsAnswer false (answer_in packet.now)
-            self.old.concrete.asked self.new.concrete.asked }
+        ensures { TakesPacket (λ i. receive_tagged tags_pass i now packet.now)
+            (answer_in packet.now) self.old self.new result }
     {
         if self.snapshot.is_stopped() {
             return Err(ReceiveFault::Stopped);
@@ -114,22 +75,8 @@ impl<S: Sink> Agent<S> {
         tags_pass: bool,
     ) -> Result<Outcome, ReceiveFault>
         requires { self.old.concrete.snapshot.stopped ≡ false }
-        ensures step { (i : IdealAgent) → IsSound i → self.old.concrete ≡ view_of i
-            → result ≢ Err ReceiveFault.OutOfMemory
-            → Steps i (receive_tagged tags_pass i now packet.now) result self.old.device self.new }
-        ensures only_new { (i : IdealAgent) → IsSound i → self.old.concrete ≡ view_of i
-            → IsErrOf result ReceiveFault.OutOfMemory
-            → TakesMemory (receive_tagged tags_pass i now packet.now) }
-        ensures memory { IsErrOf result ReceiveFault.OutOfMemory → self.new ≡ self.old }
-        ensures refused { OnErr result (result ≢ Err ReceiveFault.SinkFault → self.new ≡ self.old) }
-        ensures cause { IsErrOf result ReceiveFault.SinkFault
-            → HasFailed self.old.device.failures self.new.device.failures }
-        ensures ack { result ≡ Ok Outcome.Ack
-            → CountsAnswer true (answer_in packet.now)
-            self.old.concrete.asked self.new.concrete.asked }
-        ensures response { result ≡ Ok Outcome.Response
-            → CountsAnswer false (answer_in packet.now)
-            self.old.concrete.asked self.new.concrete.asked }
+        ensures { TakesPacket (λ i. receive_tagged tags_pass i now packet.now)
+            (answer_in packet.now) self.old self.new result }
     {
         match &decode(packet) {
             Ok(message) => self.receive_message(alloc, now, message, tags_pass),
@@ -147,23 +94,8 @@ impl<S: Sink> Agent<S> {
         tags_pass: bool,
     ) -> Result<Outcome, ReceiveFault>
         requires { self.old.concrete.snapshot.stopped ≡ false }
-        ensures step { (i : IdealAgent) → IsSound i → self.old.concrete ≡ view_of i
-            → result ≢ Err ReceiveFault.OutOfMemory
-            → Steps i (receive_message tags_pass i now (message_of message.now))
-            result self.old.device self.new }
-        ensures only_new { (i : IdealAgent) → IsSound i → self.old.concrete ≡ view_of i
-            → IsErrOf result ReceiveFault.OutOfMemory
-            → TakesMemory (receive_message tags_pass i now (message_of message.now)) }
-        ensures memory { IsErrOf result ReceiveFault.OutOfMemory → self.new ≡ self.old }
-        ensures refused { OnErr result (result ≢ Err ReceiveFault.SinkFault → self.new ≡ self.old) }
-        ensures cause { IsErrOf result ReceiveFault.SinkFault
-            → HasFailed self.old.device.failures self.new.device.failures }
-        ensures ack { result ≡ Ok Outcome.Ack
-            → CountsAnswer true (answer_of (message_of message.now))
-            self.old.concrete.asked self.new.concrete.asked }
-        ensures response { result ≡ Ok Outcome.Response
-            → CountsAnswer false (answer_of (message_of message.now))
-            self.old.concrete.asked self.new.concrete.asked }
+        ensures { TakesPacket (λ i. receive_message tags_pass i now (message_of message.now))
+            (answer_of (message_of message.now)) self.old self.new result }
     {
         match message {
             Message::UserEvent(event) => {

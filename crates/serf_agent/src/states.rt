@@ -13,7 +13,7 @@ ghost use Rattle.serf_snap.specs.Device.{HasFailed, replace_called, replaced, un
 ghost use Rattle.serf_snap.specs.Notes.{Kept};
 ghost use Rattle.serf_agent.specs.Calls.{AsksSink};
 ghost use Rattle.serf_agent.specs.declared.outcome.MergeFault.{MergeFault as Fault};
-ghost use Rattle.serf_agent.specs.Devices.{FailsLine, FailsText};
+ghost use Rattle.serf_snap.specs.Ends.{FailsLine, FailsText};
 ghost use Rattle.serf_agent.specs.Events.{admission};
 ghost use Rattle.serf_agent.specs.Ideal.{IdealAgent};
 ghost use Rattle.serf_agent.specs.Merging.{Heard, Received};

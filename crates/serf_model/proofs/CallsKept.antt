@@ -1,10 +1,11 @@
 -- What a call, an event and a query leave sound, over a sink with a plan.
-use Rattle.serf_model.proofs.Names.{◌≡◌, ◌≢◌, ℕ, ◌-◌, ◌^◌, ◌<◌, ◌≤◌, ◌==◌, nat_lt, nat_le, Bool, true, false, cond, List, Option, Some, None, IsSome, Ok, Err, refl, sym, ap, subst, arith, length, inl, inr, All, not, is_some, All-weaker, append-nil, and_parts, or_parts, leb-true, leb-false, ltb-false, EventBody, Query, query, ClockKind, clock_line, FailurePlan, SnapshotView, Writing, Kept, Failed, IsObservable, MayWrite, will_write, will_replace, written, compaction_of, last_line, note_fails, durable_left_by, Notes, Step, MayNote, planned, ended, will_note, IdealAgent, with_snapshot, Past, IsSound, canonical, TimedEntry, Config, Event, QueryFault, QueryParams, Reason, is_sound, query_fired_as, query_fault, query_asked, query_admission, query_received_as, query_entered, handed_if_passed, ack_if_passed, has_flag, no_broadcast_flag, is_no_timeout, is_too_large_query, FireFault, texts_len, admission, received_as, event_entered, fired_as, fire_fault, event_packet, event_out, drawn, is_too_large}
+use Rattle.serf_model.proofs.Names.{◌≡◌, ◌≢◌, ℕ, ◌-◌, ◌^◌, ◌<◌, ◌≤◌, ◌==◌, nat_lt, nat_le, Bool, true, false, cond, List, Option, Some, None, IsSome, Ok, Err, refl, sym, ap, subst, arith, length, inl, inr, All, not, is_some, All-weaker, append-nil, and_parts, or_parts, leb-true, leb-false, ltb-false, EventBody, Query, query, ClockKind, clock_line, FailurePlan, SnapshotView, Writing, Kept, Failed, IsObservable, MayWrite, will_write, written, last_line, note_fails, durable_left_by, Notes, Step, MayNote, planned, ended, will_note, IdealAgent, with_snapshot, Past, IsSound, canonical, TimedEntry, Config, Event, QueryFault, QueryParams, Reason, is_sound, query_fired_as, query_fault, query_asked, query_admission, query_received_as, query_entered, handed_if_passed, ack_if_passed, has_flag, no_broadcast_flag, is_no_timeout, is_too_large_query, FireFault, texts_len, admission, received_as, event_entered, fired_as, fire_fault, event_packet, event_out, drawn, is_too_large}
 use Rattle.serf_snap.specs.declared.kind.ClockKind.TheVariants as kinds
-use Rattle.serf_snap.specs.KeptNotes.{MayReplaceBy, kept_bytes, kept_compaction_of, text_replaced}
+use Rattle.serf_snap.specs.KeptNotes.{kept_bytes}
+use Rattle.serf_snap.specs.Notes.{MayReplaceBy, text_replaced, will_put}
 use Rattle.serf_agent.specs.Events.{told_event}
 use Rattle.serf_agent.specs.Queries.{told_query}
-use Rattle.serf_agent.specs.Told.{noted_with, text_with, will_put, will_replace_with}
+use Rattle.serf_agent.specs.Told.{noted_with, text_with, will_replace_with}
 use Rattle.serf_agent.specs.declared.outcome.Outcome.TheVariants as outcomes
 use Rattle.serf_agent.specs.declared.outcome.QueryFault.TheVariants as asks
 use Rattle.serf_agent.specs.declared.outcome.ReceiveFault.TheVariants as receives
@@ -97,19 +98,11 @@ does-put m e q b (Some k) (Some p) text h g = by (p.replaces == 1) refl
     by true is = left p.keeps_new _ refl is refl
     by false is = record { may = is; observable = record { durable = refl; plan = refl } }
 
--- without lines the new text is that of any compaction
-will-replace : (m e q : ℕ) (b : Bool) (k : Option (List ℕ)) (p : Option FailurePlan) → will_put (compaction_of (view m e q b k p)) (view m e q b k p) p ≡ will_replace (view m e q b k p)
-will-replace m e q b k None = refl
-will-replace m e q b k (Some p) = refl
-
 does-text : (text : List ℕ) (s : SnapshotView) → IsObservable s → DoesPut text s (will_put text s s.plan)
 does-text text s observable = does-put s.member_clock s.event_clock s.query_clock s.stopped s.durable s.plan text observable.durable observable.plan
 
 pub does-replace : (lines : Option (List ℕ)) (s : SnapshotView) → IsObservable s → DoesReplace lines s (will_replace_with lines s)
-does-replace (Some lines) s observable = let d = does-text (kept_compaction_of lines s) s observable in record { may = d.may; observable = d.observable }
-does-replace None s observable =
-    let d = does-text (compaction_of s) s observable in
-    subst (DoesReplace None s) (will-replace s.member_clock s.event_clock s.query_clock s.stopped s.durable s.plan) (record { may = d.may; observable = d.observable })
+does-replace lines s observable = let d = does-text (text_with lines s) s observable in record { may = d.may; observable = d.observable }
 
 -- ---- a call
 

@@ -56,8 +56,8 @@ pub use Rattle.serf_pack.specs.View.{pair_list}
 pub use Rattle.serf_pack.specs.declared.fault.PackFault.{PackFault}
 pub use Rattle.serf_snap.specs.Clocks.{clock_line, is_whole, last_clock}
 pub use Rattle.serf_snap.specs.Device.{FailurePlan, fresh_device}
-pub use Rattle.serf_snap.specs.Notes.{Failed, IsObservable, Kept, MayReplace, MayWrite, SnapshotView, Writing, compacted, compaction_of, last_line}
-pub use Rattle.serf_snap.specs.Notes.{durable_left_by, note_fails, noted, opened, will_replace, will_write, written}
+pub use Rattle.serf_snap.specs.Notes.{Failed, IsObservable, Kept, MayWrite, SnapshotView, Writing, compaction_of, last_line}
+pub use Rattle.serf_snap.specs.Notes.{durable_left_by, note_fails, opened, will_write, written}
 pub use Rattle.serf_snap.specs.declared.kind.ClockKind.{ClockKind}
 pub use Rattle.serf_snap.specs.declared.snapshot.NoteFault.{NoteFault}
 pub use Rattle.serf_window.specs.Laws.{SlotLaws}

@@ -1,17 +1,10 @@
 -- The notes and the compactions of an agent that keeps its events: as those of every agent, with the lines of what it keeps.
-use Rattle.std.specs.Prelude.{◌≡◌, ℕ, max, nat_le, ◌==◌, true, false, if◌then◌else◌, List, [], ◌++◌, IfSome}
-use Rattle.std.specs.Option.{option_map}
+use Rattle.std.specs.Prelude.{◌≡◌, ℕ, max, nat_le, ◌==◌, true, if◌then◌else◌, List, [], ◌++◌}
 use Rattle.serf_snap.specs.declared.kind.ClockKind.{ClockKind}
 use Rattle.serf_snap.specs.declared.kind.ClockKind.TheVariants.{Member, Event, Query}
 use Rattle.serf_snap.specs.Clocks.{is_whole, last_clock, line_above_zero}
-use Rattle.serf_snap.specs.Device.{replace_decremented}
 use Rattle.serf_snap.specs.EventLines.{kept_clock_line}
-use Rattle.serf_snap.specs.Notes.{SnapshotView, Writing, Kept, Failed, KeepsEither, durable_left_by, last_line, note_decremented, stopped, with_line, with_sink}
-
--- the snapshot after bytes with which the last line of a kind becomes this
-abbrev pub bytes_written : ClockKind → ℕ → List ℕ → SnapshotView → Writing → SnapshotView
-bytes_written kind t bytes s Kept = with_sink (option_map (λ (k : List ℕ). k ++ bytes) s.durable) note_decremented (with_line kind t s)
-bytes_written kind t bytes s (Failed durable) = stopped durable note_decremented s
+use Rattle.serf_snap.specs.Notes.{SnapshotView, Writing, bytes_written, last_line}
 
 -- What is appended for a time, where the last line of its kind is this: its clock line, with a zero in front of the number, if
 -- the time is above that; and then its own line.
@@ -29,18 +22,6 @@ kept_line_above_zero kind time = if time == 0 then [] else kept_clock_line kind 
 
 abbrev pub kept_compaction_of : List ℕ → SnapshotView → List ℕ
 kept_compaction_of lines s = lines ++ line_above_zero Member s.member_clock ++ kept_line_above_zero Event s.event_clock ++ kept_line_above_zero Query s.query_clock
-
--- the snapshot after its text was replaced by this one, which has the same last lines
-abbrev pub text_replaced : List ℕ → SnapshotView → Writing → SnapshotView
-text_replaced text s Kept = with_sink (option_map (λ (k : List ℕ). text) s.durable) replace_decremented s
-text_replaced text s (Failed durable) = stopped durable replace_decremented s
-
--- what a sink may do when its text is replaced: with a plan exactly what the plan says
-abbrev pub MayReplaceBy : List ℕ → SnapshotView → Writing → Type 0
-MayReplaceBy text s Kept = IfSome s.plan (λ p. (p.replaces == 1) ≡ false)
-MayReplaceBy text s (Failed durable) =
-    KeepsEither s.durable text durable
-    × IfSome s.plan (λ p. ((p.replaces == 1) ≡ true) × (durable ≡ durable_left_by p text s.durable))
 
 -- Whole lines that say no clock.
 pub record SaysNoClock (lines : List ℕ) : Type 0 where

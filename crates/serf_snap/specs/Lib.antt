@@ -5,3 +5,4 @@ pub mod Compaction
 pub mod TimedEvent
 pub mod EventLines
 pub mod KeptNotes
+pub mod Ends

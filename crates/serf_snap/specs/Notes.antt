@@ -60,10 +60,14 @@ pub data Writing : Type 0 where
   Kept : Writing
   Failed : Option (List ℕ) → Writing
 
+-- the snapshot after bytes with which the last line of a kind becomes this
+abbrev pub bytes_written : ClockKind → ℕ → List ℕ → SnapshotView → Writing → SnapshotView
+bytes_written kind t bytes s Kept = with_sink (option_map (λ (k : List ℕ). k ++ bytes) s.durable) note_decremented (with_line kind t s)
+bytes_written kind t bytes s (Failed durable) = stopped durable note_decremented s
+
 -- the snapshot after a line of a kind (`snapshot.go`, `appendLine`, whose fault Serf only logs)
 abbrev pub written : ClockKind → ℕ → SnapshotView → Writing → SnapshotView
-written kind t s Kept = with_sink (option_map (λ (k : List ℕ). k ++ clock_line kind t) s.durable) note_decremented (with_line kind t s)
-written kind t s (Failed durable) = stopped durable note_decremented s
+written kind t s w = bytes_written kind t (clock_line kind t) s w
 
 -- the snapshot after a note: a time is written where it is above the last line of its kind
 abbrev pub noted : ClockKind → ℕ → SnapshotView → Writing → SnapshotView
@@ -95,10 +99,14 @@ will_write s = by s.plan
 abbrev pub compaction_of : SnapshotView → List ℕ
 compaction_of s = compacted_text s.member_clock s.event_clock s.query_clock
 
+-- the snapshot after its text was replaced by this one, which has the same last lines
+abbrev pub text_replaced : List ℕ → SnapshotView → Writing → SnapshotView
+text_replaced text s Kept = with_sink (option_map (λ (k : List ℕ). text) s.durable) replace_decremented s
+text_replaced text s (Failed durable) = stopped durable replace_decremented s
+
 -- the snapshot after a compaction (`snapshot.go`, `compact`)
 abbrev pub compacted : SnapshotView → Writing → SnapshotView
-compacted s Kept = with_sink (option_map (λ (k : List ℕ). compaction_of s) s.durable) replace_decremented s
-compacted s (Failed durable) = stopped durable replace_decremented s
+compacted s w = text_replaced (compaction_of s) s w
 
 -- the old text is durable, or the new one
 abbrev pub KeepsEither : Option (List ℕ) → List ℕ → Option (List ℕ) → Type 0
@@ -109,20 +117,25 @@ KeepsEither (Some k) text new = (new ≡ Some k) ⊎ (new ≡ Some text)
 abbrev pub durable_left_by : FailurePlan → List ℕ → Option (List ℕ) → Option (List ℕ)
 durable_left_by p text durable = if p.keeps_new then option_map (λ (k : List ℕ). text) durable else durable
 
--- what a sink may do in a compaction: with a plan exactly what the plan says
-abbrev pub MayReplace : SnapshotView → Writing → Type 0
-MayReplace s Kept = IfSome s.plan (λ p. (p.replaces == 1) ≡ false)
-MayReplace s (Failed durable) =
-    KeepsEither s.durable (compaction_of s) durable
-    × IfSome s.plan (λ p. ((p.replaces == 1) ≡ true) × (durable ≡ durable_left_by p (compaction_of s) s.durable))
+-- what a sink may do when its text is replaced: with a plan exactly what the plan says
+abbrev pub MayReplaceBy : List ℕ → SnapshotView → Writing → Type 0
+MayReplaceBy text s Kept = IfSome s.plan (λ p. (p.replaces == 1) ≡ false)
+MayReplaceBy text s (Failed durable) =
+    KeepsEither s.durable text durable
+    × IfSome s.plan (λ p. ((p.replaces == 1) ≡ true) × (durable ≡ durable_left_by p text s.durable))
 
--- what the sink will do in a compaction, where it has a plan
+-- what it may do in a compaction
+abbrev pub MayReplace : SnapshotView → Writing → Type 0
+MayReplace s w = MayReplaceBy (compaction_of s) s w
+
+-- what the sink will do where its text is replaced by this one, by its plan
+abbrev pub will_put : List ℕ → SnapshotView → Option FailurePlan → Writing
+will_put text s None = Kept
+will_put text s (Some p) = if p.replaces == 1 then Failed (durable_left_by p text s.durable) else Kept
+
+-- what it will do in a compaction
 abbrev pub will_replace : SnapshotView → Writing
-will_replace s = by s.plan
-  where
-    by : Option FailurePlan → Writing
-    by None = Kept
-    by (Some p) = if p.replaces == 1 then Failed (durable_left_by p (compaction_of s) s.durable) else Kept
+will_replace s = will_put (compaction_of s) s s.plan
 
 -- the numbers of calls after a note that failed: one append, and one flush unless the append failed
 abbrev pub HasTriedNote : Calls → Calls → Type 0

@@ -1,11 +1,10 @@
 //! The notes and the compactions of an agent that keeps its events.
 
-ghost use Rattle.std.specs.Prelude.{◌≡◌, ◌↔◌, ◌⊎◌, ◌++◌, IfOk, IsErrOf, IsTrue, OnOk};
-ghost use Rattle.std.specs.Option.{option_map};
+ghost use Rattle.std.specs.Prelude.{◌≡◌, ◌++◌, max, IfOk, OnOk};
 ghost use Rattle.serf_snap.specs.Clocks.{line_above_zero};
-ghost use Rattle.serf_snap.specs.Device.{Fails, FailsReplace, HasFailed, IsClean, appended, flushed, replace_called, replace_decremented, replaced, unreplaced};
-ghost use Rattle.serf_snap.specs.KeptNotes.{MayReplaceBy, kept_bytes, kept_compaction_of, kept_line_above_zero, kept_noted, text_replaced};
-ghost use Rattle.serf_snap.specs.Notes.{Failed, HasTriedNote, Kept, MayWrite, last_line, note_decremented};
+ghost use Rattle.serf_snap.specs.Ends.{ReplacesText, WritesBytes};
+ghost use Rattle.serf_snap.specs.KeptNotes.{kept_bytes, kept_compaction_of, kept_line_above_zero};
+ghost use Rattle.serf_snap.specs.Notes.{last_line};
 ghost use Rattle.serf_snap.specs.declared.kind.ClockKind.TheVariants.{Event, Member, Query};
 
 use crate::clock_lines::put_line_above_zero;
@@ -49,35 +48,10 @@ impl<S: Sink> Snapshot<S> {
         time: Time,
         line: &[u8],
     ) -> Result<(), NoteFault>
-        ensures stopped { (result ≡ Err NoteFault.Stopped) ↔ IsTrue self.old.snapshot.stopped }
-
         // The bytes are durable, or the sink fails; with a plan exactly where it says.
-        ensures ok { OnOk result (self.new.snapshot
-            ≡ kept_noted kind time line.now self.old.snapshot Kept) }
-        ensures ok_allowed { OnOk result (MayWrite self.old.snapshot
-            (kept_bytes kind time line.now (last_line kind self.old.snapshot)) Kept) }
-        ensures ok_device { OnOk result (self.new.device ≡ flushed (appended
-            (kept_bytes kind time line.now (last_line kind self.old.snapshot)) self.old.device)) }
-        ensures fault { IsErrOf result NoteFault.SinkFault → self.new.snapshot
-            ≡ kept_noted kind time line.now self.old.snapshot
-            (Failed self.new.snapshot.durable) }
-        ensures fault_allowed { IsErrOf result NoteFault.SinkFault → MayWrite self.old.snapshot
+        ensures { WritesBytes kind (max (last_line kind self.old.snapshot) time)
             (kept_bytes kind time line.now (last_line kind self.old.snapshot))
-            (Failed self.new.snapshot.durable) }
-        ensures fault_device { IsErrOf result NoteFault.SinkFault
-            → Fails self.old.device self.new.device
-            (kept_bytes kind time line.now (last_line kind self.old.snapshot)) }
-        ensures fault_cause { IsErrOf result NoteFault.SinkFault
-            → HasFailed self.old.device.failures self.new.device.failures }
-        ensures fault_called { IsErrOf result NoteFault.SinkFault
-            → HasTriedNote self.old.device.calls self.new.device.calls }
-        ensures fault_decremented { IsErrOf result NoteFault.SinkFault
-            → self.new.device.plan ≡ option_map note_decremented self.old.device.plan }
-
-        ensures stays { IsErrOf result NoteFault.Stopped → self.new ≡ self.old }
-        ensures memory { IsErrOf result NoteFault.OutOfMemory → self.new ≡ self.old }
-        ensures clean { OnOk result (IsClean self.new.device) }
-        ensures calm { OnOk result (self.new.device.failures ≡ self.old.device.failures) }
+            self.old self.new result }
     {
         if self.is_stopped() {
             return Err(NoteFault::Stopped);
@@ -126,38 +100,9 @@ impl<S: ReplaceSink> Snapshot<S> {
     /// On a stopped snapshot no call is made. After [`NoteFault::SinkFault`] the old text is durable or the new one, and
     /// the snapshot is stopped.
     pub fn compact_with(&mut self, alloc: Global, lines: &[u8]) -> Result<(), NoteFault>
-        ensures stopped { (result ≡ Err NoteFault.Stopped) ↔ IsTrue self.old.snapshot.stopped }
-
         // The text is replaced, or the sink fails; with a plan exactly where it says.
-        ensures ok { OnOk result (self.new.snapshot ≡ text_replaced
-            (kept_compaction_of lines.now self.old.snapshot) self.old.snapshot Kept) }
-        ensures ok_allowed { OnOk result (MayReplaceBy
-            (kept_compaction_of lines.now self.old.snapshot) self.old.snapshot Kept) }
-        ensures ok_device { OnOk result (self.new.device
-            ≡ replaced (kept_compaction_of lines.now self.old.snapshot) self.old.device) }
-        ensures fault { IsErrOf result NoteFault.SinkFault → self.new.snapshot ≡ text_replaced
-            (kept_compaction_of lines.now self.old.snapshot) self.old.snapshot
-            (Failed self.new.snapshot.durable) }
-        ensures fault_allowed { IsErrOf result NoteFault.SinkFault → MayReplaceBy
-            (kept_compaction_of lines.now self.old.snapshot) self.old.snapshot
-            (Failed self.new.snapshot.durable) }
-        ensures fault_device { IsErrOf result NoteFault.SinkFault
-            → FailsReplace self.old.device self.new.device
-            (kept_compaction_of lines.now self.old.snapshot) }
-        ensures fault_cause { IsErrOf result NoteFault.SinkFault
-            → HasFailed self.old.device.failures self.new.device.failures }
-        ensures fault_called { IsErrOf result NoteFault.SinkFault
-            → self.new.device.calls ≡ replace_called self.old.device.calls }
-        ensures fault_decremented { IsErrOf result NoteFault.SinkFault
-            → self.new.device.plan ≡ option_map replace_decremented self.old.device.plan }
-
-        ensures stays { IsErrOf result NoteFault.Stopped → self.new ≡ self.old }
-        ensures memory { IsErrOf result NoteFault.OutOfMemory
-            → self.new.snapshot ≡ self.old.snapshot }
-        ensures memory_device { IsErrOf result NoteFault.OutOfMemory
-            → (self.new.device ≡ self.old.device) ⊎ (self.new.device ≡ unreplaced self.old.device) }
-        ensures clean { OnOk result (IsClean self.new.device) }
-        ensures calm { OnOk result (self.new.device.failures ≡ self.old.device.failures) }
+        ensures { ReplacesText (kept_compaction_of lines.now self.old.snapshot)
+            self.old self.new result }
     {
         if self.is_stopped() {
             return Err(NoteFault::Stopped);

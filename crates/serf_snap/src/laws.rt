@@ -6,12 +6,12 @@ ghost use Rattle.serf_lamport.specs.Clock.{greatest_clock};
 ghost use Rattle.serf_snap.specs.declared.kind.ClockKind.{ClockKind};
 ghost use Rattle.serf_snap.specs.Clocks.{clock_line, compacted_text, is_whole, last_clock, lines_of, of_kind, sealed};
 ghost use Rattle.serf_snap.specs.Device.{Device, FailurePlan};
-ghost use Rattle.serf_snap.specs.Notes.{Failed, IsObservable, IsSnapshotSound, KeepsEither, KeepsPart, Kept, MayReplace, MayWrite, SnapshotView, Writing, compacted, compaction_of, noted, opened, will_replace, will_write, with_sink, written};
+ghost use Rattle.serf_snap.specs.Notes.{Failed, IsObservable, IsSnapshotSound, KeepsEither, KeepsPart, Kept, MayReplace, MayWrite, SnapshotView, Writing, compacted, compaction_of, noted, opened, text_replaced, will_replace, will_write, with_sink, written};
 ghost use Rattle.hex.specs.Hex.{IsBytes};
 ghost use Rattle.serf_snap.specs.declared.kept.KeptQuery.{KeptQuery};
 ghost use Rattle.serf_snap.specs.declared.kept.Wanted.{Wanted};
 ghost use Rattle.serf_snap.specs.EventLines.{event_line, events_in, if_event_wanted, if_query_wanted, kept_clock_line, kept_query, least_in, least_line, queries_in, query_line};
-ghost use Rattle.serf_snap.specs.KeptNotes.{SaysNoClock, kept_compaction_of, kept_noted, text_replaced};
+ghost use Rattle.serf_snap.specs.KeptNotes.{SaysNoClock, kept_compaction_of, kept_noted};
 ghost use Rattle.serf_snap.specs.TimedEvent.{TimedEvent, timed_event};
 
 /// What becomes of the clocks of a text: no bytes after it lower them, a line raises its own kind to its time

@@ -1,13 +1,14 @@
 //! The clock lines of an agent, on a sink (`snapshot.go`).
 
-ghost use Rattle.std.specs.Prelude.{◌≡◌, ◌≢◌, ◌↔◌, ◌⊎◌, ◌<◌, ◌≤◌, ◌-◌, ◌^◌, ◌++◌, ◌+◌, true, if◌then◌else◌, false, not, is_ok, length, List, ℕ, IsTrue, IfOk, IfErr, IsOk, OnOk, OnErr, IfSome, IsErrOf};
+ghost use Rattle.std.specs.Prelude.{◌≡◌, ◌<◌, ◌≤◌, ◌-◌, ◌^◌, true, if◌then◌else◌, false, not, is_ok, length, List, ℕ, IfOk, IfErr, IsOk, OnOk, OnErr, IfSome, IsErrOf};
 ghost use Rattle.std.specs.Option.{option_map};
 ghost use Rattle.serf_lamport.specs.Clock.{greatest_clock};
-ghost use Rattle.serf_snap.specs.Clocks.{clock_line, is_whole, seal_line, sealed};
+ghost use Rattle.serf_snap.specs.Clocks.{is_whole, seal_line, sealed};
 ghost use Rattle.serf_snap.specs.Compaction.{counted, is_worth_compacting, is_worth_replacing};
-ghost use Rattle.serf_snap.specs.Device.{Observable, Fails, FailsReplace, HasFailed, HasText, IsClean, append_failing, appended, flush_failing, flushed, durable_of, replace_called, replace_decremented, replace_failing, replaced, unreplaced};
-ghost use Rattle.serf_snap.specs.KeptNotes.{MayReplaceBy, bytes_written, kept_compaction_of, text_replaced};
-ghost use Rattle.serf_snap.specs.Notes.{AreTimes, Failed, HasTriedNote, Kept, MayReplace, MayWrite, compacted, compaction_of, last_line, note_fails, note_decremented, noted, opened, opened_device, with_new_plan, written};
+ghost use Rattle.serf_snap.specs.Device.{Observable, HasText, IsClean, append_failing, appended, flush_failing, flushed, durable_of, replace_failing};
+ghost use Rattle.serf_snap.specs.Ends.{FailsLine, NotesTime, ReplacesText, WritesBytes};
+ghost use Rattle.serf_snap.specs.KeptNotes.{kept_compaction_of};
+ghost use Rattle.serf_snap.specs.Notes.{AreTimes, compaction_of, note_decremented, note_fails, opened, opened_device, with_new_plan};
 
 use crate::clock_lines::{LONGEST_LINE, line_of, text_of};
 use crate::clocks::{Clocks, ends_whole, read_clocks};
@@ -123,12 +124,8 @@ fn keep<S: Sink>(sink: &mut S, line: &[u8]) -> Result<(), SinkFault>
     requires { length line.now ≤ S.room sink.old }
     ensures ok { OnOk result (S.device sink.new ≡ flushed (appended line.now (S.device sink.old))) }
     ensures clean { OnOk result (IsClean (S.device sink.new)) }
-    ensures fault { OnErr result (Fails (S.device sink.old) (S.device sink.new) line.now) }
-    ensures decremented { OnErr result ((S.device sink.new).plan
-        ≡ option_map note_decremented (S.device sink.old).plan) }
+    ensures fault { OnErr result (FailsLine (S.device sink.old) (S.device sink.new) line.now) }
     ensures planned { IfSome (S.device sink.old).plan (λ p. is_ok result ≡ not (note_fails p)) }
-    ensures called { OnErr result
-        (HasTriedNote (S.device sink.old).calls (S.device sink.new).calls) }
 {
     sink.append(line)?;
     sink.flush()
@@ -147,13 +144,9 @@ fn seal<S: Sink>(alloc: Global, text: &[u8], sink: &mut S) -> Result<(), SealFau
         → IfSome (S.device sink.old).plan (λ p. note_fails p ≡ false)) }
     ensures whole { is_whole text.now ≡ true → IsOk result }
     ensures fault { IsErrOf result SealFault.SinkFault
-        → Fails (S.device sink.old) (S.device sink.new) seal_line }
-    ensures fault_called { IsErrOf result SealFault.SinkFault
-        → HasTriedNote (S.device sink.old).calls (S.device sink.new).calls }
+        → FailsLine (S.device sink.old) (S.device sink.new) seal_line }
     ensures fault_planned { IsErrOf result SealFault.SinkFault
         → IfSome (S.device sink.old).plan (λ p. note_fails p ≡ true) }
-    ensures fault_decremented { IsErrOf result SealFault.SinkFault
-        → (S.device sink.new).plan ≡ option_map note_decremented (S.device sink.old).plan }
     ensures memory { IsErrOf result SealFault.OutOfMemory → S.device sink.new ≡ S.device sink.old }
 {
     if ends_whole(text) {
@@ -183,13 +176,9 @@ impl<S: Sink> Snapshot<S> {
             → IfSome (S.device sink).plan (λ p. note_fails p ≡ false)) }
         ensures whole { is_whole text.now ≡ true → IsOk result }
         ensures fault { IfErr result (λ e. e.1 ≡ SealFault.SinkFault
-            → Fails (S.device sink) (S.device e.0) seal_line) }
-        ensures fault_called { IfErr result (λ e. e.1 ≡ SealFault.SinkFault
-            → HasTriedNote (S.device sink).calls (S.device e.0).calls) }
+            → FailsLine (S.device sink) (S.device e.0) seal_line) }
         ensures fault_planned { IfErr result (λ e. e.1 ≡ SealFault.SinkFault
             → IfSome (S.device sink).plan (λ p. note_fails p ≡ true)) }
-        ensures fault_decremented { IfErr result (λ e. e.1 ≡ SealFault.SinkFault
-            → (S.device e.0).plan ≡ option_map note_decremented (S.device sink).plan) }
         ensures memory { IfErr result (λ e. e.1 ≡ SealFault.OutOfMemory
             → S.device e.0 ≡ S.device sink) }
     {
@@ -213,36 +202,8 @@ impl<S: Sink> Snapshot<S> {
     /// Else memory is taken before the sink is touched. After [`NoteFault::SinkFault`] a part of the line may
     /// be durable, and each later note is [`NoteFault::Stopped`].
     pub fn note(&mut self, alloc: Global, kind: ClockKind, time: Time) -> Result<(), NoteFault>
-        ensures stopped { (result ≡ Err NoteFault.Stopped) ↔ IsTrue self.old.snapshot.stopped }
-        ensures none { self.old.snapshot.stopped ≡ false → time ≤ last_line kind self.old.snapshot
-            → (result ≡ Ok tt) × (self.new ≡ self.old) }
-
         // The line is durable, or the sink fails; with a plan exactly where it says.
-        ensures ok { OnOk result (self.new.snapshot ≡ noted kind time self.old.snapshot Kept) }
-        ensures ok_allowed { OnOk result (last_line kind self.old.snapshot < time
-            → MayWrite self.old.snapshot (clock_line kind time) Kept) }
-        ensures ok_device { OnOk result (last_line kind self.old.snapshot < time
-            → self.new.device ≡ flushed (appended (clock_line kind time) self.old.device)) }
-        ensures fault { IsErrOf result NoteFault.SinkFault
-            → self.new.snapshot
-            ≡ written kind time self.old.snapshot (Failed self.new.snapshot.durable) }
-        ensures fault_allowed { IsErrOf result NoteFault.SinkFault
-            → MayWrite self.old.snapshot (clock_line kind time) (Failed self.new.snapshot.durable) }
-        ensures fault_above { IsErrOf result NoteFault.SinkFault
-            → last_line kind self.old.snapshot < time }
-        ensures fault_device { IsErrOf result NoteFault.SinkFault
-            → Fails self.old.device self.new.device (clock_line kind time) }
-        ensures fault_cause { IsErrOf result NoteFault.SinkFault
-            → HasFailed self.old.device.failures self.new.device.failures }
-        ensures fault_called { IsErrOf result NoteFault.SinkFault
-            → HasTriedNote self.old.device.calls self.new.device.calls }
-        ensures fault_decremented { IsErrOf result NoteFault.SinkFault
-            → self.new.device.plan ≡ option_map note_decremented self.old.device.plan }
-
-        ensures stays { IsErrOf result NoteFault.Stopped → self.new ≡ self.old }
-        ensures memory { IsErrOf result NoteFault.OutOfMemory → self.new ≡ self.old }
-        ensures clean { OnOk result (IsClean self.new.device) }
-        ensures calm { OnOk result (self.new.device.failures ≡ self.old.device.failures) }
+        ensures { NotesTime kind time self.old self.new result }
     {
         if self.stopped {
             return Err(NoteFault::Stopped);
@@ -266,26 +227,7 @@ impl<S: Sink> Snapshot<S> {
     ) -> Result<(), NoteFault>
         requires time { value < greatest_clock }
         requires runs { self.old.snapshot.stopped ≡ false }
-        ensures runs { result ≢ Err NoteFault.Stopped }
-        ensures ok { OnOk result (self.new.snapshot
-            ≡ bytes_written kind value bytes.now self.old.snapshot Kept) }
-        ensures ok_allowed { OnOk result (MayWrite self.old.snapshot bytes.now Kept) }
-        ensures ok_device { OnOk result (self.new.device
-            ≡ flushed (appended bytes.now self.old.device)) }
-        ensures fault { IsErrOf result NoteFault.SinkFault → self.new.snapshot
-            ≡ bytes_written kind value bytes.now self.old.snapshot
-            (Failed self.new.snapshot.durable) }
-        ensures fault_allowed { IsErrOf result NoteFault.SinkFault
-            → MayWrite self.old.snapshot bytes.now (Failed self.new.snapshot.durable) }
-        ensures fault_device { IsErrOf result NoteFault.SinkFault
-            → Fails self.old.device self.new.device bytes.now }
-        ensures fault_called { IsErrOf result NoteFault.SinkFault
-            → HasTriedNote self.old.device.calls self.new.device.calls }
-        ensures fault_decremented { IsErrOf result NoteFault.SinkFault
-            → self.new.device.plan ≡ option_map note_decremented self.old.device.plan }
-        ensures memory { IsErrOf result NoteFault.OutOfMemory → self.new ≡ self.old }
-        ensures clean { OnOk result (IsClean self.new.device) }
-        ensures calm { OnOk result (self.new.device.failures ≡ self.old.device.failures) }
+        ensures { WritesBytes kind value bytes.now self.old self.new result }
     {
         self.sink.reserve(alloc, bytes.len().max(LONGEST_LINE))?;
         match keep(&mut self.sink, bytes) {
@@ -369,65 +311,20 @@ impl<S: ReplaceSink> Snapshot<S> {
     /// On a stopped snapshot no call is made. After [`NoteFault::SinkFault`] the old text is durable or the new
     /// one, and the snapshot is stopped. (`snapshot.go`, `compact`, which writes the alive members too.)
     pub fn compact(&mut self, alloc: Global) -> Result<(), NoteFault>
-        ensures stopped { (result ≡ Err NoteFault.Stopped) ↔ IsTrue self.old.snapshot.stopped }
-
         // The text is replaced, or the sink fails; with a plan exactly where it says.
-        ensures ok { OnOk result (self.new.snapshot ≡ compacted self.old.snapshot Kept) }
-        ensures ok_allowed { OnOk result (MayReplace self.old.snapshot Kept) }
-        ensures ok_device { OnOk result (self.new.device
-            ≡ replaced (compaction_of self.old.snapshot) self.old.device) }
-        ensures fault { IsErrOf result NoteFault.SinkFault
-            → self.new.snapshot ≡ compacted self.old.snapshot (Failed self.new.snapshot.durable) }
-        ensures fault_allowed { IsErrOf result NoteFault.SinkFault
-            → MayReplace self.old.snapshot (Failed self.new.snapshot.durable) }
-        ensures fault_device { IsErrOf result NoteFault.SinkFault
-            → FailsReplace self.old.device self.new.device (compaction_of self.old.snapshot) }
-        ensures fault_cause { IsErrOf result NoteFault.SinkFault
-            → HasFailed self.old.device.failures self.new.device.failures }
-        ensures fault_called { IsErrOf result NoteFault.SinkFault
-            → self.new.device.calls ≡ replace_called self.old.device.calls }
-        ensures fault_decremented { IsErrOf result NoteFault.SinkFault
-            → self.new.device.plan ≡ option_map replace_decremented self.old.device.plan }
-
-        ensures stays { IsErrOf result NoteFault.Stopped → self.new ≡ self.old }
-        ensures memory { IsErrOf result NoteFault.OutOfMemory
-            → self.new.snapshot ≡ self.old.snapshot }
-        ensures memory_device { IsErrOf result NoteFault.OutOfMemory
-            → (self.new.device ≡ self.old.device) ⊎ (self.new.device ≡ unreplaced self.old.device) }
-        ensures clean { OnOk result (IsClean self.new.device) }
-        ensures calm { OnOk result (self.new.device.failures ≡ self.old.device.failures) }
+        ensures { ReplacesText (compaction_of self.old.snapshot) self.old self.new result }
     {
-        if self.stopped {
+        if self.is_stopped() {
             return Err(NoteFault::Stopped);
         }
-        let text = text_of(alloc, self.last)?;
+        let text = text_of(alloc, self.clocks())?;
         self.replace_text(alloc, text.as_slice())
     }
 
     /// Replaces what the sink keeps by this text, which has the same last lines: one replace.
     pub(crate) fn replace_text(&mut self, alloc: Global, text: &[u8]) -> Result<(), NoteFault>
         requires runs { self.old.snapshot.stopped ≡ false }
-        ensures runs { result ≢ Err NoteFault.Stopped }
-        ensures ok { OnOk result (self.new.snapshot
-            ≡ text_replaced text.now self.old.snapshot Kept) }
-        ensures ok_allowed { OnOk result (MayReplaceBy text.now self.old.snapshot Kept) }
-        ensures ok_device { OnOk result (self.new.device ≡ replaced text.now self.old.device) }
-        ensures fault { IsErrOf result NoteFault.SinkFault → self.new.snapshot
-            ≡ text_replaced text.now self.old.snapshot (Failed self.new.snapshot.durable) }
-        ensures fault_allowed { IsErrOf result NoteFault.SinkFault
-            → MayReplaceBy text.now self.old.snapshot (Failed self.new.snapshot.durable) }
-        ensures fault_device { IsErrOf result NoteFault.SinkFault
-            → FailsReplace self.old.device self.new.device text.now }
-        ensures fault_called { IsErrOf result NoteFault.SinkFault
-            → self.new.device.calls ≡ replace_called self.old.device.calls }
-        ensures fault_decremented { IsErrOf result NoteFault.SinkFault
-            → self.new.device.plan ≡ option_map replace_decremented self.old.device.plan }
-        ensures memory { IsErrOf result NoteFault.OutOfMemory
-            → self.new.snapshot ≡ self.old.snapshot }
-        ensures memory_device { IsErrOf result NoteFault.OutOfMemory
-            → self.new.device ≡ unreplaced self.old.device }
-        ensures clean { OnOk result (IsClean self.new.device) }
-        ensures calm { OnOk result (self.new.device.failures ≡ self.old.device.failures) }
+        ensures { ReplacesText text.now self.old self.new result }
     {
         match self.sink.replace(alloc, text) {
             Ok(()) => {

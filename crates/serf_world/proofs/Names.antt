@@ -25,7 +25,6 @@ pub use Rattle.serf_agent.specs.Handed.{Handed}
 pub use Rattle.serf_agent.specs.Ideal.{IdealAgent}
 pub use Rattle.serf_agent.specs.Queries.{fire_query, respond_fault}
 pub use Rattle.serf_agent.specs.Receive.{receive}
-pub use Rattle.serf_agent.specs.Restart.{IsInText}
 pub use Rattle.serf_agent.specs.States.{EndsAt, Merges, Receives, after_event, delivered, events_of, fault_in, handed_by, joined}
 pub use Rattle.serf_agent.specs.States.{merge_refusal, receive_one}
 pub use Rattle.serf_agent.specs.Steps.{Steps}
@@ -59,8 +58,8 @@ pub use Rattle.serf_model.specs.declared.line.Refusal.TheVariants.{NoAgent}
 pub use Rattle.serf_model.specs.declared.trace.Trace.{Trace}
 pub use Rattle.serf_snap.specs.Clocks.{clock_line}
 pub use Rattle.serf_snap.specs.Device.{Device, FailurePlan}
-pub use Rattle.serf_snap.specs.Notes.{Failed, IsObservable, Kept, MayReplace, MayWrite, SnapshotView, Writing, compaction_of, durable_left_by, last_line}
-pub use Rattle.serf_snap.specs.Notes.{will_replace, will_write}
+pub use Rattle.serf_snap.specs.Notes.{Failed, IsObservable, Kept, MayWrite, SnapshotView, Writing, durable_left_by, last_line}
+pub use Rattle.serf_snap.specs.Notes.{will_write}
 pub use Rattle.serf_snap.specs.declared.kind.ClockKind.{ClockKind}
 pub use Rattle.serf_window.specs.Texts.{event_of}
 pub use Rattle.serf_window.specs.Window.{TimedEntry}

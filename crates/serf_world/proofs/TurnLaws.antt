@@ -1,8 +1,9 @@
 -- Over a sink with a plan a call of an agent has one end.
-use Rattle.serf_world.proofs.Names.{zero, suc, ◌<◌, ◌≤◌, arith, length, set, get_or, ◌≡◌, ℕ, nat_le, cond, Bool, true, false, List, [], ◌∷◌, Option, Some, None, IsSome, MatchBool, map, Result, Ok, Err, refl, sym, ap, subst, ◌∙◌, slice_get, IfOk, AllByRecursion, AllocError, length-map, map-set, All-from_recursion, All-set, recursion_from_All, get_or_from_slice_get, slice_get_within, ClockKind, clock_line, Device, FailurePlan, SnapshotView, Writing, Kept, Failed, IsObservable, MayWrite, MayReplace, will_write, will_replace, durable_left_by, compaction_of, last_line, RespondFault, Handed, respond_fault, Call, Ends, Notes, Replaces, MayNote, MayEnd, planned, ended, will, will_note, IdealAgent, Steps, AgentState, ConcreteState, view_of, Act, Line, NoAgent, IdealNode, Cluster, Applied, Done, apply, called, line_only, on_agent, responds, responds_as, with_handed, AreRepresentable, IsRepresentable, append-nil, EventOut, event_line, only, ◌++◌, ◌≢◌}
+use Rattle.serf_world.proofs.Names.{zero, suc, ◌<◌, ◌≤◌, arith, length, set, get_or, ◌≡◌, ℕ, nat_le, cond, Bool, true, false, List, [], ◌∷◌, Option, Some, None, IsSome, MatchBool, map, Result, Ok, Err, refl, sym, ap, subst, ◌∙◌, slice_get, IfOk, AllByRecursion, AllocError, length-map, map-set, All-from_recursion, All-set, recursion_from_All, get_or_from_slice_get, slice_get_within, ClockKind, clock_line, Device, FailurePlan, SnapshotView, Writing, Kept, Failed, IsObservable, MayWrite, will_write, durable_left_by, last_line, RespondFault, Handed, respond_fault, Call, Ends, Notes, Replaces, MayNote, MayEnd, planned, ended, will, will_note, IdealAgent, Steps, AgentState, ConcreteState, view_of, Act, Line, NoAgent, IdealNode, Cluster, Applied, Done, apply, called, line_only, on_agent, responds, responds_as, with_handed, AreRepresentable, IsRepresentable, append-nil, EventOut, event_line, only, ◌++◌, ◌≢◌}
 use Rattle.serf_snap.specs.declared.snapshot.NoteFault.{NoteFault}
-use Rattle.serf_snap.specs.KeptNotes.{MayReplaceBy, kept_bytes, kept_compaction_of}
-use Rattle.serf_agent.specs.Told.{will_put}
+use Rattle.serf_snap.specs.KeptNotes.{kept_bytes}
+use Rattle.serf_snap.specs.Notes.{MayReplaceBy, will_put}
+use Rattle.serf_agent.specs.Told.{text_with}
 use Rattle.serf_model.specs.declared.line.Answer.{Answer}
 use Rattle.serf_model.specs.declared.line.Refusal.{Refusal}
 use Rattle.serf_model.specs.Cluster.{does_nothing, note_gives, note_refusal, numbers_from, refused}
@@ -23,11 +24,6 @@ write-view m e q b k None line w some may = absurd (cc some)
 write-view m e q b k (Some p) line Kept some may = sym (ap (λ f. cond f (Failed k) Kept) may)
 write-view m e q b k (Some p) line (Failed durable) some may = ap Failed may.1.1 ∙ sym (ap (λ f. cond f (Failed k) Kept) may.1.0)
 
-replace-view : (m e q : ℕ) (b : Bool) (k : Option (List ℕ)) (p : Option FailurePlan) (w : Writing) → IsSome p → MayReplace (view m e q b k p) w → w ≡ will_replace (view m e q b k p)
-replace-view m e q b k None w some may = absurd (cc some)
-replace-view m e q b k (Some p) Kept some may = sym (ap (λ f. cond f (Failed (durable_left_by p (compaction_of (view m e q b k (Some p))) k)) Kept) may)
-replace-view m e q b k (Some p) (Failed durable) some may = ap Failed may.1.1 ∙ sym (ap (λ f. cond f (Failed (durable_left_by p (compaction_of (view m e q b k (Some p))) k)) Kept) may.1.0)
-
 text-view : (m e q : ℕ) (b : Bool) (k : Option (List ℕ)) (p : Option FailurePlan) (text : List ℕ) (w : Writing) → IsSome p → MayReplaceBy text (view m e q b k p) w → w ≡ will_put text (view m e q b k p) p
 text-view m e q b k None text w some may = absurd (cc some)
 text-view m e q b k (Some p) text Kept some may = sym (ap (λ f. cond f (Failed (durable_left_by p text k)) Kept) may)
@@ -44,8 +40,7 @@ pub may-will : {R : Type 0} (i : IdealAgent) (call : Call R) (w : Writing) → I
 may-will i (Ends step) w observable may = may
 may-will i (Notes kind t None step fault) w observable may = note-will i.snapshot kind t w observable may
 may-will i (Notes kind t (Some line) step fault) w observable may = write-view i.snapshot.member_clock i.snapshot.event_clock i.snapshot.query_clock i.snapshot.stopped i.snapshot.durable i.snapshot.plan (kept_bytes kind t line (last_line kind i.snapshot)) w observable.plan may
-may-will i (Replaces (Some lines) step fault) w observable may = text-view i.snapshot.member_clock i.snapshot.event_clock i.snapshot.query_clock i.snapshot.stopped i.snapshot.durable i.snapshot.plan (kept_compaction_of lines i.snapshot) w observable.plan may
-may-will i (Replaces None step fault) w observable may = replace-view i.snapshot.member_clock i.snapshot.event_clock i.snapshot.query_clock i.snapshot.stopped i.snapshot.durable i.snapshot.plan w observable.plan may
+may-will i (Replaces lines step fault) w observable may = text-view i.snapshot.member_clock i.snapshot.event_clock i.snapshot.query_clock i.snapshot.stopped i.snapshot.durable i.snapshot.plan (text_with lines i.snapshot) w observable.plan may
 
 -- what a call answered, and what the agent stores then
 pub record Plans {R : Type 0} (i : IdealAgent) (call : Call R) (result : R) (new : ConcreteState) : Type 0 where

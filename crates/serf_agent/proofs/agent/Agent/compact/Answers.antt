@@ -1,15 +1,16 @@
 use Rattle.serf_agent.proofs.Names.{◌≡◌, ap, sym, subst, ◌∙◌, ℕ, List, Option, Result, NoteFault, SnapshotState, SnapshotView}
+use Rattle.serf_snap.specs.Ends.{ReplacesText}
 use Rattle.serf_agent.specs.States.{compact, told_lines}
-use Rattle.serf_agent.specs.Steps.{Replaced, Steps}
+use Rattle.serf_agent.specs.Steps.{Steps}
 use Rattle.serf_agent.specs.Told.{text_with}
 use Rattle.serf_agent.specs.View.{AgentState, ConcreteState, concrete_with}
-use Rattle.serf_agent.proofs.LineLaws.{IsCompacted, agent_with, called-ok, steps-compact}
+use Rattle.serf_agent.proofs.LineLaws.{agent_with, called-ok, steps-compact}
 use Rattle.serf_agent.proofs.agent.Agent.compact.Goals as goal
 
 -- what the replacement gives, by what the agent stores
-given : (old : AgentState) (lines : Option (List ℕ)) (s z : SnapshotState) (r : Result (Unit {0}) NoteFault) → lines ≡ told_lines old.concrete → s ≡ record { snapshot = old.concrete.snapshot; device = old.device } → Replaced lines s z r
-    → Replaced (told_lines old.concrete) (record { snapshot = old.concrete.snapshot; device = old.device }) z r
-given old lines s z r told same done = subst (λ (x : SnapshotState). Replaced (told_lines old.concrete) x z r) same (subst (λ (o : Option (List ℕ)). Replaced o s z r) told done)
+given : (old : AgentState) (lines : Option (List ℕ)) (s z : SnapshotState) (r : Result (Unit {0}) NoteFault) → lines ≡ told_lines old.concrete → s ≡ record { snapshot = old.concrete.snapshot; device = old.device } → ReplacesText (text_with lines s.snapshot) s z r
+    → ReplacesText (text_with (told_lines old.concrete) old.concrete.snapshot) (record { snapshot = old.concrete.snapshot; device = old.device }) z r
+given old lines s z r told same done = subst (λ (x : SnapshotState). ReplacesText (text_with (told_lines old.concrete) x.snapshot) x z r) same (subst (λ (o : Option (List ℕ)). ReplacesText (text_with o s.snapshot) s z r) told done)
 
 pub returns-clause-step : goal.returns-clause-step
 returns-clause-step g c = λ i sound is other.
@@ -18,18 +19,7 @@ returns-clause-step g c = λ i sound is other.
     let r = c.replace_lines.result in
     let new = c.replace_lines.new.snapshot in
     let done = (given c.args.self.now c.in_ok-lines.lines c.self.inside.snapshot c.replace_lines.new.snapshot c.replace_lines.result c.in_ok-lines.ensures (λ k. record { snapshot = (c.self.view_is k).concrete.snapshot; device = (c.self.view_is k).device }) c.replace_lines.ensures) in
-    let n : IsCompacted (text_with (told_lines old.concrete) old.concrete.snapshot) old.concrete.snapshot old.device new r = record {
-      stopped = done.stopped;
-      ok = done.ok;
-      ok_allowed = done.ok_allowed;
-      ok_device = done.ok_device;
-      fault = done.fault;
-      fault_allowed = done.fault_allowed;
-      fault_device = done.fault_device;
-      stays = λ at. ap (λ (s : SnapshotState). s.snapshot) (done.stays at);
-      stays_device = λ at. ap (λ (s : SnapshotState). s.device) (done.stays at);
-    } in
-    let steps = steps-compact c.sound_snapshots.ensures i old.device new r sound (subst (λ (a : ConcreteState). IsCompacted (text_with (told_lines a) a.snapshot) a.snapshot old.device new r) is n) other in
+    let steps = steps-compact c.sound_snapshots.ensures i old.device new r sound (subst (λ (a : ConcreteState). ReplacesText (text_with (told_lines a) a.snapshot) (record { snapshot = a.snapshot; device = old.device }) new r) is done) other in
     subst (λ (s : ConcreteState). Steps i (compact i) r old.device (agent_with new s)) (sym was) steps
 
 pub returns-clause-ok_device : goal.returns-clause-ok_device

@@ -1,7 +1,7 @@
 use Rattle.std.proofs.lemmas.Result.{err_from_is_err_and}
 use Rattle.serf_agent.proofs.Names.{◌≡◌, ◌<◌, ◌-◌, ◌^◌, ℕ, ap, sym, subst, ◌∙◌, Ok, Err, NoteFault, event_of, Kept, Failed, written}
 use Rattle.serf_snap.specs.declared.kind.ClockKind.TheVariants as kinds
-use Rattle.serf_agent.specs.Devices.{FailsLine}
+use Rattle.serf_snap.specs.Ends.{FailsLine}
 use Rattle.serf_agent.specs.Faults.{fire_fault_of}
 use Rattle.serf_agent.specs.declared.outcome.FireFault.{FireFault}
 use Rattle.serf_agent.specs.Events.{fire, is_too_large, drawn, event_entered, event_out, event_packet, told_event}

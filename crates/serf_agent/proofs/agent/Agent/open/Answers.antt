@@ -102,4 +102,4 @@ seal-failed seals.OutOfMemory is = absurd (cc is)
 seal-failed seals.SinkFault is = refl
 
 pub returns-in-Err-clause-cause : goal.returns-in-Err-clause-cause
-returns-in-Err-clause-cause g c = λ at. c.in-Err.ensures.fault (seal-failed c.in-Err.sealed (sym c.from-fault.ensures ∙ at))
+returns-in-Err-clause-cause g c = λ at. (c.in-Err.ensures.fault (seal-failed c.in-Err.sealed (sym c.from-fault.ensures ∙ at))).fails

@@ -1,7 +1,7 @@
 use Rattle.std.proofs.lemmas.Result.{err_from_is_err_and}
-use Rattle.serf_agent.proofs.Names.{◌≡◌, ap, sym, subst, refl, ◌∙◌, Ok, Err, event_of, WindowOf, EventBody, NoteFault, Kept, Failed}
+use Rattle.serf_agent.proofs.Names.{◌≡◌, ap, sym, subst, refl, ◌∙◌, Ok, Err, event_of, WindowOf, EventBody, NoteFault, Kept, Failed, rules}
 use Rattle.serf_snap.specs.declared.kind.ClockKind.TheVariants as kinds
-use Rattle.serf_agent.specs.Devices.{FailsLine}
+use Rattle.serf_snap.specs.Ends.{FailsLine}
 use Rattle.serf_agent.specs.declared.outcome.EventOut.{EventOut}
 use Rattle.serf_agent.specs.Faults.{receive_fault_of}
 use Rattle.serf_agent.specs.declared.outcome.ReceiveFault.{ReceiveFault}
@@ -12,38 +12,47 @@ use Rattle.serf_agent.specs.Told.{MayNote, bytes_with, device_noted}
 use Rattle.serf_agent.specs.View.{AgentState, ConcreteState}
 use Rattle.serf_agent.proofs.NoteLaws.{by-fault}
 use Rattle.serf_agent.proofs.StepLaws.{steps-event_ignored, steps-event_entered, steps-event_failed}
+use Rattle.serf_agent.proofs.TakenPackets.{takes-ok}
 use Rattle.serf_agent.proofs.ViewLaws.{event_observed-view, failed-view}
 use Rattle.serf_agent.proofs.agent.Agent.receive_event.Goals as goal
 
-pub returns-in-Some-clause-step : goal.returns-in-Some-clause-step
-returns-in-Some-clause-step g c = λ i sound is _.
+pub returns-in-Some : goal.returns-in-Some
+returns-in-Some g c = takes-ok _ _ _ _ _ (λ e. cc e) (λ e. cc e) (λ i sound is.
     let was = ap (λ (a : AgentState). a.concrete) c.self.view_is ∙ is in
     let e = c.observe.ensures in
     steps-event_ignored i c.args.time (event_of c.args.name.now c.args.payload.now) c.args.coalesce c.in-Some.reason c.args.self.now.device _ sound (sym (c.in-Some.ensures.reason i sound is))
-    (event_observed-view i _ _ c.args.time was e.clock e.minimum (ap (λ (w : WindowOf EventBody). w.slots) e.window)) (ap (λ (a : AgentState). a.device) c.self.view_is)
+    (event_observed-view i _ _ c.args.time was e.clock e.minimum (ap (λ (w : WindowOf EventBody). w.slots) e.window)) (ap (λ (a : AgentState). a.device) c.self.view_is))
 
-pub returns-in_ok-event-in-None-clause-step : goal.returns-in_ok-event-in-None-clause-step
-returns-in_ok-event-in-None-clause-step g c = λ i sound is _.
+pub returns-in_ok-event-in-None : goal.returns-in_ok-event-in-None
+returns-in_ok-event-in-None g c = takes-ok _ _ _ _ _ (λ e. cc e) (λ e. cc e) (λ i sound is.
     let what = event_of c.args.name.now c.args.payload.now in
     let new = c.in-None.ensures in
     let e = c.in_ok-event-in-None.ensures in
     let runs = sym (ap (λ (s : ConcreteState). s.snapshot.stopped) is) ∙ c.requires in
     let may = subst (λ (s : ConcreteState). MayNote kinds.Event c.args.time (told_event s.config c.args.time what) s.snapshot Kept) is e.line.allowed in
     let device = e.line.device ∙ ap (λ (s : ConcreteState). device_noted kinds.Event c.args.time (told_event s.config c.args.time what) s.snapshot c.args.self.now.device) is in
-    steps-event_entered c.sound_snapshots.ensures i c.args.time what c.args.coalesce _ c.args.self.now.device c.take_in.new.self sound runs (new.small refl) (sym (new.reason i sound is)) may (ap (λ (o : EventOut). Ok (Event o)) e.out) (e.entered i is) device
+    steps-event_entered c.sound_snapshots.ensures i c.args.time what c.args.coalesce _ c.args.self.now.device c.take_in.new.self sound runs (new.small refl) (sym (new.reason i sound is)) may (ap (λ (o : EventOut). Ok (Event o)) e.out) (e.entered i is) device)
 
-pub returns-in_err-event-in-None-clause-step : goal.returns-in_err-event-in-None-clause-step
-returns-in_err-event-in-None-clause-step g c = λ i sound is memory.
-    let what = event_of c.args.name.now c.args.payload.now in
-    let p = err_from_is_err_and c.from_residual.result c.from_residual.ensures.1 in
-    let result = c.from_residual.result in
-    let fault = c.in_err-event-in-None.field-0.0 in
-    let ended : result ≡ Err (receive_fault_of fault) = p.1 ∙ ap (λ (x : ReceiveFault). Err x) p.2 in
-    let old = c.args.self.now in
-    let new = c.take_in.new.self in
-    by-fault kinds.Event c.args.time (told_event old.concrete.config c.args.time what) old new fault (λ (f : NoteFault). result ≡ Err (receive_fault_of f) → Steps i (receive_event i c.args.time what c.args.coalesce) result old.device new) c.in_err-event-in-None.ensures.line (λ _ at. absurd (memory at)) (λ e answers.
-    let durable = c.take_in.new.self.concrete.snapshot.durable in
-    let may = subst (λ (s : ConcreteState). MayNote kinds.Event c.args.time (told_event s.config c.args.time what) s.snapshot (Failed durable)) is e.allowed in
-    steps-event_failed c.sound_snapshots.ensures i c.args.time what c.args.coalesce durable result old.device new sound (sym (c.in-None.ensures.reason i sound is)) may answers
-    (failed-view i c.args.self.now.concrete c.take_in.new.self.concrete kinds.Event c.args.time durable is e.failed)
-    (subst (λ (s : ConcreteState). FailsLine old.device new.device (bytes_with kinds.Event c.args.time (told_event s.config c.args.time what) s.snapshot)) is e.device)) ended
+pub returns-in_err-event-in-None : goal.returns-in_err-event-in-None
+returns-in_err-event-in-None g c = record {
+  step = λ i sound is memory.
+      let what = event_of c.args.name.now c.args.payload.now in
+      let p = err_from_is_err_and c.from_residual.result c.from_residual.ensures.1 in
+      let result = c.from_residual.result in
+      let fault = c.in_err-event-in-None.field-0.0 in
+      let ended : result ≡ Err (receive_fault_of fault) = p.1 ∙ ap (λ (x : ReceiveFault). Err x) p.2 in
+      let old = c.args.self.now in
+      let new = c.take_in.new.self in
+      by-fault kinds.Event c.args.time (told_event old.concrete.config c.args.time what) old new fault (λ (f : NoteFault). result ≡ Err (receive_fault_of f) → Steps i (receive_event i c.args.time what c.args.coalesce) result old.device new) c.in_err-event-in-None.ensures.line (λ _ at. absurd (memory at)) (λ e answers.
+      let durable = c.take_in.new.self.concrete.snapshot.durable in
+      let may = subst (λ (s : ConcreteState). MayNote kinds.Event c.args.time (told_event s.config c.args.time what) s.snapshot (Failed durable)) is e.allowed in
+      steps-event_failed c.sound_snapshots.ensures i c.args.time what c.args.coalesce durable result old.device new sound (sym (c.in-None.ensures.reason i sound is)) may answers
+      (failed-view i c.args.self.now.concrete c.take_in.new.self.concrete kinds.Event c.args.time durable is e.failed)
+      (subst (λ (s : ConcreteState). FailsLine old.device new.device (bytes_with kinds.Event c.args.time (told_event s.config c.args.time what) s.snapshot)) is e.device)) ended;
+  only_new = search rules;
+  memory = search rules;
+  refused = search rules;
+  cause = search rules;
+  ack = search rules;
+  response = search rules;
+}

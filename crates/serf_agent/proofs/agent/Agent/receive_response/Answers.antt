@@ -1,4 +1,5 @@
-use Rattle.serf_agent.proofs.Names.{◌≡◌, ◌<◌, ℕ, List, Option, Some, None, IfSome, false, nat_eq, ap, sym, subst, ◌∙◌, Ok, option_copied}
+use Rattle.std.proofs.lemmas.Grind.{common_steps}
+use Rattle.serf_agent.proofs.Names.{arith, ◌≡◌, ◌<◌, ℕ, List, Option, Some, None, IfSome, false, nat_eq, ap, sym, subst, ◌∙◌, Ok, option_copied, rules}
 use Rattle.std.proofs.Common.{All}
 use Rattle.serf_agent.specs.declared.open_query.OpenQuery.{OpenQuery}
 use Rattle.serf_agent.specs.declared.outcome.Outcome.{Outcome}
@@ -25,18 +26,26 @@ invariant_of-self-2 g c =
       asked_below = subst (λ (l : List (ℕ × OpenQuery)). All (λ q. q.0 < c.self.inside.queries.clock) l) (sym new) (set_value-keys (λ n. n < c.self.inside.queries.clock) (nat_eq t) c.self.inside.asked (counted r c.in-Some.query.now) built.asked_below);
     }
 
-pub returns-clause-step : goal.returns-clause-step
-returns-clause-step g c = λ i sound is _.
-    let t = c.args.answer.now.time in
-    let r = response_said c.args.answer.now in
-    let q = c.in-Some.query.now in
-    let was = ap (λ (a : AgentState). a.concrete) c.self.view_is ∙ is in
-    let asked = ap (λ (s : ConcreteState). s.asked) was in
-    let there : asked_at t c.self.inside.asked ≡ Some q = sym c.get.ensures ∙ ap option_copied c.in-Some.is in
-    let new = subst (λ (o : Option OpenQuery). IfSome o (λ p. c.count.new.self ≡ with_asked_at t (counted r p) c.self.inside.asked)) there c.in_ok-count.ensures.ok in
-    let at : asked_at t i.asked ≡ Some q = ap (λ (l : List (ℕ × OpenQuery)). asked_at t l) (sym asked) ∙ there in
-    let none : answer_ignore_reason c.args.now r q ≡ None = sym c.ignore_reason.ensures ∙ c.in-None.is in
-    let room : is_full i.config.responders r q ≡ false = ap (λ (s : ConcreteState). is_full s.config.responders r q) (sym was) ∙ sym c.if-is_full.ensures in
-    let left = new ∙ ap (λ (l : List (ℕ × OpenQuery)). with_asked_at t (counted r q) l) asked in
-    steps-counted i c.args.now r q _ c.args.self.now.device _ sound at none room (ap (λ (o : Outcome). Ok o) c.outcome_of.ensures)
-    (λ k. record { config = (was k).config; member_clock = (was k).member_clock; events = (was k).events; queries = (was k).queries; snapshot = (was k).snapshot; asked = left k }) (ap (λ (a : AgentState). a.device) c.self.view_is)
+pub returns : goal.returns
+returns g c = record {
+  step = λ i sound is _.
+      let t = c.args.answer.now.time in
+      let r = response_said c.args.answer.now in
+      let q = c.in-Some.query.now in
+      let was = ap (λ (a : AgentState). a.concrete) c.self.view_is ∙ is in
+      let asked = ap (λ (s : ConcreteState). s.asked) was in
+      let there : asked_at t c.self.inside.asked ≡ Some q = sym c.get.ensures ∙ ap option_copied c.in-Some.is in
+      let new = subst (λ (o : Option OpenQuery). IfSome o (λ p. c.count.new.self ≡ with_asked_at t (counted r p) c.self.inside.asked)) there c.in_ok-count.ensures.ok in
+      let at : asked_at t i.asked ≡ Some q = ap (λ (l : List (ℕ × OpenQuery)). asked_at t l) (sym asked) ∙ there in
+      let none : answer_ignore_reason c.args.now r q ≡ None = sym c.ignore_reason.ensures ∙ c.in-None.is in
+      let room : is_full i.config.responders r q ≡ false = ap (λ (s : ConcreteState). is_full s.config.responders r q) (sym was) ∙ sym c.if-is_full.ensures in
+      let left = new ∙ ap (λ (l : List (ℕ × OpenQuery)). with_asked_at t (counted r q) l) asked in
+      steps-counted i c.args.now r q _ c.args.self.now.device _ sound at none room (ap (λ (o : Outcome). Ok o) c.outcome_of.ensures)
+      (λ k. record { config = (was k).config; member_clock = (was k).member_clock; events = (was k).events; queries = (was k).queries; snapshot = (was k).snapshot; asked = left k }) (ap (λ (a : AgentState). a.device) c.self.view_is);
+  only_new = search rules;
+  memory = search rules;
+  refused = search rules;
+  cause = search rules;
+  ack = grind (arith, common_steps);
+  response = grind (arith, common_steps);
+}

@@ -1,34 +1,23 @@
-use Rattle.serf_agent.proofs.Names.{arith, ◌≡◌, ◌-◌, ap, sym, subst, ◌∙◌, Device, SnapshotState, SnapshotView}
+use Rattle.serf_agent.proofs.Names.{arith, ◌≡◌, ◌-◌, ap, sym, subst, ◌∙◌, Device, SnapshotView}
+use Rattle.serf_snap.specs.declared.kind.ClockKind.TheVariants as kinds
+use Rattle.serf_snap.specs.Ends.{NotesTime}
 use Rattle.serf_agent.specs.Inside.{concrete_of}
 use Rattle.serf_agent.specs.States.{save}
 use Rattle.serf_agent.specs.Steps.{Steps}
 use Rattle.serf_agent.specs.View.{AgentState, ConcreteState}
-use Rattle.serf_agent.proofs.LineLaws.{IsNoted, agent_with, steps-save}
+use Rattle.serf_agent.proofs.LineLaws.{agent_with, steps-save}
 use Rattle.serf_agent.proofs.agent.Agent.save_member_clock.Goals as goal
 
 pub returns-clause-step : goal.returns-clause-step
 returns-clause-step g c = λ i sound is other.
     let was = ap (λ (a : AgentState). a.concrete) c.self.view_is ∙ is in
-    let e = c.note.ensures in
     let r = c.note.result in
     let t = c.in-Some.time in
     let snapshot = ap (λ (s : ConcreteState). s.snapshot) was in
     let new = c.note.new.self in
     let at : t ≡ i.member_clock - 1 = omega (arith, c.in-Some.ensures, c.time.ensures, c.saturating_sub.ensures, ap (λ (s : ConcreteState). s.member_clock) was) in
-    let n : IsNoted t c.self.inside.snapshot.snapshot c.self.inside.snapshot.device new r = record {
-      stopped = e.stopped;
-      ok = e.ok;
-      ok_allowed = e.ok_allowed;
-      ok_device = e.ok_device;
-      none = λ runs low. ap (λ (s : SnapshotState). s.device) (e.none runs low).1;
-      fault = e.fault;
-      fault_allowed = e.fault_allowed;
-      fault_above = e.fault_above;
-      fault_device = λ at. record { fails = e.fault_device at; called = e.fault_called at; plan = e.fault_decremented at };
-      stays = λ at. ap (λ (s : SnapshotState). s.snapshot) (e.stays at);
-      stays_device = λ at. ap (λ (s : SnapshotState). s.device) (e.stays at);
-    } in
-    let steps = steps-save c.sound_snapshots.ensures i t c.self.inside.snapshot.device new r sound at (subst (λ (s : SnapshotView). IsNoted t s c.self.inside.snapshot.device new r) snapshot n) other in
+    let noted = subst (λ (s : SnapshotView). NotesTime kinds.Member t (record { snapshot = s; device = c.self.inside.snapshot.device }) new r) snapshot c.note.ensures in
+    let steps = steps-save c.sound_snapshots.ensures i t c.self.inside.snapshot.device new r sound at noted other in
     subst (λ (d : Device). Steps i (save i) r d (agent_with new (record { config = c.self.inside.config; member_clock = c.self.inside.member_clock; events = concrete_of c.self.inside.events; queries = concrete_of c.self.inside.queries; snapshot = c.self.inside.snapshot.snapshot; asked = c.self.inside.asked })))
     (ap (λ (a : AgentState). a.device) c.self.view_is)
     (subst (λ (s : ConcreteState). Steps i (save i) r c.self.inside.snapshot.device (agent_with new s)) (sym was) steps)

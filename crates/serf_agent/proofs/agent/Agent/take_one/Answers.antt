@@ -2,7 +2,7 @@ use Rattle.std.proofs.lemmas.Result.{err_from_is_err_and}
 use Rattle.serf_agent.proofs.Names.{◌≡◌, ◌++◌, ◌∷◌, [], List, false, ap, sym, subst, refl, ◌∙◌, Err, NoteFault, Kept, Failed}
 use Rattle.serf_wire.specs.Lists.{event_of_view}
 use Rattle.serf_snap.specs.declared.kind.ClockKind.TheVariants as kinds
-use Rattle.serf_agent.specs.Devices.{FailsLine}
+use Rattle.serf_snap.specs.Ends.{FailsLine}
 use Rattle.serf_agent.specs.declared.outcome.EventOut.{EventOut}
 use Rattle.serf_agent.specs.declared.outcome.MergeFault.{MergeFault}
 use Rattle.serf_agent.specs.Faults.{merge_fault_of}
