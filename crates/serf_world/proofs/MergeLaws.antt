@@ -1,5 +1,5 @@
 -- Over a sink with a plan a merge has one end.
-use Rattle.serf_world.proofs.Names.{All, Call, ◌≡◌, ◌≢◌, ℕ, ◌<◌, ◌-◌, ◌^◌, cond, Bool, true, false, List, [], ◌∷◌, ◌++◌, Option, Some, None, Result, Ok, Err, refl, sym, ap, subst, ◌∙◌, inl, inr, AllByRecursion, WireFault, EventBody, decoded, Message, PushPull, user_event, query, query_response, push_pull, foreign, TimedEntry, Device, Kept, EventOut, MergeFault, Outcome, Reason, ReceiveFault, SinkFault, Step, planned, ended, will, device_after, admission, received_as, IdealAgent, Receives, EndsAt, Merges, receive_one, after_event, delivered, handed_by, joined, events_of, merge_refusal, AgentState, ConcreteState, view_of, IdealNode, Merged, merges_as, merges_events, merges_on, merges_packet, MergesRepresentable, IsRepresentable, append-nil, map, event_line, Handed}
+use Rattle.serf_world.proofs.Names.{All, Call, ◌≡◌, ◌≢◌, ℕ, ◌<◌, ◌-◌, ◌^◌, cond, Bool, true, false, List, [], ◌∷◌, ◌++◌, Option, Some, None, Result, Ok, Err, refl, sym, ap, subst, ◌∙◌, inl, inr, AllByRecursion, WireFault, EventBody, decoded, Message, PushPull, user_event, query, query_response, push_pull, foreign, TimedEntry, Device, Kept, EventOut, MergeFault, Outcome, Reason, ReceiveFault, SinkFault, Step, planned, ended, will, device_after, admission, received_as, IdealAgent, Receives, EndsAt, Merges, receive_one, after_event, delivered, handed_by, events_of, merge_refusal, AgentState, ConcreteState, view_of, IdealNode, Merged, merges_as, merges_events, merges_on, merges_packet, MergesRepresentable, IsRepresentable, append-nil, map, event_line, Handed}
 use Rattle.std.proofs.lemmas.List.Elements.{All-head, All-tail}
 use Rattle.serf_agent.specs.declared.outcome.MergeFault.TheVariants as merges
 use Rattle.serf_model.specs.declared.line.Line.{Line}

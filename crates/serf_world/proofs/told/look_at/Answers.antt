@@ -1,5 +1,5 @@
 use Rattle.std.specs.Prelude.{All}
-use Rattle.serf_world.proofs.Names.{ℕ, List, subst, sym, EventBody, TimedEntry, Action}
+use Rattle.serf_world.proofs.Names.{ℕ, List, subst, sym}
 use Rattle.serf_agent.specs.KeptTexts.{IsTold}
 use Rattle.serf_model.specs.Tails.{BringsTold}
 use Rattle.serf_model.specs.Trace.{events_in_packet}
