@@ -6,7 +6,7 @@ pub mod MemberClockLaws
 pub mod MergeLaws
 pub mod NoteLaws
 pub mod SendLaws
-pub mod RecallViews
+pub mod RecalledOffers
 pub mod ToldLines
 pub mod SoundLaws
 pub mod StepLaws

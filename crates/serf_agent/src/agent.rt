@@ -16,7 +16,7 @@ use crate::asked::Asked;
 use crate::config::Config;
 use crate::laws::{kept_restart_laws, sound_snapshots};
 use crate::outcome::{NotOpened, OpenFault};
-use crate::reopening::{new_events, new_queries, recalled_tracks};
+use crate::reopening::recalled_tracks;
 use crate::track::{EventTrack, QueryTrack};
 use serf_lamport::Clock;
 use serf_snap::{Sink, Snapshot};
@@ -139,8 +139,9 @@ impl<S: Sink> Agent<S> {
             return Ok(Agent::behind(alloc, config, events, queries, snapshot));
         }
         let last = snapshot.clocks();
-        let events = new_events(alloc, &config, last.event_clock);
-        let queries = new_queries(alloc, &config, last.query_clock);
+        let per_time = config.per_time;
+        let events = EventTrack::after(alloc, config.event_buffer, per_time, last.event_clock);
+        let queries = QueryTrack::after(alloc, config.query_buffer, per_time, last.query_clock);
         Ok(Agent::behind(alloc, config, events, queries, snapshot))
     }
 

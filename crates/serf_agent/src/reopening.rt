@@ -5,7 +5,6 @@ ghost use Rattle.serf_lamport.specs.Clock.{greatest_clock};
 ghost use Rattle.serf_window.specs.Queries.{same_id};
 ghost use Rattle.serf_window.specs.Recall.{entries_offered};
 ghost use Rattle.serf_window.specs.Texts.{event_of, same_texts};
-ghost use Rattle.serf_window.specs.Window.{slots_of};
 ghost use Rattle.serf_snap.specs.Clocks.{last_clock};
 ghost use Rattle.serf_snap.specs.EventLines.{events_in, least_in, queries_in};
 ghost use Rattle.serf_snap.specs.declared.kind.ClockKind.TheVariants as kinds;
@@ -91,9 +90,14 @@ fn recalled_events(alloc: Global, config: &Config, text: &[u8]) -> Result<EventT
     let least = read_least_times(text).events;
     let kept = read_events(alloc, text, within_reach(config.event_buffer, last, least))?;
     let offers = event_offers(alloc, kept.as_slice())?;
-    let mut track = EventTrack::new(alloc, config.event_buffer, config.per_time);
-    track.recall(alloc, config.event_buffer, last, least, offers.as_slice())?;
-    Ok(track)
+    EventTrack::recalled(
+        alloc,
+        config.event_buffer,
+        config.per_time,
+        last,
+        least,
+        offers.as_slice(),
+    )
 }
 
 /// The queries of a text that a buffer takes back.
@@ -111,42 +115,14 @@ fn recalled_queries(alloc: Global, config: &Config, text: &[u8]) -> Result<Query
     let least = read_least_times(text).queries;
     let kept = read_queries(alloc, text, within_reach(config.query_buffer, last, least))?;
     let offers = query_offers(alloc, kept.as_slice())?;
-    let mut track = QueryTrack::new(alloc, config.query_buffer, config.per_time);
-    track.recall(alloc, config.query_buffer, last, least, offers.as_slice())?;
-    Ok(track)
-}
-
-/// A track that has nothing, above the last time of a text. Takes no memory.
-pub(crate) fn new_events(alloc: Global, config: &Config, last: u64) -> EventTrack
-    requires sound { is_sound config.now ≡ true }
-    requires small { last < greatest_clock }
-    ensures concrete { concrete_of result ≡ record {
-      clock = last + 1;
-      minimum = last + 1;
-      slots = slots_of config.now.event_buffer [];
-    } }
-    ensures size { length result.window.slots ≡ config.now.event_buffer }
-    ensures per_time { result.window.per_time ≡ config.now.per_time }
-{
-    let mut events = EventTrack::new(alloc, config.event_buffer, config.per_time);
-    events.raise(last + 1, last + 1);
-    events
-}
-
-pub(crate) fn new_queries(alloc: Global, config: &Config, last: u64) -> QueryTrack
-    requires sound { is_sound config.now ≡ true }
-    requires small { last < greatest_clock }
-    ensures concrete { concrete_of result ≡ record {
-      clock = last + 1;
-      minimum = last + 1;
-      slots = slots_of config.now.query_buffer [];
-    } }
-    ensures size { length result.window.slots ≡ config.now.query_buffer }
-    ensures per_time { result.window.per_time ≡ config.now.per_time }
-{
-    let mut queries = QueryTrack::new(alloc, config.query_buffer, config.per_time);
-    queries.raise(last + 1, last + 1);
-    queries
+    QueryTrack::recalled(
+        alloc,
+        config.query_buffer,
+        config.per_time,
+        last,
+        least,
+        offers.as_slice(),
+    )
 }
 
 /// What an opening on a text takes back, where the settings keep events: the events and the queries that the text keeps.

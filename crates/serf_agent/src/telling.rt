@@ -1,6 +1,6 @@
 //! The lines of what an agent keeps over a restart, as it writes them.
 
-ghost use Rattle.std.specs.Prelude.{◌≡◌, ◌≢◌, ◌++◌, ◌<◌, None, IfOk, OnErr, OnOk};
+ghost use Rattle.std.specs.Prelude.{◌≡◌, ◌≢◌, ℕ, ◌++◌, ◌<◌, List, None, IfOk, OnErr, OnOk};
 ghost use Rattle.std.specs.List.{flat_map};
 ghost use Rattle.serf_lamport.specs.Clock.{greatest_clock};
 ghost use Rattle.serf_wire.specs.Buffers.{lent_slot, slots_to_come};
@@ -17,10 +17,10 @@ ghost use Rattle.serf_agent.specs.States.{told_least, told_lines};
 
 use crate::agent::Agent;
 use crate::config::Config;
-use crate::track::{EventTrack, QueryTrack, Track};
+use crate::track::Track;
 use serf_lamport::Time;
 use serf_snap::{ClockKind, Sink, put_event_line, put_least_line, put_query_line};
-use serf_wire::{Bytes, EventBody, LentEventSlots, LentSlot, LentSlots, PushPull};
+use serf_wire::{Bytes, EventBody, LentSlot, LentSlots, PushPull};
 use std::alloc::{AllocError, Global};
 
 /// The line of its own that an event has beside its clock line, where the settings keep events.
@@ -80,72 +80,75 @@ pub(crate) fn told_least(
     Ok(Some(Bytes::from_vec(line)))
 }
 
-/// Adds the lines of a slot's events.
-fn put_events(text: &mut Vec<u8>, time: Time, held: &[EventBody]) -> Result<(), AllocError>
-    ensures { OnOk result (text.new.items ≡ text.old.items
-        ++ flat_map (line_of_event time) held.now) }
+/// A key of a track whose entries a snapshot keeps, each in a line of its own: an event's texts, or a query's ID.
+trait Told: Drop {
+    ghost use Rattle.serf_snap.specs.declared.kind.ClockKind.{ClockKind};
+
+    /// The kind of clock that its times are of.
+    ghost KIND: { ClockKind };
+
+    /// The line of its entry of a time.
+    ghost line: { ℕ → Self → List ℕ };
+
+    const KIND: ClockKind;
+
+    /// Adds the line of its entry of a time.
+    fn put_line(&self, text: &mut Vec<u8>, time: Time) -> Result<(), AllocError>
+        ensures { OnOk result (text.new.items ≡ text.old.items ++ line time self.now) };
+}
+
+impl Told for EventBody {
+    ghost KIND = { kinds.Event };
+
+    ghost line = { line_of_event };
+
+    const KIND: ClockKind = ClockKind::Event;
+
+    fn put_line(&self, text: &mut Vec<u8>, time: Time) -> Result<(), AllocError> {
+        put_event_line(text, time, self.name.as_slice(), self.payload.as_slice())
+    }
+}
+
+impl Told for u32 {
+    ghost KIND = { kinds.Query };
+
+    ghost line = { query_line };
+
+    const KIND: ClockKind = ClockKind::Query;
+
+    fn put_line(&self, text: &mut Vec<u8>, time: Time) -> Result<(), AllocError> {
+        put_query_line(text, time, *self)
+    }
+}
+
+/// Adds the lines of what is held of a time.
+fn put_held<K: Told>(text: &mut Vec<u8>, time: Time, held: &[K]) -> Result<(), AllocError>
+    ensures { OnOk result (text.new.items ≡ text.old.items ++ flat_map (K.line time) held.now) }
 {
-    for event in held {
-        put_event_line(text, time, event.name.as_slice(), event.payload.as_slice())?;
+    for key in held {
+        key.put_line(text, time)?;
     }
     Ok(())
 }
 
-/// Adds the lines of a slot's queries.
-fn put_queries(text: &mut Vec<u8>, time: Time, held: &[u32]) -> Result<(), AllocError>
+/// Adds the lines of what a slot holds, where its time isn't below this.
+fn put_slot<K: Told>(text: &mut Vec<u8>, least: u64, slot: &LentSlot<K>) -> Result<(), AllocError>
     ensures { OnOk result (text.new.items ≡ text.old.items
-        ++ flat_map (query_line time) held.now) }
-{
-    for id in held {
-        put_query_line(text, time, *id)?;
-    }
-    Ok(())
-}
-
-/// Adds the lines of what a slot of events holds, where its time isn't below this.
-fn put_slot_events(
-    text: &mut Vec<u8>,
-    least: u64,
-    slot: &LentSlot<EventBody>,
-) -> Result<(), AllocError>
-    ensures { OnOk result (text.new.items ≡ text.old.items
-        ++ lines_of_slot line_of_event least (lent_slot slot.now)) }
+        ++ lines_of_slot K.line least (lent_slot slot.now)) }
 {
     if slot.time.get() < least {
         return Ok(());
     }
-    put_events(text, slot.time, slot.held)
+    put_held(text, slot.time, slot.held)
 }
 
-/// Adds the lines of what slots of events hold from a time on.
-fn put_held_events(text: &mut Vec<u8>, least: u64, slots: LentEventSlots) -> Result<(), AllocError>
+/// Adds the lines of what slots hold from a time on.
+fn put_slots<K: Told>(text: &mut Vec<u8>, least: u64, slots: LentSlots<K>) -> Result<(), AllocError>
     ensures { OnOk result (text.new.items ≡ text.old.items
-        ++ flat_map (lines_of_slot line_of_event least) (slots_to_come slots.entry)) }
+        ++ flat_map (lines_of_slot K.line least) (slots_to_come slots.entry)) }
 {
     for slot in slots {
-        put_slot_events(text, least, &slot)?;
-    }
-    Ok(())
-}
-
-/// Adds the lines of what a slot of queries holds, where its time isn't below this.
-fn put_slot_queries(text: &mut Vec<u8>, least: u64, slot: &LentSlot<u32>) -> Result<(), AllocError>
-    ensures { OnOk result (text.new.items ≡ text.old.items
-        ++ lines_of_slot query_line least (lent_slot slot.now)) }
-{
-    if slot.time.get() < least {
-        return Ok(());
-    }
-    put_queries(text, slot.time, slot.held)
-}
-
-/// Adds the lines of what slots of queries hold from a time on.
-fn put_held_queries(text: &mut Vec<u8>, least: u64, slots: LentSlots<u32>) -> Result<(), AllocError>
-    ensures { OnOk result (text.new.items ≡ text.old.items
-        ++ flat_map (lines_of_slot query_line least) (slots_to_come slots.entry)) }
-{
-    for slot in slots {
-        put_slot_queries(text, least, &slot)?;
+        put_slot(text, least, &slot)?;
     }
     Ok(())
 }
@@ -158,36 +161,20 @@ pub(crate) fn least_told<K: Drop>(track: &Track<K>, slot_count: u64, last: u64) 
     track.minimum().max((last + 1).saturating_sub(slot_count))
 }
 
-/// Adds the lines of the events that are stored.
-fn put_stored_events(
+/// Adds the lines of what is stored of a track.
+fn put_stored<K: Told>(
     text: &mut Vec<u8>,
     slot_count: u64,
     last: u64,
-    track: &EventTrack,
+    track: &Track<K>,
 ) -> Result<(), AllocError>
     requires { last < greatest_clock }
     ensures { OnOk result (text.new.items ≡ text.old.items
-        ++ stored_lines kinds.Event line_of_event slot_count last (concrete_of track.now)) }
+        ++ stored_lines K.KIND K.line slot_count last (concrete_of track.now)) }
 {
     let least = least_told(track, slot_count, last);
-    put_least_line(text, ClockKind::Event, least)?;
-    put_held_events(text, least, track.slots())
-}
-
-/// Adds the lines of the queries that are stored.
-fn put_stored_queries(
-    text: &mut Vec<u8>,
-    slot_count: u64,
-    last: u64,
-    track: &QueryTrack,
-) -> Result<(), AllocError>
-    requires { last < greatest_clock }
-    ensures { OnOk result (text.new.items ≡ text.old.items
-        ++ stored_lines kinds.Query query_line slot_count last (concrete_of track.now)) }
-{
-    let least = least_told(track, slot_count, last);
-    put_least_line(text, ClockKind::Query, least)?;
-    put_held_queries(text, least, track.slots())
+    put_least_line(text, K::KIND, least)?;
+    put_slots(text, least, track.slots())
 }
 
 impl<S: Sink> Agent<S> {
@@ -201,13 +188,13 @@ impl<S: Sink> Agent<S> {
         }
         let last = self.snapshot.clocks();
         let mut text = Vec::new(alloc);
-        put_stored_events(
+        put_stored(
             &mut text,
             self.config.event_buffer,
             last.event_clock,
             &self.events,
         )?;
-        put_stored_queries(
+        put_stored(
             &mut text,
             self.config.query_buffer,
             last.query_clock,

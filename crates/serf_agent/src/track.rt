@@ -49,7 +49,7 @@ pub(crate) type QueryTrack = Track<u32>;
 
 impl<K: Drop> Track<K> {
     /// A track that has nothing, and draws the time 1 first. Takes no memory.
-    pub(crate) fn new(alloc: Global, slot_count: u64, per_time: u64) -> Track<K>
+    fn new(alloc: Global, slot_count: u64, per_time: u64) -> Track<K>
         requires some_slot { 0 < slot_count }
         requires most_slots { slot_count ≤ greatest_slot_count }
         requires some_of_time { 0 < per_time }
@@ -68,6 +68,55 @@ impl<K: Drop> Track<K> {
             minimum: 1,
             window,
         }
+    }
+
+    /// A track that has nothing, above the last time of a text. Takes no memory.
+    pub(crate) fn after(alloc: Global, slot_count: u64, per_time: u64, last: u64) -> Track<K>
+        requires some_slot { 0 < slot_count }
+        requires most_slots { slot_count ≤ greatest_slot_count }
+        requires some_of_time { 0 < per_time }
+        requires most_of_time { per_time ≤ greatest_per_time }
+        requires small { last < greatest_clock }
+        ensures concrete { concrete_of result ≡ record {
+          clock = last + 1;
+          minimum = last + 1;
+          slots = slots_of slot_count [];
+        } }
+        ensures size { length result.window.slots ≡ slot_count }
+        ensures per_time { result.window.per_time ≡ per_time }
+    {
+        let mut track = Track::new(alloc, slot_count, per_time);
+        track.raise(last + 1, last + 1);
+        track
+    }
+
+    /// The track that takes back what a text keeps, where it has this last clock and this least time: the clock is above the
+    /// last one, and no less than the least time; no time below the buffer's reach may be taken.
+    pub(crate) fn recalled<L: LentKey<K>>(
+        alloc: Global,
+        slot_count: u64,
+        per_time: u64,
+        last: u64,
+        least: u64,
+        offers: &[Offer<L>],
+    ) -> Result<Track<K>, AllocError>
+        requires some_slot { 0 < slot_count }
+        requires most_slots { slot_count ≤ greatest_slot_count }
+        requires some_of_time { 0 < per_time }
+        requires most_of_time { per_time ≤ greatest_per_time }
+        requires small { last < greatest_clock }
+        requires times { All (λ offer. offer.time < last + 1) offers.now }
+        ensures concrete { IfOk result (λ track. concrete_of track ≡ first_track true L.same
+            slot_count per_time last least (entries_offered L.key offers.now)) }
+        ensures size { IfOk result (λ track. length track.window.slots ≡ slot_count) }
+        ensures per_time { IfOk result (λ track. track.window.per_time ≡ per_time) }
+    {
+        let mut track = Track::new(alloc, slot_count, per_time);
+        let clock = (last + 1).max(least);
+        track.clock.observe_before(clock);
+        let minimum = track.window.recall(alloc, clock, least, offers)?;
+        track.minimum = minimum.max(clock.saturating_sub(slot_count));
+        Ok(track)
     }
 
     pub(crate) fn time(&self) -> u64
@@ -139,33 +188,6 @@ impl<K: Drop> Track<K> {
     {
         self.clock.observe_before(clock);
         self.minimum = self.minimum.max(minimum);
-    }
-
-    /// Takes back what a text keeps, where it has this last clock and this least time: the clock goes above the last one, and is
-    /// no less than the least time; no time below the buffer's reach may be taken. The track has nothing yet.
-    pub(crate) fn recall<L: LentKey<K>>(
-        &mut self,
-        alloc: Global,
-        slot_count: u64,
-        last: u64,
-        least: u64,
-        offers: &[Offer<L>],
-    ) -> Result<(), AllocError>
-        requires small { last < greatest_clock }
-        requires size { length self.old.window.slots ≡ slot_count }
-        requires nothing { concrete_of self.old
-            ≡ record { clock = 1; minimum = 1; slots = slots_of slot_count [] } }
-        requires times { All (λ offer. offer.time < last + 1) offers.now }
-        ensures concrete { OnOk result (concrete_of self.new ≡ first_track true L.same slot_count
-            self.old.window.per_time last least (entries_offered L.key offers.now)) }
-        ensures size { length self.new.window.slots ≡ length self.old.window.slots }
-        ensures per_time { self.new.window.per_time ≡ self.old.window.per_time }
-    {
-        let clock = (last + 1).max(least);
-        self.clock.observe_before(clock);
-        let minimum = self.window.recall(alloc, clock, least, offers)?;
-        self.minimum = minimum.max(clock.saturating_sub(slot_count));
-        Ok(())
     }
 
     /// Makes what comes ready to enter.

@@ -5,11 +5,11 @@ use Rattle.serf_window.specs.Recall.{entries_offered}
 use Rattle.serf_snap.specs.declared.kept.Wanted.{Wanted}
 use Rattle.serf_snap.specs.EventLines.{events_in}
 use Rattle.serf_agent.specs.KeptTexts.{IsShort, event_entry, kept_events, within_reach}
-use Rattle.serf_agent.proofs.RecallViews.{offers-below}
+use Rattle.serf_agent.proofs.RecalledOffers.{offers-below}
 use Rattle.serf_agent.proofs.reopening.recalled_events.Goals as goal
 
-pub recall-requires-clause-times : goal.recall-requires-clause-times
-recall-requires-clause-times c =
+pub recalled-requires-clause-times : goal.recalled-requires-clause-times
+recalled-requires-clause-times c =
     let n = c.args.config.now.event_buffer in
     let last = c.read_clocks-last.result.event_clock in
     let least = c.read_least_times-least.result.events in

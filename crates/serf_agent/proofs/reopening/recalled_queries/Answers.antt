@@ -4,11 +4,11 @@ use Rattle.serf_window.specs.Recall.{entries_offered}
 use Rattle.serf_snap.specs.declared.kept.Wanted.{Wanted}
 use Rattle.serf_snap.specs.EventLines.{queries_in}
 use Rattle.serf_agent.specs.KeptTexts.{IsIdShort, query_entry, kept_queries, within_reach}
-use Rattle.serf_agent.proofs.RecallViews.{offers-below}
+use Rattle.serf_agent.proofs.RecalledOffers.{offers-below}
 use Rattle.serf_agent.proofs.reopening.recalled_queries.Goals as goal
 
-pub recall-requires-clause-times : goal.recall-requires-clause-times
-recall-requires-clause-times c =
+pub recalled-requires-clause-times : goal.recalled-requires-clause-times
+recalled-requires-clause-times c =
     let n = c.args.config.now.query_buffer in
     let last = c.read_clocks-last.result.query_clock in
     let least = c.read_least_times-least.result.queries in

@@ -80,8 +80,8 @@ returns-clause-restarted g c = λ i sound said.
     } in
     let off : config.keep_events ≡ false = search rules in
     goes-on c.sound_snapshots.ensures c.kept_restart_laws.ensures (with_config config i) text (g.S.Sink.device c.args.sink) _ _ _ _ (sound-with_config config i sound ok) past c.in-Ok-open.ensures.times.member_clock c.in-Ok-open.ensures.ok
-    (new-events config text _ _ off (c.clocks-last.ensures.event ∙ (λ k. (c.in-Ok-open.ensures.ok k).event_clock)) c.new_events-events.ensures.concrete)
-    (new-queries config text _ _ off (c.clocks-last.ensures.query ∙ (λ k. (c.in-Ok-open.ensures.ok k).query_clock)) c.new_queries-queries.ensures.concrete) c.behind-2.ensures.concrete
+    (new-events config text _ _ off (c.clocks-last.ensures.event ∙ (λ k. (c.in-Ok-open.ensures.ok k).event_clock)) c.after-events.ensures.concrete)
+    (new-queries config text _ _ off (c.clocks-last.ensures.query ∙ (λ k. (c.in-Ok-open.ensures.ok k).query_clock)) c.after-queries.ensures.concrete) c.behind-2.ensures.concrete
 
 pub returns-clause-first : goal.returns-clause-first
 returns-clause-first g c =
@@ -94,8 +94,8 @@ returns-clause-first g c =
     let sound = sound-unopened c.sound_snapshots.ensures config text device ok small in
     let off : config.keep_events ≡ false = search rules in
     goes-on c.sound_snapshots.ensures c.kept_restart_laws.ensures i text device _ _ _ _ sound (past-unopened config (opened text device) text) c.in-Ok-open.ensures.times.member_clock c.in-Ok-open.ensures.ok
-    (new-events config text _ _ off (c.clocks-last.ensures.event ∙ (λ k. (c.in-Ok-open.ensures.ok k).event_clock)) c.new_events-events.ensures.concrete)
-    (new-queries config text _ _ off (c.clocks-last.ensures.query ∙ (λ k. (c.in-Ok-open.ensures.ok k).query_clock)) c.new_queries-queries.ensures.concrete) c.behind-2.ensures.concrete
+    (new-events config text _ _ off (c.clocks-last.ensures.event ∙ (λ k. (c.in-Ok-open.ensures.ok k).event_clock)) c.after-events.ensures.concrete)
+    (new-queries config text _ _ off (c.clocks-last.ensures.query ∙ (λ k. (c.in-Ok-open.ensures.ok k).query_clock)) c.after-queries.ensures.concrete) c.behind-2.ensures.concrete
 
 seal-failed : (fault : SealFault) → open_fault_of fault ≡ opens.SinkFault → fault ≡ seals.SinkFault
 seal-failed seals.OutOfMemory is = absurd (cc is)

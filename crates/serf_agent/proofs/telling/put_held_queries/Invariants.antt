@@ -1,8 +1,0 @@
-use Rattle.serf_agent.proofs.Names.{◌≡◌, ◌++◌, flat_map}
-use Rattle.serf_wire.specs.Buffers.{slots_to_come}
-use Rattle.serf_agent.specs.KeptLines.{lines_of_slot}
-use Rattle.serf_snap.specs.EventLines.{query_line}
-use Rattle.serf_agent.proofs.telling.put_held_queries.Given as goal
-
-abbrev pub invariant-loop-slot : goal.invariant-loop-slot
-invariant-loop-slot l = l.text.items ++ flat_map (lines_of_slot query_line l.least) (slots_to_come l.slot-iterator) ≡ l.fn.text.items ++ flat_map (lines_of_slot query_line l.least) (slots_to_come l.fn.slots)
