@@ -5,7 +5,7 @@ Each check is one thing that a document names:
 - a path in backquotes stands in the repository (from its top, from the document, from a crate or a crate's src);
 - `crate::item` and `Type::method` are public items, and `serf_name` is a crate, or a function of a header in C;
 - a clause named in the tables of PROMISES.md, CRATES.md or WRONG_BODIES.md, or in brackets behind a function, is a
-  clause of some contract;
+  clause of some contract, and an edit with which a row of WRONG_BODIES.md begins is one of a crate;
 - a link leads to a file that stands;
 - the table of ARCHITECTURE.md, "To add something", has each file of a crate that names the sibling of a column;
 - tests/README.md has each script of tests/, and no script of a test stands beside its folders;
@@ -279,6 +279,18 @@ def quoted(page):
             yield re.search(r"^abbrev pub (\w+)", text, re.M)[1], None if text in specs else "isn't quoted as it stands"
 
 
+# A row of WRONG_BODIES.md begins with the edits that it is about.
+EDITS = re.compile(r"^\| ([a-z0-9_]+(?:, [a-z0-9_]+)*)(?::| \|)", re.M)
+
+
+def edits_named(page):
+    """Each wrong body that WRONG_BODIES.md names, and what is wrong with it, or None: it is an edit of a crate."""
+    there = {os.path.basename(path) for folder in ("mutants", "must-fail") for path in glob.glob(f"crates/*/{folder}/*.edit", root_dir=TOP)}
+    for row in EDITS.findall(page):
+        for edit in row.split(", "):
+            yield edit, None if f"{edit}.edit" in there else "no such edit"
+
+
 # The pages whose tables name clauses.
 OF_CLAUSES = tuple(os.path.join("docs", name) for name in ("PROMISES.md", "CRATES.md", "WRONG_BODIES.md"))
 
@@ -300,6 +312,8 @@ def checks_of(tree, jobs, document):
         yield from quoted(page)
     if document == os.path.join("tests", "README.md"):
         yield from missing_scripts(page)
+    if document == os.path.join("docs", "WRONG_BODIES.md"):
+        yield from edits_named(page)
     if document in OF_CLAUSES:
         for clause in clauses_in(page):
             yield clause, None if clause in tree.clauses else "no such clause"
