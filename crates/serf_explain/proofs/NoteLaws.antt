@@ -1,17 +1,14 @@
 -- The events that were handed out, and the lines that did it.
-use Rattle.std.proofs.Common.{◌≡◌, ◌⊎◌, ℕ, zero, suc, ◌+◌, ◌<◌, ◌≤◌, ◌++◌, ◌==◌, ◌&&◌, ◌||◌, cond, inl, inr, List, [], ◌∷◌, Bool, true, false, length, map, Option, Some, None, arith, refl, sym, ap, ap₂, subst, eq-eqb, ◌∙◌, append_assoc, append-nil}
+use Rattle.std.proofs.Common.{◌≡◌, ◌⊎◌, ℕ, zero, suc, ◌+◌, ◌<◌, ◌++◌, ◌==◌, ◌&&◌, ◌||◌, cond, inl, inr, List, [], ◌∷◌, Bool, true, false, length, map, Option, Some, None, arith, refl, sym, ap, ap₂, subst, eq-eqb, ◌∙◌, append_assoc, append-nil}
 use Rattle.std.proofs.lemmas.Bool.{cases_Bool}
-use Rattle.std.proofs.lemmas.Grind.{common_steps}
-use Rattle.std.proofs.lemmas.List.Folds.{list_any-append, list_any_none}
-use Rattle.std.proofs.lemmas.List.Quantifiers.{position-Some}
-use Rattle.std.proofs.lemmas.List.Sums.{fails_before_first}
-use Rattle.std.proofs.lemmas.Option.{slice_get-get_or, slice_get-map}
-use Rattle.std.specs.List.{filter, flat_map, list_any, position_or_len}
+use Rattle.std.proofs.lemmas.List.Folds.{list_any-append}
+use Rattle.std.proofs.lemmas.Option.{slice_get-map}
+use Rattle.std.specs.List.{filter, find, flat_map, list_any}
 use Rattle.std.specs.Str.{bytes_eq}
 use Rattle.std.proofs.Math.Bool.{or-true}
 use Rattle.std.proofs.lemmas.Slice.Eq.{bytes_eq-Decides}
 use Rattle.std.specs.Option.{option_map}
-use Rattle.std.specs.Prelude.{Contains, codes, decimal, position, slice_get, slice_index_or}
+use Rattle.std.specs.Prelude.{Contains, codes, decimal, slice_get, slice_index_or}
 use Rattle.serf_wire.specs.declared.texts.EventBody.{EventBody}
 use Rattle.serf_window.specs.Texts.{event_of, same_texts}
 use Rattle.serf_window.specs.Window.{TimedEntry}
@@ -49,37 +46,21 @@ noted-at outs place a time what h at is = record {
   hands = is;
 }
 
-some-there : (outs : List HandOut) (place : ℕ) → place < length outs → slice_get outs place ≡ None → ⊥
-some-there [] place inside at = omega arith
-some-there (h ∷ hs) zero inside at = cc (at)
-some-there (h ∷ hs) (suc place) inside at = some-there hs place (omega arith) at
-
 module _ (a time : ℕ) (what : EventBody) where
   -- the first one, or none
-  pub first-is : (outs : List HandOut) (place : ℕ) (h : HandOut) → Some place ≡ position (λ (h : HandOut). is_note a time what (note_in h)) outs → slice_get outs place ≡ Some h → NotedAt (notes_in outs) h.action a time what
-  first-is outs place h e at =
-      let p : HandOut → Bool = λ (h : HandOut). is_note a time what (note_in h) in
-      let first = position-Some p outs place h (sym e) in
-      let here : Some h ≡ Some (slice_index_or outs place h) = sym at ∙ slice_get-get_or outs place h first.0 in
-      let same : h ≡ slice_index_or outs place h = cc in
-      noted-at outs place a time what h at (ap p same ∙ first.1)
+  pub first-noted : (outs : List HandOut) (h : HandOut) → find (λ (o : HandOut). is_note a time what (note_in o)) outs ≡ Some h → NotedAt (notes_in outs) h.action a time what
+  first-noted [] h e = absurd (cc e)
+  first-noted (x ∷ xs) h e = elim (cases_Bool (is_note a time what (note_in x))) [
+    | inl is ↦ (let same : x ≡ h = cc (rw is at e) in subst (λ (o : HandOut). NotedAt (notes_in (x ∷ xs)) o.action a time what) same (noted-at (x ∷ xs) 0 a time what x refl is))
+    | inr other ↦ (let behind = first-noted xs h (rw other at e) in record { place = suc behind.place; note = behind.note; at = behind.at; action_is = behind.action_is; hands = behind.hands })
+  ]
 
-  pub first-there : (outs : List HandOut) (place : ℕ) → Some place ≡ position (λ (h : HandOut). is_note a time what (note_in h)) outs → slice_get outs place ≡ None → ⊥
-  first-there outs place e at =
-      let p : HandOut → Bool = λ (h : HandOut). is_note a time what (note_in h) in
-      let here : position_or_len p outs ≡ place = grind (arith, common_steps) in
-      let inside : place < length outs = grind (arith, common_steps) in
-      some-there outs place inside at
-
-  any-in : (outs : List HandOut) → list_any (is_note a time what) (notes_in outs) ≡ list_any (λ (h : HandOut). is_note a time what (note_in h)) outs
-  any-in [] = refl
-  any-in (h ∷ hs) = ap (λ b. is_note a time what (note_in h) || b) (any-in hs)
-
-  pub none-first : (outs : List HandOut) → None ≡ position (λ (h : HandOut). is_note a time what (note_in h)) outs → list_any (is_note a time what) (notes_in outs) ≡ false
-  none-first outs e =
-      let p : HandOut → Bool = λ (h : HandOut). is_note a time what (note_in h) in
-      let last : length outs ≤ position_or_len p outs = grind (arith, common_steps) in
-      any-in outs ∙ list_any_none p outs (λ k d lt. fails_before_first p outs k d (omega arith))
+  pub none-noted : (outs : List HandOut) → find (λ (o : HandOut). is_note a time what (note_in o)) outs ≡ None → list_any (is_note a time what) (notes_in outs) ≡ false
+  none-noted [] e = refl
+  none-noted (x ∷ xs) e = elim (cases_Bool (is_note a time what (note_in x))) [
+    | inl is ↦ absurd (cc (rw is at e))
+    | inr other ↦ rw other (none-noted xs (rw other at e))
+  ]
 
   -- a line that hands it out
   record Found (n : ℕ) (lines : List Line) (note : Note) : Type 0 where

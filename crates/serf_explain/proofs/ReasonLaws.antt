@@ -27,31 +27,6 @@ adds-both n a b c h k = record {
       ∙ ap (λ t. a ++ t) (sym (lines-append n h.reasons k.reasons));
 }
 
-some-behind : (rs : List (List ℕ)) (r : List ℕ) → 0 < length (rs ++ r ∷ [])
-some-behind [] r = omega arith
-some-behind (x ∷ rs) r = omega arith
-
-pub adds-last : (n : ℕ) (a b c reason : List ℕ) → AddsReasons n a b → c ≡ b ++ because_line n reason → AddsSome n a c
-adds-last n a b c reason h is =
-    let lines : List ℕ = because_line n reason in
-    let one : flat_map (because_line n) (reason ∷ []) ≡ lines = append-nil lines in
-    record {
-      reasons = h.reasons ++ reason ∷ [];
-      some = some-behind h.reasons reason;
-      added = is ∙ ap (λ t. t ++ lines) h.added
-          ∙ append_assoc a (flat_map (because_line n) h.reasons) lines
-          ∙ ap (λ t. a ++ (flat_map (because_line n) h.reasons ++ t)) (sym one)
-          ∙ ap (λ t. a ++ t) (sym (lines-append n h.reasons (reason ∷ [])));
-    }
-
--- a text that is no longer than before has no reason more
-pub adds-some : (n : ℕ) (a b : List ℕ) → AddsReasons n a b → (length b ≡ length a → ⊥) → AddsSome n a b
-adds-some n a b h differs = by h.reasons h.added
-  where
-    by : (rs : List (List ℕ)) → b ≡ a ++ flat_map (because_line n) rs → AddsSome n a b
-    by [] is = absurd (differs (ap (λ (l : List ℕ). length l) (is ∙ append-nil a)))
-    by (r ∷ rs) is = record { reasons = r ∷ rs; some = omega arith; added = is }
-
 pub adds-behind : (n : ℕ) (a b c : List ℕ) → AddsReasons n a b → AddsSome n b c → AddsSome n a c
 adds-behind n a b c h k = by h.reasons h.added
   where

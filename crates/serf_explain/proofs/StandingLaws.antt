@@ -1,12 +1,11 @@
 -- The line of an event that was seen, whose bytes all stand as they are.
-use Rattle.std.proofs.Common.{◌≡◌, ℕ, ◌+◌, ◌%◌, ◌^◌, ◌<◌, ◌++◌, List, [], ◌∷◌, Option, Some, codes, decimal, length, nat_le, true, refl, sym, ap, subst, ◌∙◌, append_assoc, arith}
+use Rattle.std.proofs.Common.{◌≡◌, ℕ, ◌+◌, ◌%◌, ◌^◌, ◌<◌, ◌++◌, List, [], ◌∷◌, Some, codes, decimal, length, nat_le, true, refl, sym, ap, subst, ◌∙◌, append_assoc, arith}
 use Rattle.std.specs.List.{list_all}
 use Rattle.std.proofs.lemmas.Bool.Decides.{nat_tests}
 use Rattle.std.proofs.lemmas.Fmt.{decimal_by_steps}
 use Rattle.std.proofs.lemmas.List.Folds.{list_all-append}
 use Rattle.serf_window.specs.Texts.{event_of}
 use Rattle.serf_wire.specs.declared.texts.EventBody.{EventBody}
-use Rattle.serf_agent.specs.declared.outcome.Reason.{Reason}
 use Rattle.serf_agent.specs.declared.outcome.Reason.TheVariants.{Seen}
 use Rattle.serf_explain.specs.Because.{because_line, is_printable}
 use Rattle.serf_explain.specs.Carried.{carried_words, slot_words}
@@ -90,20 +89,18 @@ line-parts n slot time action what named =
     line-law (decimal n) (codes " because ") (codes "slot ") (decimal slot) (codes " brings ") (event_words time what) (codes ": ") (codes "seen: ") named (codes " at action ") (decimal action) (codes "\n")
 
 -- a text grew by both halves of such a line
-pub adds-standing : (n slot time action : ℕ) (name payload : List ℕ) (verdict : Option Reason) (front named words old mid new : List ℕ) → slot < 2 ^ 64 → time < 2 ^ 64 → action < 2 ^ 64 → stands name ≡ true → stands payload ≡ true → verdict ≡ Some Seen
+pub adds-standing : (n slot time action : ℕ) (name payload front named words old mid new : List ℕ) → slot < 2 ^ 64 → time < 2 ^ 64 → action < 2 ^ 64 → stands name ≡ true → stands payload ≡ true
     → front ≡ decimal n ++ codes " because slot " → list_all is_printable named ≡ true → words ≡ event_words time (event_of name payload)
-    → mid ≡ old ++ seen_front front slot words → new ≡ mid ++ seen_behind named words action → AddsCarried n slot time (event_of name payload) verdict old new
-adds-standing n slot time action name payload verdict front named words old mid new slot_fits time_fits action_fits h k seen front_is named_is words_are one two =
+    → mid ≡ old ++ seen_front front slot words → new ≡ mid ++ seen_behind named words action → AddsCarried n slot time (event_of name payload) (Some Seen) old new
+adds-standing n slot time action name payload front named words old mid new slot_fits time_fits action_fits h k front_is named_is words_are one two =
     let what : EventBody = event_of name payload in
-    let all : List ℕ = event_words time what in
-    let detail : List ℕ = seen_detail named all action in
+    let detail : List ℕ = seen_detail named (event_words time what) action in
     let line = line-said n (carried_words slot time what (Some Seen) detail) (reason-printable slot time action what named slot_fits action_fits named_is (words-printable time name payload time_fits h k)) in
-    subst (λ (v : Option Reason). AddsCarried n slot time what v old new) (sym seen)
-    (record {
+    record {
       detail = detail;
       added = two
           ∙ ap (λ (t : List ℕ). t ++ seen_behind named words action) one
           ∙ append_assoc old (seen_front front slot words) (seen_behind named words action)
           ∙ (λ q. old ++ (seen_front (front_is q) slot (words_are q) ++ seen_behind named (words_are q) action))
           ∙ ap (λ (t : List ℕ). old ++ t) (line-parts n slot time action what named ∙ sym line);
-    })
+    }

@@ -22,10 +22,8 @@ use Rattle.serf_schedule.specs.Output.{text_of}
 use Rattle.serf_schedule.specs.Schedule.{after_lines, parsed_of, schedule_in}
 use Rattle.serf_explain.specs.declared.streaming.Explaining.{Explaining}
 use Rattle.serf_explain.specs.declared.telling.Telling.{Telling}
-use Rattle.serf_world.specs.View.{WorldState}
-use Rattle.serf_explain.specs.declared.range.Range.{Range}
-use Rattle.serf_explain.specs.Explained.{Explained, Explains, HasTold, IsReasoned, TellsMore, TellsRun}
-use Rattle.serf_explain.specs.HandOuts.{Note, notes_in}
+use Rattle.serf_explain.specs.Acted.{HasActed}
+use Rattle.serf_explain.specs.Explained.{Explained, Explains, IsReasoned, TellsRun}
 use Rattle.serf_explain.specs.Streamed.{HasExplained, HasTelling, IsHalted, IsHaltedBy, IsLineRefused, IsStage, Takes, is_refused_by}
 use Rattle.serf_explain.specs.Range.{all_actions}
 use Rattle.serf_explain.proofs.TellLaws.{told-whole}
@@ -131,24 +129,13 @@ one-action [] a at few = absurd (cc at)
 one-action (b ∷ []) a at few = let same : b ≡ a = cc at in ap (λ (x : Action). x ∷ []) same
 one-action (b ∷ d ∷ more) a at few = absurd (omega arith)
 
--- what was added to nothing
-pub more-told : (range : Range) (configs : List Config) (done : List Action) (w : WorldState) (notes : List Note) (told old new : List ℕ) → range ≡ all_actions → old ≡ [] → TellsMore range configs done w notes told old new
-    → HasTold all_actions configs done w notes (told ++ new)
-more-told range configs done w notes told old new is none t =
-    let same : t.added ≡ new = sym (t.new_is ∙ ap (λ (o : List ℕ). o ++ t.added) none) in
-    subst (λ (r : Range). HasTold r configs done w notes (told ++ new)) is (subst (λ (x : List ℕ). HasTold range configs done w notes (told ++ x)) same t.told)
-
 -- the first action came
-pub begun : (said : Parsed) (configs : List Config) (a : Action) (telling : Telling) (text : List ℕ) → said.configs ≡ configs → said.actions ≡ a ∷ []
-    → HasTold all_actions configs (a ∷ []) telling.world (notes_in telling.history.hand_outs.outs.items) text → telling.turns ≡ 1 → telling.range ≡ all_actions → HasTelling said telling text
-begun said configs a telling text settings acts told one all =
+pub begun : (said : Parsed) (configs : List Config) (a : Action) (telling : Telling) (text : List ℕ) → said.configs ≡ configs → said.actions ≡ a ∷ [] → HasActed all_actions configs (a ∷ []) telling text → HasTelling said telling text
+begun said configs a telling text settings acts h =
     let many = ap length acts in
     record {
-      range_is = all;
       some = omega (arith, many);
-      counted = one ∙ sym many;
-      told = subst (λ (cs : List Config). HasTold all_actions cs said.actions telling.world (notes_in telling.history.hand_outs.outs.items) text) (sym settings)
-          (subst (λ (done : List Action). HasTold all_actions configs done telling.world (notes_in telling.history.hand_outs.outs.items) text) (sym acts) told);
+      acted = subst (λ (cs : List Config). HasActed all_actions cs said.actions telling text) (sym settings) (subst (λ (done : List Action). HasActed all_actions configs done telling text) (sym acts) h);
     }
 
 -- no action came
@@ -166,21 +153,14 @@ pair (x ∷ []) a first b is = let one : x ≡ first = cc is in let two : b ≡ 
 pair (x ∷ y ∷ more) a first b is = let long = ap length is in let sum = length-append more (a ∷ []) in absurd (omega (arith, long, sum))
 
 -- one more action came
-pub went-on : (said : Parsed) (first : Action) (turn : Option Action) (actions rest : List Action) (a : Action) (telling : Telling) (told : List ℕ)
-    → actions ≡ first ∷ option_to_list turn → 2 ≤ length actions → actions ≡ rest ++ a ∷ []
-    → HasTold all_actions said.configs (said.actions ++ a ∷ []) telling.world (notes_in telling.history.hand_outs.outs.items) told → telling.turns ≡ length said.actions + 1 → telling.range ≡ all_actions
-    → (length rest ≡ 1) × HasTelling (with_turn said turn) telling told
-went-on said first None actions rest a telling told are many all tells counts range = let one = ap length are in absurd (omega (arith, one))
-went-on said first (Some b) actions rest a telling told are many all tells counts range =
+pub went-on : (said : Parsed) (first : Action) (turn : Option Action) (actions rest : List Action) (a : Action) (telling : Telling) (text : List ℕ) → actions ≡ first ∷ option_to_list turn → 2 ≤ length actions → actions ≡ rest ++ a ∷ []
+    → HasActed all_actions said.configs (said.actions ++ a ∷ []) telling text → (length rest ≡ 1) × HasTelling (with_turn said turn) telling text
+went-on said first None actions rest a telling text are many all h = let one = ap length are in absurd (omega (arith, one))
+went-on said first (Some b) actions rest a telling text are many all h =
     let parts = pair rest a first b (sym are ∙ all) in
-    let longer : length (said.actions ++ b ∷ []) ≡ length said.actions + 1 = length-append said.actions (b ∷ []) in (
+    let longer = length-append said.actions (b ∷ []) in (
       ap length parts.0,
-      record {
-        range_is = range;
-        some = omega (arith, longer);
-        counted = counts ∙ sym longer;
-        told = subst (λ (x : Action). HasTold all_actions said.configs (said.actions ++ x ∷ []) telling.world (notes_in telling.history.hand_outs.outs.items) told) (sym parts.1) tells;
-      },
+      record { some = omega (arith, longer); acted = subst (λ (x : Action). HasActed all_actions said.configs (said.actions ++ x ∷ []) telling text) (sym parts.1) h },
     )
 
 -- ---- the whole
@@ -197,13 +177,7 @@ no-run configs actions text none empty =
 stage-tells : (held : Schedule) (telling : Option Telling) (said : Parsed) (text : List ℕ) → IsStage held telling said text → TellsRun all_actions said.configs said.actions text
 stage-tells held None said text stage = no-run said.configs said.actions text stage.1 stage.2
 stage-tells held (Some telling) said text stage =
-    told-whole all_actions said.configs said.actions said.actions telling.world (notes_in telling.history.hand_outs.outs.items) text refl stage.1.told
-
-pub counted : (held : Schedule) (telling : Telling) (said : Parsed) (text : List ℕ) → IsStage held (Some telling) said text → telling.turns ≡ length said.actions
-counted held telling said text stage = stage.1.counted
-
-pub none-counted : (held : Schedule) (said : Parsed) (text : List ℕ) → IsStage held None said text → 0 ≡ length said.actions
-none-counted held said text stage = sym (ap length stage.1)
+    told-whole all_actions said.configs said.actions said.actions telling text refl stage.1.acted
 
 pub whole : (e : Explaining) (bytes text : List ℕ) (count : ℕ) (h : HasExplained e (lines_of bytes) text) → count ≡ length h.said.actions → Explains all_actions bytes text count
 whole e bytes text count h counts = record {

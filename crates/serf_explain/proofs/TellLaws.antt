@@ -18,6 +18,8 @@ use Rattle.serf_model.specs.Runs.{AreConfigs}
 use Rattle.serf_world.specs.View.{IsViewed, TakesStep, WorldState}
 use Rattle.serf_schedule.specs.Show.{action_text}
 use Rattle.serf_explain.specs.declared.range.Range.{Range}
+use Rattle.serf_explain.specs.declared.telling.Telling.{Telling}
+use Rattle.serf_explain.specs.Acted.{HasActed}
 use Rattle.serf_explain.specs.Range.{is_shown}
 use Rattle.serf_agent.specs.States.{events_of}
 use Rattle.serf_model.specs.declared.action.Action.TheVariants as actions
@@ -30,7 +32,7 @@ use Rattle.serf_explain.proofs.NoteLaws.{lines-push, of-seen}
 use Rattle.serf_wire.specs.declared.texts.EventBody.{EventBody}
 use Rattle.serf_window.specs.Window.{TimedEntry}
 use Rattle.serf_explain.proofs.CarriedLaws.{merged_of, some-merged, told-merged}
-use Rattle.serf_explain.specs.Explained.{AddsTurn, Explained, HasTold, IsReasoned, IsTold, NameHandOuts, NamesHandOut, TellsAll, TellsMore, TellsRun, cluster_behind, clusters_before, clusters_from, lines_text, turn_text, turns_text}
+use Rattle.serf_explain.specs.Explained.{AddsTurn, Explained, HasTold, IsReasoned, IsTold, NameHandOuts, NamesHandOut, TellsAll, TellsRun, cluster_behind, clusters_before, clusters_from, lines_text, turn_text, turns_text}
 
 turns-push : (range : Range) (sent : List (List ℕ)) (n : ℕ) (es : List Explained) (e : Explained)
     → turns_text range sent n (es ++ e ∷ []) ≡ turns_text range sent n es ++ turn_text range sent (n + length es) e.turn.action e.turn.line e.reasons
@@ -153,14 +155,16 @@ nothing-added carried past w action n line a = record {
 }
 
 -- a run whose actions are all told
-pub told-whole : (range : Range) (configs : List Config) (actions done : List Action) (w : WorldState) (past : List Note) (text : List ℕ) → done ≡ actions → HasTold range configs done w past text → TellsRun range configs actions text
-told-whole range configs actions done w past text whole h =
-    let k : HasTold range configs actions w past text = subst (λ (all : List Action). HasTold range configs all w past text) whole h in
-    record {
-      explained = k.told.explained;
-      whole = k.told.whole;
-      text_is = sym (k.told.told []) ∙ ap (λ s. turns_text range s 1 k.told.explained) (append-nil (run_of configs actions).cluster.sent);
-    }
+pub told-whole : (range : Range) (configs : List Config) (actions done : List Action) (telling : Telling) (text : List ℕ) → done ≡ actions → HasActed range configs done telling text → TellsRun range configs actions text
+told-whole range configs actions done telling text whole h =
+    let t = h.told.told in
+    subst (λ (all : List Action). TellsRun range configs all text) whole
+    (subst (λ (r : Range). TellsRun r configs done text) h.range_is
+    (record {
+      explained = t.explained;
+      whole = t.whole;
+      text_is = sym (t.told []) ∙ ap (λ s. turns_text telling.range s 1 t.explained) (append-nil (run_of configs done).cluster.sent);
+    }))
 
 -- one more action of a run
 pub run-push : (configs : List Config) (done : List Action) (action : Action) → run_of configs (done ++ action ∷ []) ≡ after (run_of configs done) action
@@ -174,12 +178,11 @@ run-length : (r : Run) (done : List Action) → length (fold after r done).turns
 run-length r [] = omega arith
 run-length r (x ∷ xs) = run-length (after r x) xs ∙ (let one = length-append r.turns ((step r.cluster x).turn ∷ []) in let sum : length (after r x).turns + length xs ≡ length r.turns + length (x ∷ xs) = omega (arith, one) in sum)
 
-pub told-next : (range : Range) (configs : List Config) (done : List Action) (action : Action) (w : WorldState) (past : List Note) (text : List ℕ) → AreConfigs configs → All BringsTold (done ++ action ∷ []) → w.poisoned ≡ false
+pub told-next : (range : Range) (configs : List Config) (done : List Action) (action : Action) (w : WorldState) (past : List Note) (text : List ℕ) → AreConfigs configs → All BringsTold (done ++ action ∷ [])
     → IsTold configs range (after (run_of configs done) action) (clusters_before configs done ++ (run_of configs done).cluster ∷ []) w past text → HasTold range configs (done ++ action ∷ []) w past text
-told-next range configs done action w past text settings brings unpoisoned h = record {
+told-next range configs done action w past text settings brings h = record {
   settings = settings;
   brings = brings;
-  unpoisoned = unpoisoned;
   told = subst (λ (r : Run). IsTold configs range r (clusters_before configs (done ++ action ∷ [])) w past text) (sym (run-push configs done action))
       (subst (λ (cs : List Cluster). IsTold configs range (after (run_of configs done) action) cs w past text) (sym (clusters-from (start configs) done action)) h);
 }
@@ -189,27 +192,25 @@ pub next-number : (configs : List Config) (done : List Action) (n : ℕ) → n �
 next-number configs done n is = omega (arith, is, run-length (start configs) done)
 
 -- a run of no action
-pub told-first : (range : Range) (configs : List Config) (w : WorldState) (past : List Note) (text : List ℕ) → AreConfigs configs → w.poisoned ≡ false → IsViewed (start configs).cluster w → AreRepresentable (start configs).cluster → past ≡ [] → text ≡ [] → HasTold range configs [] w past text
-told-first range configs w past text settings unpoisoned view representable none empty = record {
+pub told-first : (range : Range) (configs : List Config) (w : WorldState) (past : List Note) → AreConfigs configs → IsViewed (start configs).cluster w → AreRepresentable (start configs).cluster → past ≡ [] → HasTold range configs [] w past []
+told-first range configs w past settings view representable none = record {
   settings = settings;
   brings = All-nil BringsTold;
-  unpoisoned = unpoisoned;
   told = record {
     view = view;
     representable = representable;
     notes_are = none;
     explained = [];
     whole = record { turns_are = refl; clusters_are = refl; reasons = All-nil (λ (e : Explained). IsReasoned e.before e.turn.action e.turn.line e.reasons); seen = tt };
-    told = λ more. sym empty;
+    told = λ more. refl;
   };
 }
 
 -- what an action adds may stand after any text
-pub turn-behind : (P : List (List ℕ) → Type 0) (is_shown : Bool) (sent : List (List ℕ)) (n : ℕ) (line : Line) (text old new : List ℕ) (h : AddsTurn P is_shown sent n line old new)
-    → AddsTurn P is_shown sent n line text (text ++ (if is_shown then lines_text sent n line h.reasons else []))
-turn-behind P is_shown sent n line text old new h = record { reasons = h.reasons; some = h.some; such = h.such; added = refl }
-
--- and it stands after the text so far
-pub told-on : (range asked : Range) (configs : List Config) (done : List Action) (w : WorldState) (past : List Note) (old new : List ℕ) → range ≡ asked → TellsMore range configs done w past old old new → HasTold asked configs done w past new
-told-on range asked configs done w past old new is more =
-    subst (λ (text : List ℕ). HasTold asked configs done w past text) (sym more.new_is) (subst (λ (r : Range). HasTold r configs done w past (old ++ more.added)) is more.told)
+pub turn-behind : (P : List (List ℕ) → Type 0) (is_shown : Bool) (sent : List (List ℕ)) (n : ℕ) (line : Line) (front old new : List ℕ) → AddsTurn P is_shown sent n line old new → AddsTurn P is_shown sent n line (front ++ old) (front ++ new)
+turn-behind P is_shown sent n line front old new h = record {
+  reasons = h.reasons;
+  some = h.some;
+  such = h.such;
+  added = ap (λ (t : List ℕ). front ++ t) h.added ∙ sym (append_assoc front old (if is_shown then lines_text sent n line h.reasons else []));
+}

@@ -1,5 +1,5 @@
 -- A trace with its reasons.
-use Rattle.std.specs.Prelude.{◌≡◌, ℕ, ◌+◌, ◌<◌, ◌++◌, Bool, true, false, if◌then◌else◌, List, [], ◌∷◌, Ok, All, length, map}
+use Rattle.std.specs.Prelude.{◌≡◌, ℕ, ◌+◌, ◌<◌, ◌++◌, Bool, true, if◌then◌else◌, List, [], ◌∷◌, Ok, All, length, map}
 use Rattle.std.specs.List.{flat_map}
 use Rattle.serf_agent.specs.declared.config.Config.{Config}
 use Rattle.serf_agent.specs.declared.outcome.Reason.TheVariants.{Seen}
@@ -105,12 +105,11 @@ pub record IsTold (configs : List Config) (range : Range) (r : Run) (clusters : 
   pub whole : IsExplained configs range r.turns clusters explained
   pub told : (more : List (List ℕ)) → turns_text range (r.cluster.sent ++ more) 1 explained ≡ text
 
--- The world did these actions in a cluster of agents of these settings and isn't poisoned, and the text shows them. What the
--- actions bring can be told in lines.
+-- The world did these actions in a cluster of agents of these settings, and the text shows them. What the actions bring can
+-- be told in lines.
 pub record HasTold (range : Range) (configs : List Config) (done : List Action) (w : WorldState) (notes : List Note) (text : List ℕ) : Type 0 where
   pub settings : AreConfigs configs
   pub brings : All BringsTold done
-  pub unpoisoned : w.poisoned ≡ false
   pub told : IsTold configs range (run_of configs done) (clusters_before configs done) w notes text
 
 -- What is said of an action: of a merge what was said of its events; of an event that was seen which action handed it out, or
@@ -125,9 +124,3 @@ pub record AddsTurn (P : List (List ℕ) → Type 0) (is_shown : Bool) (sent : L
   pub some : 0 < length reasons
   pub such : P reasons
   pub added : new ≡ old ++ (if is_shown then lines_text sent n line reasons else [])
-
--- One more action was done, and what is shown of it was added: after the text of the actions before it, the whole is told.
-pub record TellsMore (range : Range) (configs : List Config) (done : List Action) (w : WorldState) (notes : List Note) (text old new : List ℕ) : Type 0 where
-  pub added : List ℕ
-  pub new_is : new ≡ old ++ added
-  pub told : HasTold range configs done w notes (text ++ added)

@@ -1,18 +1,21 @@
 -- What is kept while the events of a merge are judged: private to the crate.
-use Rattle.std.specs.Prelude.{◌≡◌, ℕ, ◌<◌, ◌≤◌, ◌++◌, Bool, if◌then◌else◌, List, map, Option, Some, None, All, codes, decimal}
+use Rattle.std.specs.Prelude.{◌≡◌, ℕ, ◌<◌, ◌≤◌, ◌++◌, Bool, if◌then◌else◌, List, map, Option, Some, None, Result, Ok, All, codes, decimal}
 use Rattle.std.specs.List.{flat_map}
+use Rattle.serf_wire.specs.declared.fault.WireFault.{WireFault}
 use Rattle.serf_wire.specs.declared.texts.EventBody.{EventBody}
+use Rattle.serf_wire.specs.Message.{Message, push_pull}
 use Rattle.serf_window.specs.declared.verdict.Verdict.{Verdict}
 use Rattle.serf_window.specs.declared.verdict.Verdict.TheVariants as verdicts
 use Rattle.serf_window.specs.Window.{TimedEntry, slots_of}
 use Rattle.serf_agent.specs.declared.outcome.Reason.{Reason}
 use Rattle.serf_agent.specs.declared.outcome.Reason.TheVariants as reasons
 use Rattle.serf_agent.specs.Ideal.{IdealAgent, Past}
+use Rattle.serf_agent.specs.States.{events_of}
 use Rattle.serf_explain.specs.declared.judge.Judge.{Judge}
 use Rattle.serf_model.specs.declared.action.Action.{Action}
 use Rattle.serf_model.specs.Cluster.{Cluster}
 use Rattle.serf_explain.specs.Because.{because_line}
-use Rattle.serf_explain.specs.Carried.{AreCarried, TellsMerge, after_events, carried_words}
+use Rattle.serf_explain.specs.Carried.{AreCarried, TellsMerge, after_events, carried_words, heard}
 
 abbrev pub past : ℕ → TimedEntry EventBody → Past EventBody
 past life e = record { life = life; entry = e }
@@ -44,6 +47,11 @@ pub record HasJudged (n : ℕ) (i j : IdealAgent) (all left : List (TimedEntry E
   pub split : done ++ left ≡ all
   pub lines : AddsLines n done j old new
   pub judging : IsJudging i (after_events done j) judge
+
+-- it grew by those of what a packet merges in an agent, if that says a state
+abbrev pub AddsMerge : ℕ → IdealAgent → Bool → Result Message WireFault → List ℕ → List ℕ → Type 0
+AddsMerge n i join (Ok (push_pull p)) old new = AddsLines n (events_of p.slots) (heard p join i) old new
+AddsMerge n i join _ old new = new ≡ old
 
 -- a text is the lines of the reasons of what the action of this number merges in a cluster, if it merges something
 pub record TellsText (n : ℕ) (c : Cluster) (action : Action) (text : List ℕ) : Type 0 where

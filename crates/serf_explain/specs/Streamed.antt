@@ -16,8 +16,8 @@ use Rattle.serf_schedule.specs.Schedule.{parsed_of, schedule_in, schedule_of}
 use Rattle.serf_schedule.specs.declared.schedule.Schedule.{Schedule}
 use Rattle.serf_explain.specs.declared.streaming.Explaining.{Explaining}
 use Rattle.serf_explain.specs.declared.telling.Telling.{Telling}
-use Rattle.serf_explain.specs.Explained.{HasTold, TellsRun}
-use Rattle.serf_explain.specs.HandOuts.{notes_in}
+use Rattle.serf_explain.specs.Acted.{HasActed}
+use Rattle.serf_explain.specs.Explained.{TellsRun}
 use Rattle.serf_explain.specs.Range.{all_actions}
 
 -- What a fault says of the lines that were done, and of those that were not.
@@ -48,10 +48,8 @@ pub record IsHalted (fault : StreamFault Cause) (bytes : List ℕ) (first now : 
 
 -- these actions were done and told, and there is one of them
 pub record HasTelling (said : Parsed) (telling : Telling) (text : List ℕ) : Type 0 where
-  pub range_is : telling.range ≡ all_actions
   pub some : 0 < length said.actions
-  pub counted : telling.turns ≡ length said.actions
-  pub told : HasTold all_actions said.configs said.actions telling.world (notes_in telling.history.hand_outs.outs.items) text
+  pub acted : HasActed all_actions said.configs said.actions telling text
 
 -- Before the first action the schedule has the agents, and nothing is told. After it the schedule has an action alone, by
 -- which an agent's line is late.

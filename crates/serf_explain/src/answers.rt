@@ -2,9 +2,9 @@
 
 use crate::hand_outs::Event;
 use crate::ignored::{put_ignored, put_subject};
-use crate::quoted::{Part, put_parts};
+use crate::quoted::{Part, put_parts, say};
 use crate::refusals::put_refusal;
-use crate::told::{Actor, Told, actor_at, message_of, named};
+use crate::told::{Actor, Told, actor_at, message_of, moment_of, named, number_in};
 use serf_agent::Agent;
 use serf_model::{Act, Action, Answer, SinkCall};
 use serf_snap::MemSink;
@@ -76,8 +76,12 @@ fn put_filtered(out: &mut Vec<u8>, actor: &Actor, filters: Texts) -> Result<(), 
     }
 }
 
-/// Appends a query with its name and its payload.
-fn put_query(out: &mut Vec<u8>, query: &Query) -> Result<(), AllocError> {
+/// Appends why a query that was delivered is new, and why it is handed out or isn't.
+fn put_new_query<'a>(
+    out: &mut Vec<u8>,
+    actor: &Actor<'a>,
+    query: &Query<'a>,
+) -> Result<(), AllocError> {
     put_parts(
         out,
         &[
@@ -86,14 +90,10 @@ fn put_query(out: &mut Vec<u8>, query: &Query) -> Result<(), AllocError> {
             Part::Quoted(query.name),
             Part::Text(b" "),
             Part::Quoted(query.payload),
+            Part::Text(b" is new to "),
+            named(actor.agent),
         ],
-    )
-}
-
-/// Appends why a query that was delivered is new, and why it is handed out or isn't.
-fn put_new_query(out: &mut Vec<u8>, actor: &Actor, query: &Query) -> Result<(), AllocError> {
-    put_query(out, query)?;
-    put_parts(out, &[Part::Text(b" is new to "), named(actor.agent)])?;
+    )?;
     put_filtered(out, actor, query.filters)
 }
 
@@ -149,45 +149,39 @@ fn events_held(agent: &Agent<MemSink>) -> u64 {
     count
 }
 
-/// Appends what a restart found, of an agent that keeps its events.
-fn put_gone_on(out: &mut Vec<u8>, actor: &Actor) -> Result<(), AllocError> {
-    let agent = actor.agent;
+/// Appends what the buffers of an agent have, which keeps its events over a restart.
+fn put_buffers(out: &mut Vec<u8>, agent: &Agent<MemSink>) -> Result<(), AllocError> {
     put_parts(
         out,
         &[
-            Part::Text(b"its snapshot keeps clock "),
-            Part::Number(agent.member_time().saturating_sub(1)),
             Part::Text(b", and its buffers go on, events held: "),
             Part::Number(events_held(agent)),
             Part::Text(b", event clock "),
             Part::Number(agent.event_time()),
             Part::Text(b", query clock "),
             Part::Number(agent.query_time()),
-            Part::Text(b": it takes events from "),
-            Part::Number(agent.event_minimum()),
-            Part::Text(b" and queries from "),
-            Part::Number(agent.query_minimum()),
-            Part::Text(b" on"),
         ],
     )
 }
 
 /// Appends what a restart found.
-fn put_restarted(out: &mut Vec<u8>, actor: &Actor) -> Result<(), AllocError> {
-    if actor.agent.config().keep_events {
-        return put_gone_on(out, actor);
+fn put_restarted(out: &mut Vec<u8>, agent: &Agent<MemSink>) -> Result<(), AllocError> {
+    let events = agent.event_minimum();
+    let queries = agent.query_minimum();
+    say(
+        out,
+        b"its snapshot keeps clock ",
+        agent.member_time().saturating_sub(1),
+    )?;
+    if agent.config().keep_events {
+        put_buffers(out, agent)?;
+    } else {
+        say(out, b", event-clock ", events.saturating_sub(1))?;
+        say(out, b", query-clock ", queries.saturating_sub(1))?;
     }
-    let events = actor.agent.event_minimum();
-    let queries = actor.agent.query_minimum();
     put_parts(
         out,
         &[
-            Part::Text(b"its snapshot keeps clock "),
-            Part::Number(actor.agent.member_time().saturating_sub(1)),
-            Part::Text(b", event-clock "),
-            Part::Number(events.saturating_sub(1)),
-            Part::Text(b", query-clock "),
-            Part::Number(queries.saturating_sub(1)),
             Part::Text(b": it takes events from "),
             Part::Number(events),
             Part::Text(b" and queries from "),
@@ -245,16 +239,12 @@ fn put_state(out: &mut Vec<u8>, actor: &Actor) -> Result<(), AllocError> {
 
 /// Appends which query was answered.
 fn put_replied(out: &mut Vec<u8>, actor: &Actor) -> Result<(), AllocError> {
-    let number = match actor.act {
-        Act::Respond { handed, .. } => *handed,
-        _ => 0,
-    };
     put_parts(
         out,
         &[
             named(actor.agent),
             Part::Text(b" had query number "),
-            Part::Number(number),
+            Part::Number(number_in(actor.act)),
             Part::Text(b" of this life open, and its deadline is not past"),
         ],
     )
@@ -262,10 +252,6 @@ fn put_replied(out: &mut Vec<u8>, actor: &Actor) -> Result<(), AllocError> {
 
 /// Appends how many queries were closed.
 fn put_closed(out: &mut Vec<u8>, actor: &Actor, count: u64) -> Result<(), AllocError> {
-    let now = match actor.act {
-        Act::Close { now } => *now,
-        _ => 0,
-    };
     put_parts(
         out,
         &[
@@ -273,7 +259,7 @@ fn put_closed(out: &mut Vec<u8>, actor: &Actor, count: u64) -> Result<(), AllocE
             Part::Text(b" of the open queries of "),
             named(actor.agent),
             Part::Text(b" had a deadline before "),
-            Part::Number(now),
+            Part::Number(moment_of(actor.act)),
         ],
     )
 }
@@ -303,13 +289,10 @@ fn put_own(out: &mut Vec<u8>, told: &Told, actor: &Actor) -> Result<(), AllocErr
         Answer::Broken => put_broken(out, actor),
         Answer::Saved => {
             let kept = actor.agent.member_time().saturating_sub(1);
-            put_parts(
-                out,
-                &[Part::Text(b"its snapshot has clock "), Part::Number(kept)],
-            )
+            say(out, b"its snapshot has clock ", kept)
         }
         Answer::Compacted => put_compacted(out, actor),
-        Answer::Restarted { .. } => put_restarted(out, actor),
+        Answer::Restarted { .. } => put_restarted(out, actor.agent),
         Answer::Closed(count) => put_closed(out, actor, count),
         Answer::Refused(refusal) => put_refusal(out, told, actor, refusal),
         _ => Ok(()),
@@ -325,12 +308,7 @@ fn put_taken(
 ) -> Result<(), AllocError> {
     match message {
         Message::UserEvent(event) => {
-            let event = Event {
-                time: event.time.get(),
-                name: event.name,
-                payload: event.payload,
-            };
-            put_subject(out, &event)?;
+            put_subject(out, &Event::of(event))?;
             put_new(out, actor)
         }
         Message::Query(query) => put_new_query(out, actor, query),

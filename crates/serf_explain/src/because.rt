@@ -33,25 +33,17 @@ pub(crate) fn are_printable(bytes: &[u8]) -> bool
     bytes.iter().all(|byte| is_printable(*byte))
 }
 
-/// Appends bytes, each of them printable.
-fn put_each(out: &mut Vec<u8>, bytes: &[u8]) -> Result<(), AllocError>
-    ensures { OnOk result (out.new.items ≡ out.old.items ++ flat_map byte_text bytes.now) }
-{
-    for byte in bytes {
-        put_byte(out, *byte)?;
-    }
-    Ok(())
-}
-
 /// Appends bytes, each of them printable; at once where they all are.
 fn put_printable(out: &mut Vec<u8>, bytes: &[u8]) -> Result<(), AllocError>
     ensures { OnOk result (out.new.items ≡ out.old.items ++ flat_map byte_text bytes.now) }
 {
     if are_printable(bytes) {
-        out.extend_from_slice(bytes)
-    } else {
-        put_each(out, bytes)
+        return out.extend_from_slice(bytes);
     }
+    for byte in bytes {
+        put_byte(out, *byte)?;
+    }
+    Ok(())
 }
 
 /// Appends the line of a reason of the action of this number. No byte of it is a control byte but the newline at its

@@ -1,12 +1,14 @@
 //! The events that a run handed out so far.
 
-ghost use Rattle.std.specs.Prelude.{◌≡◌, ◌++◌, ◌∷◌, [], drop, map, position, slice_get, take, IfOk, IfSome, OnOk};
+ghost use Rattle.std.specs.Prelude.{◌≡◌, ◌++◌, ◌∷◌, [], drop, map, take, IfOk, IfSome, OnOk};
+ghost use Rattle.std.specs.List.{find};
 ghost use Rattle.std.specs.Option.{option_copied};
 ghost use Rattle.serf_window.specs.Texts.{event_of};
 ghost use Rattle.serf_explain.specs.HandOuts.{IsNoted, NotedAt, is_note, note_in, note_of, notes_in};
 
 use indexmap::IndexMap;
 use serf_model::{EventLine, Line};
+use serf_wire::UserEvent;
 use std::alloc::{AllocError, Global};
 
 /// An event, as it lies in its packet.
@@ -15,6 +17,21 @@ pub(crate) struct Event<'a> {
     pub(crate) time: u64,
     pub(crate) name: &'a [u8],
     pub(crate) payload: &'a [u8],
+}
+
+impl<'a> Event<'a> {
+    /// The event of a message.
+    pub(crate) fn of(event: &UserEvent<'a>) -> Event<'a>
+        ensures time { result.time ≡ event.now.time }
+        ensures name { result.name.now ≡ event.now.name.now }
+        ensures payload { result.payload.now ≡ event.now.payload.now }
+    {
+        Event {
+            time: event.time.get(),
+            name: event.name,
+            payload: event.payload,
+        }
+    }
 }
 
 /// A time of an agent's events, or of its own queries.
@@ -103,22 +120,12 @@ pub(crate) struct HandOuts {
     last: IndexMap<Moment, usize>,
 }
 
-/// The place of the first that hands this event to this agent.
-fn first_place(outs: &[HandOut], agent: u64, event: &Event) -> Option<usize>
-    ensures { result ≡ position (λ h. is_note agent event.now.time
+/// The first that hands this event to this agent.
+fn first_in<'a>(outs: &'a [HandOut], agent: u64, event: &Event) -> Option<&'a HandOut>
+    ensures { option_copied result ≡ find (λ h. is_note agent event.now.time
         (event_of event.now.name.now event.now.payload.now) (note_in h)) outs.now }
 {
-    outs.iter().position(|out| out.hands(agent, event))
-}
-
-/// The hand-out at this place.
-fn hand_out_at(outs: &[HandOut], place: usize) -> Option<&HandOut>
-    ensures { option_copied result ≡ slice_get outs.now place }
-{
-    match outs.get(place) {
-        Some(out) => Some(out),
-        None => None,
-    }
+    outs.iter().find(|out| out.hands(agent, event))
 }
 
 impl HandOuts {
@@ -164,21 +171,19 @@ impl HandOuts {
         Ok(())
     }
 
-    /// The action that handed this event to this agent, if the hand-out at this place is that.
-    fn action_at(&self, place: usize, agent: u64, event: &Event) -> Option<u64>
-        ensures { IfSome result (λ n. NotedAt (notes_in self.now.outs.items) n agent event.now.time
-            (event_of event.now.name.now event.now.payload.now)) }
+    /// The hand-out at this place, if it is that of this event to this agent.
+    fn found_at(&self, place: usize, agent: u64, event: &Event) -> Option<Found>
+        ensures { IfSome result (λ found. NotedAt (notes_in self.now.outs.items) found.action agent
+            event.now.time (event_of event.now.name.now event.now.payload.now)) }
     {
-        match hand_out_at(&self.outs, place) {
-            Some(out) => {
-                if out.hands(agent, event) {
-                    Some(out.action)
-                } else {
-                    None
-                }
-            }
-            None => None,
+        let out = self.outs.get(place)?;
+        if !out.hands(agent, event) {
+            return None;
         }
+        Some(Found {
+            place,
+            action: out.action,
+        })
     }
 
     /// The last action that handed this event to this agent, found by its time.
@@ -193,14 +198,9 @@ impl HandOuts {
         let mut place = self.last.get(&moment).copied();
         for _one in 0..self.outs.len() {
             let here = place?;
-            match self.action_at(here, agent, event) {
-                Some(action) => {
-                    return Some(Found {
-                        place: here,
-                        action,
-                    });
-                }
-                None => {}
+            let found = self.found_at(here, agent, event);
+            if found.is_some() {
+                return found;
             }
             place = self.outs.get(here)?.before;
         }
@@ -209,8 +209,8 @@ impl HandOuts {
 
     /// The hand-out of this event to this agent: the one at this place, if it is that, or else the last one.
     pub(crate) fn found_near(&self, place: usize, agent: u64, event: &Event) -> Option<Found> {
-        match self.action_at(place, agent, event) {
-            Some(action) => Some(Found { place, action }),
+        match self.found_at(place, agent, event) {
+            Some(found) => Some(found),
             None => self.last_of(agent, event),
         }
     }
@@ -220,11 +220,8 @@ impl HandOuts {
         ensures { IsNoted (notes_in self.now.outs.items)
             agent event.now.time (event_of event.now.name.now event.now.payload.now) result }
     {
-        match first_place(&self.outs, agent, event) {
-            Some(place) => match hand_out_at(&self.outs, place) {
-                Some(out) => Some(out.action),
-                None => None,
-            },
+        match first_in(&self.outs, agent, event) {
+            Some(out) => Some(out.action),
             None => None,
         }
     }

@@ -2,33 +2,12 @@
 
 use crate::hand_outs::Event;
 use crate::memory::{Asked, Ended};
-use crate::quoted::{Part, put_parts};
-use crate::told::{Actor, Told, named};
-use serf_agent::{Agent, Reason};
+use crate::quoted::{Part, put_parts, put_quoted, say};
+use crate::told::{Actor, Told, moment_of, named};
+use serf_agent::Reason;
 use serf_lamport::Time;
-use serf_model::Act;
-use serf_snap::MemSink;
 use serf_wire::{Message, Query, QueryResponse};
 use std::alloc::AllocError;
-
-/// Appends which action handed an event to an agent, this one or one before.
-pub(crate) fn put_seen_at<'a>(
-    out: &mut Vec<u8>,
-    agent: &'a Agent<MemSink>,
-    event: &Event<'a>,
-    action: u64,
-) -> Result<(), AllocError> {
-    put_parts(
-        out,
-        &[
-            named(agent),
-            Part::Text(b" was handed "),
-            Part::Event(*event),
-            Part::Text(b" at action "),
-            Part::Number(action),
-        ],
-    )
-}
 
 /// Appends why a time is below the window.
 pub(crate) fn put_too_old(
@@ -124,26 +103,16 @@ fn put_query_seen(
     actor: &Actor,
     query: &Query,
 ) -> Result<(), AllocError> {
+    put_parts(out, &[named(actor.agent)])?;
     match told
         .memory
         .entered_at(actor.number, query.time.get(), query.id)
     {
-        Some(action) => put_parts(
-            out,
-            &[
-                named(actor.agent),
-                Part::Text(b" took it at action "),
-                Part::Number(action),
-            ],
-        ),
-        None => {
-            let before: &[u8] = if actor.agent.config().keep_events {
-                b" was opened on a text with its line"
-            } else {
-                b" took it before"
-            };
-            put_parts(out, &[named(actor.agent), Part::Text(before)])
+        Some(action) => say(out, b" took it at action ", action),
+        None if actor.agent.config().keep_events => {
+            out.extend_from_slice(b" was opened on a text with its line")
         }
+        None => out.extend_from_slice(b" took it before"),
     }
 }
 
@@ -173,30 +142,11 @@ fn put_query_ignored(
 
 /// Appends which query an agent asked at a time, and how that ended.
 fn put_ended(out: &mut Vec<u8>, asked: &Asked, time: u64) -> Result<(), AllocError> {
-    put_parts(
-        out,
-        &[
-            Part::Text(b" asked query "),
-            Part::Number(time),
-            Part::Text(b" at action "),
-            Part::Number(asked.action),
-        ],
-    )?;
+    say(out, b" asked query ", time)?;
+    say(out, b" at action ", asked.action)?;
     match asked.ended {
-        Ended::Closed(action) => put_parts(
-            out,
-            &[
-                Part::Text(b" and closed it at action "),
-                Part::Number(action),
-            ],
-        ),
-        Ended::Lost(action) => put_parts(
-            out,
-            &[
-                Part::Text(b" and lost it by the restart at action "),
-                Part::Number(action),
-            ],
-        ),
+        Ended::Closed(action) => say(out, b" and closed it at action ", action),
+        Ended::Lost(action) => say(out, b" and lost it by the restart at action ", action),
         Ended::Not => Ok(()),
     }
 }
@@ -210,22 +160,8 @@ fn put_not_open(
 ) -> Result<(), AllocError> {
     put_parts(out, &[named(actor.agent)])?;
     match told.memory.asked_at(actor.number, time) {
-        None => put_parts(
-            out,
-            &[
-                Part::Text(b" never asked a query of time "),
-                Part::Number(time),
-            ],
-        ),
+        None => say(out, b" never asked a query of time ", time),
         Some(asked) => put_ended(out, &asked, time),
-    }
-}
-
-/// The moment at which a packet is delivered.
-fn moment_of(actor: &Actor) -> u64 {
-    match actor.act {
-        Act::Deliver { now, .. } => *now,
-        _ => 0,
     }
 }
 
@@ -243,38 +179,25 @@ fn put_answer_reason(
     let Some(open) = open else {
         return out.extend_from_slice(b"no query of its time is open");
     };
-    put_parts(out, &[Part::Text(b"query "), Part::Number(answer.time)])?;
+    say(out, b"query ", answer.time)?;
     match reason {
-        Reason::OtherId => put_parts(
-            out,
-            &[
-                Part::Text(b" has ID "),
-                Part::Number(u64::from(open.id)),
-                Part::Text(b", and the answer names ID "),
-                Part::Number(u64::from(answer.id)),
-            ],
-        ),
-        Reason::Closed => put_parts(
-            out,
-            &[
-                Part::Text(b" took answers until "),
-                Part::Number(open.deadline),
-                Part::Text(b", and it is "),
-                Part::Number(moment_of(actor)),
-            ],
-        ),
+        Reason::OtherId => {
+            say(out, b" has ID ", u64::from(open.id))?;
+            say(out, b", and the answer names ID ", u64::from(answer.id))
+        }
+        Reason::Closed => {
+            say(out, b" took answers until ", open.deadline)?;
+            say(out, b", and it is ", moment_of(actor.act))
+        }
         Reason::AckNotAsked => out.extend_from_slice(b" asked for no acks"),
-        Reason::AckTwice => put_parts(
-            out,
-            &[Part::Text(b" has an ack of "), Part::Quoted(answer.from)],
-        ),
-        _ => put_parts(
-            out,
-            &[
-                Part::Text(b" has a response of "),
-                Part::Quoted(answer.from),
-            ],
-        ),
+        Reason::AckTwice => {
+            out.extend_from_slice(b" has an ack of ")?;
+            put_quoted(out, answer.from)
+        }
+        _ => {
+            out.extend_from_slice(b" has a response of ")?;
+            put_quoted(out, answer.from)
+        }
     }
 }
 
@@ -287,14 +210,7 @@ pub(crate) fn put_ignored(
     reason: Reason,
 ) -> Result<(), AllocError> {
     match message {
-        Message::UserEvent(user_event) => {
-            let event = Event {
-                time: user_event.time.get(),
-                name: user_event.name,
-                payload: user_event.payload,
-            };
-            put_event_ignored(out, actor, &event, reason)
-        }
+        Message::UserEvent(event) => put_event_ignored(out, actor, &Event::of(event), reason),
         Message::Query(query) => put_query_ignored(out, told, actor, query, reason),
         Message::QueryResponse(response) => match reason {
             Reason::NotOpen => put_not_open(out, told, actor, response.time),

@@ -8,7 +8,7 @@ ghost use Rattle.std.specs.List.{flat_map};
 ghost use Rattle.serf_explain.specs.Because.{because_line};
 ghost use Rattle.serf_text.specs.Io.{AppendsFront};
 ghost use Rattle.serf_schedule.specs.Output.{output_of};
-ghost use Rattle.serf_explain.specs.Explained.{AddsTurn, Explains, HasTold, TellsAll, TellsMore, TellsRun};
+ghost use Rattle.serf_explain.specs.Explained.{AddsTurn, Explains, HasTold, TellsAll, TellsRun};
 ghost use Rattle.serf_explain.specs.HandOuts.{notes_in};
 
 use crate::history::History;
@@ -26,26 +26,6 @@ use serf_world::{StepFault, World, look_at};
 use std::alloc::{AllocError, Global};
 use std::io::{Read, Write};
 
-/// Appends an action's lines and those of its reasons.
-fn put_shown(alloc: Global, out: &mut Vec<u8>, told: &Told) -> Result<(), AllocError>
-    ensures { (carried : List (List ℕ))
-        → told.now.carried.now ≡ flat_map (because_line told.now.number) carried
-        → OnOk result (AddsTurn (TellsAll true carried (notes_in told.now.past.now.outs.items)
-        told.now.world.now told.now.action.now told.now.line.now) true told.now.world.now.sent
-        told.now.number told.now.line.now out.old.items out.new.items) }
-{
-    put_action(out, told.world.sent(), told.number, told.line)?;
-    put_reasons(alloc, out, told)
-}
-
-/// Appends nothing.
-fn put_nothing(out: &mut Vec<u8>, told: &Told)
-    ensures { (carried : List (List ℕ)) → AddsTurn
-        (TellsAll false carried (notes_in told.now.past.now.outs.items)
-        told.now.world.now told.now.action.now told.now.line.now) false told.now.world.now.sent
-        told.now.number told.now.line.now out.old.items out.new.items }
-{}
-
 /// Appends what is shown of an action: its lines and those of its reasons, or nothing.
 fn put_turn(alloc: Global, out: &mut Vec<u8>, is_shown: bool, told: &Told) -> Result<(), AllocError>
     ensures { (carried : List (List ℕ))
@@ -54,13 +34,11 @@ fn put_turn(alloc: Global, out: &mut Vec<u8>, is_shown: bool, told: &Told) -> Re
         told.now.world.now told.now.action.now told.now.line.now) is_shown told.now.world.now.sent
         told.now.number told.now.line.now out.old.items out.new.items) }
 {
-    match is_shown {
-        true => put_shown(alloc, out, told),
-        false => {
-            put_nothing(out, told);
-            Ok(())
-        }
+    if !is_shown {
+        return Ok(());
     }
+    put_action(out, told.world.sent(), told.number, told.line)?;
+    put_reasons(alloc, out, told)
 }
 
 /// Does an action, and adds what is shown of it.
@@ -74,12 +52,11 @@ pub(crate) fn add_turn(
     number: u64,
     action: &Action,
 ) -> Result<(), AllocError>
-    requires { world.old.poisoned ≡ false }
-    ensures { (configs : List Config) (done : List Action) (text : List ℕ)
-        → HasTold range.now configs done world.old (notes_in history.old.hand_outs.outs.items) text
-        → number ≡ length done + 1
-        → OnOk result (TellsMore range.now configs (done ++ action.now ∷ []) world.new
-        (notes_in history.new.hand_outs.outs.items) text out.old.items out.new.items) }
+    ensures { (configs : List Config) (done : List Action) (front : List ℕ)
+        → HasTold range.now configs done world.old (notes_in history.old.hand_outs.outs.items)
+        (front ++ out.old.items) → number ≡ length done + 1
+        → OnOk result (HasTold range.now configs (done ++ action.now ∷ []) world.new
+        (notes_in history.new.hand_outs.outs.items) (front ++ out.new.items)) }
 {
     lines_stay();
     run_promises();
@@ -87,8 +64,8 @@ pub(crate) fn add_turn(
     lines_before(alloc, world, history, number, action, lines)?;
     let line = match world.step(alloc, action) {
         Ok(line) => line,
-        Err(StepFault::OutOfMemory) => return Err(AllocError),
-        Err(StepFault::Poisoned) => unreachable!(),
+        // (a world in which memory ran out before is poisoned)
+        Err(StepFault::OutOfMemory | StepFault::Poisoned) => return Err(AllocError),
     };
     let told = Told {
         number,
@@ -118,7 +95,7 @@ fn run_text<T: Watch>(
     let mut telling = Telling::new(alloc, agents, *range)?;
     let mut out = Vec::new(alloc);
     for action in actions {
-        telling = telling.take(alloc, action, &mut out)?;
+        telling.take(alloc, action, &mut out)?;
         watch.acted(telling.turns, all);
     }
     Ok(out)

@@ -16,12 +16,12 @@ ghost use Rattle.serf_explain.specs.Words.{stands};
 use crate::because::put_because;
 use crate::hand_outs::Event;
 use crate::history::History;
-use crate::ignored::{put_full, put_oversize, put_seen_at, put_too_old};
+use crate::ignored::{put_full, put_oversize, put_too_old};
 use crate::judge::Judge;
 use crate::marks::Marks;
 use crate::phrases::Phrases;
-use crate::quoted::{Part, put_event, put_parts, put_standing_event, stands};
-use crate::seen::put_tailed_words;
+use crate::quoted::{Part, put_event, put_parts, put_standing_event, say, stands};
+use crate::seen::{put_noted_words, put_tailed_words};
 use serf_agent::{Agent, Reason};
 use serf_lamport::Time;
 use serf_snap::MemSink;
@@ -90,8 +90,7 @@ fn verdict_word(verdict: Option<Reason>) -> &'static [u8]
 fn put_slot_words(out: &mut Vec<u8>, slot: u64) -> Result<(), AllocError>
     ensures { OnOk result (out.new.items ≡ out.old.items ++ slot_words slot) }
 {
-    out.extend_from_slice(b"slot ")?;
-    put_number(out, slot)?;
+    say(out, b"slot ", slot)?;
     out.extend_from_slice(b" brings ")
 }
 
@@ -124,35 +123,37 @@ fn put_least(out: &mut Vec<u8>, merging: &Merging, minimum: u64) -> Result<(), A
     put_parts(out, &[Part::Number(minimum), Part::Since(since)])
 }
 
-/// The action that handed an event to the agent before this one, if one did.
-fn handed_before(merging: &Merging, near: &mut Near, event: &Event) -> Option<u64> {
-    let hand_outs = &merging.history.hand_outs;
-    match hand_outs.found_near(near.next, merging.agent_number, event) {
-        Some(found) => {
-            // the events of a state were mostly handed out one after another
-            let step = found.place.saturating_sub(near.named);
-            *near = Near {
-                named: found.place,
-                next: found.place.saturating_add(step),
-            };
-            Some(found.action)
-        }
-        None => None,
-    }
-}
-
 /// The action that handed the agent an event that was seen: one before, or this one. None did where the agent keeps its events,
 /// and was opened on a text with the event's line.
 fn handed_at(merging: &Merging, judge: &Judge, near: &mut Near, event: &Event) -> Option<u64> {
-    match handed_before(merging, near, event) {
-        Some(action) => Some(action),
-        None => {
-            if !merging.agent.config().keep_events || judge.took(event) {
-                Some(merging.phrases.number)
-            } else {
-                None
-            }
-        }
+    let hand_outs = &merging.history.hand_outs;
+    if let Some(found) = hand_outs.found_near(near.next, merging.agent_number, event) {
+        // the events of a state were mostly handed out one after another
+        let step = found.place.saturating_sub(near.named);
+        *near = Near {
+            named: found.place,
+            next: found.place.saturating_add(step),
+        };
+        return Some(found.action);
+    }
+    if merging.agent.config().keep_events && !judge.took(event) {
+        return None;
+    }
+    Some(merging.phrases.number)
+}
+
+/// Appends what is said of an event that was seen: which action handed it to the agent; or, where none did, that the agent
+/// was opened on a text with its line.
+fn put_seen_detail(
+    out: &mut Vec<u8>,
+    merging: &Merging,
+    event: &Event,
+    handed: Option<u64>,
+) -> Result<(), AllocError> {
+    let name = merging.agent.config().name.as_slice();
+    match handed {
+        Some(action) => put_noted_words(out, name, event, action),
+        None => put_tailed_words(out, name, event),
     }
 }
 
@@ -163,6 +164,7 @@ fn put_detail(
     judge: &Judge,
     event: &Event,
     verdict: Option<Reason>,
+    handed: Option<u64>,
 ) -> Result<(), AllocError> {
     let config = merging.agent.config();
     match verdict {
@@ -172,43 +174,30 @@ fn put_detail(
             put_too_old(out, event.time, config.event_buffer, b"event", judge.clock)
         }
         Some(Reason::TimeFull) => put_full(out, config.per_time, event.time),
+        Some(Reason::Seen) => put_seen_detail(out, merging, event, handed),
         _ => Ok(()),
     }
 }
 
-/// Adds the line of an event, of which all but the detail is to be said.
+/// Adds the line of an event. The action that handed it to the agent is named where it was seen.
 fn add_carried(
-    lines: &mut MergeLines,
-    number: u64,
-    slot: u64,
-    event: &Event,
-    verdict: Option<Reason>,
-) -> Result<(), AllocError>
-    ensures { OnOk result (AddsCarried number slot event.now.time
-        (event_of event.now.name.now event.now.payload.now) verdict
-        lines.old.text.items lines.new.text.items) }
-{
-    lines.reason.clear();
-    put_carried(&mut lines.reason, slot, event, verdict, &lines.detail)?;
-    put_because(&mut lines.text, number, &lines.reason)
-}
-
-/// Adds the line of an event that has another verdict than that it was seen.
-fn add_other(
     merging: &Merging,
     judge: &Judge,
     lines: &mut MergeLines,
     slot: u64,
     event: &Event,
     verdict: Option<Reason>,
+    handed: Option<u64>,
 ) -> Result<(), AllocError>
     ensures { OnOk result (AddsCarried merging.now.phrases.now.number slot event.now.time
         (event_of event.now.name.now event.now.payload.now) verdict
         lines.old.text.items lines.new.text.items) }
 {
     lines.detail.clear();
-    put_detail(&mut lines.detail, merging, judge, event, verdict)?;
-    add_carried(lines, merging.phrases.number, slot, event, verdict)
+    put_detail(&mut lines.detail, merging, judge, event, verdict, handed)?;
+    lines.reason.clear();
+    put_carried(&mut lines.reason, slot, event, verdict, &lines.detail)?;
+    put_because(&mut lines.text, merging.phrases.number, &lines.reason)
 }
 
 /// Appends the line of an event that was seen, up to its words.
@@ -242,8 +231,7 @@ fn put_seen_behind(
     out.extend_from_slice(b": seen: ")?;
     out.extend_from_slice(named)?;
     out.extend_from_slice(words)?;
-    out.extend_from_slice(b" at action ")?;
-    put_number(out, action)?;
+    say(out, b" at action ", action)?;
     out.extend_from_slice(b"\n")
 }
 
@@ -252,73 +240,22 @@ fn add_standing(
     lines: &mut MergeLines,
     phrases: &Phrases,
     slot: u64,
-    time: u64,
-    name: &[u8],
-    payload: &[u8],
-    verdict: Option<Reason>,
+    event: &Event,
     action: u64,
 ) -> Result<(), AllocError>
-    requires name { stands name.now ≡ true }
-    requires payload { stands payload.now ≡ true }
-    requires seen { verdict ≡ Some Reason.Seen }
-    ensures { OnOk result (AddsCarried phrases.now.number slot time
-        (event_of name.now payload.now) verdict
+    requires name { stands event.now.name.now ≡ true }
+    requires payload { stands event.now.payload.now ≡ true }
+    ensures { OnOk result (AddsCarried phrases.now.number slot event.now.time
+        (event_of event.now.name.now event.now.payload.now) (Some Reason.Seen)
         lines.old.text.items lines.new.text.items) }
 {
     lines.words.clear();
-    put_standing_event(&mut lines.words, time, name, payload)?;
+    put_standing_event(&mut lines.words, event.time, event.name, event.payload)?;
     let front = phrases.front.as_slice();
     let named = phrases.named.as_slice();
     let words = lines.words.as_slice();
     put_seen_front(&mut lines.text, front, slot, words)?;
     put_seen_behind(&mut lines.text, named, words, action)
-}
-
-/// Adds the line of an event that was seen, since this action handed it to the agent.
-fn add_handed(
-    merging: &Merging,
-    lines: &mut MergeLines,
-    slot: u64,
-    event: &Event,
-    verdict: Option<Reason>,
-    action: u64,
-) -> Result<(), AllocError>
-    requires { verdict ≡ Some Reason.Seen }
-    ensures { OnOk result (AddsCarried merging.now.phrases.now.number slot event.now.time
-        (event_of event.now.name.now event.now.payload.now) verdict
-        lines.old.text.items lines.new.text.items) }
-{
-    let phrases = merging.phrases;
-    let (name, payload) = (event.name, event.payload);
-    if phrases.named.len() != 0 && stands(name) && stands(payload) {
-        return add_standing(
-            lines, phrases, slot, event.time, name, payload, verdict, action,
-        );
-    }
-    lines.detail.clear();
-    put_seen_at(&mut lines.detail, merging.agent, event, action)?;
-    add_carried(lines, phrases.number, slot, event, verdict)
-}
-
-/// Adds the line of an event that was seen, since the agent was opened on a text with its line.
-fn add_tailed(
-    merging: &Merging,
-    lines: &mut MergeLines,
-    slot: u64,
-    event: &Event,
-    verdict: Option<Reason>,
-) -> Result<(), AllocError>
-    ensures { OnOk result (AddsCarried merging.now.phrases.now.number slot event.now.time
-        (event_of event.now.name.now event.now.payload.now) verdict
-        lines.old.text.items lines.new.text.items) }
-{
-    lines.detail.clear();
-    put_tailed_words(
-        &mut lines.detail,
-        merging.agent.config().name.as_slice(),
-        event,
-    )?;
-    add_carried(lines, merging.phrases.number, slot, event, verdict)
 }
 
 /// Adds the line of an event that was seen.
@@ -328,16 +265,26 @@ fn add_seen(
     lines: &mut MergeLines,
     slot: u64,
     event: &Event,
-    verdict: Option<Reason>,
 ) -> Result<(), AllocError>
-    requires { verdict ≡ Some Reason.Seen }
     ensures { OnOk result (AddsCarried merging.now.phrases.now.number slot event.now.time
-        (event_of event.now.name.now event.now.payload.now) verdict
+        (event_of event.now.name.now event.now.payload.now) (Some Reason.Seen)
         lines.old.text.items lines.new.text.items) }
 {
+    let phrases = merging.phrases;
+    let is_named = phrases.named.len() != 0;
     match handed_at(merging, judge, &mut lines.near, event) {
-        Some(action) => add_handed(merging, lines, slot, event, verdict, action),
-        None => add_tailed(merging, lines, slot, event, verdict),
+        Some(action) if is_named && stands(event.name) && stands(event.payload) => {
+            add_standing(lines, phrases, slot, event, action)
+        }
+        handed => add_carried(
+            merging,
+            judge,
+            lines,
+            slot,
+            event,
+            Some(Reason::Seen),
+            handed,
+        ),
     }
 }
 
@@ -355,8 +302,8 @@ fn add_line(
         lines.old.text.items lines.new.text.items) }
 {
     match verdict {
-        Some(Reason::Seen) => add_seen(merging, judge, lines, slot, event, verdict),
-        _ => add_other(merging, judge, lines, slot, event, verdict),
+        Some(Reason::Seen) => add_seen(merging, judge, lines, slot, event),
+        _ => add_carried(merging, judge, lines, slot, event, verdict, None),
     }
 }
 

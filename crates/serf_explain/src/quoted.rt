@@ -16,6 +16,14 @@ const WHOLE: usize = 64;
 /// How many bytes of a longer text are shown.
 const FRONT: usize = 32;
 
+/// Appends a text and a number.
+pub(crate) fn say(out: &mut Vec<u8>, text: &[u8], number: u64) -> Result<(), AllocError>
+    ensures { OnOk result (out.new.items ≡ out.old.items ++ text.now ++ decimal number) }
+{
+    out.extend_from_slice(text)?;
+    put_number(out, number)
+}
+
 /// Appends a byte of a quoted text: a quote and a backslash stand as `\xNN`.
 #[tactic(auto, unfolding(crate::specs::Words::quoted_byte))]
 fn put_quoted_byte(out: &mut Vec<u8>, byte: u8) -> Result<(), AllocError>
@@ -42,24 +50,17 @@ fn are_plain(bytes: &[u8]) -> bool
     bytes.iter().all(|byte| is_plain(*byte))
 }
 
-fn put_each(out: &mut Vec<u8>, bytes: &[u8]) -> Result<(), AllocError>
-    ensures { OnOk result (out.new.items ≡ out.old.items ++ flat_map quoted_byte bytes.now) }
-{
-    for byte in bytes {
-        put_quoted_byte(out, *byte)?;
-    }
-    Ok(())
-}
-
 /// Appends the bytes of a quoted text; at once where they all stand as they are.
 fn put_quoted_bytes(out: &mut Vec<u8>, bytes: &[u8]) -> Result<(), AllocError>
     ensures { OnOk result (out.new.items ≡ out.old.items ++ flat_map quoted_byte bytes.now) }
 {
     if are_plain(bytes) {
-        out.extend_from_slice(bytes)
-    } else {
-        put_each(out, bytes)
+        return out.extend_from_slice(bytes);
     }
+    for byte in bytes {
+        put_quoted_byte(out, *byte)?;
+    }
+    Ok(())
 }
 
 #[tactic(auto, unfolding(crate::specs::Words::whole_quoted))]
@@ -79,8 +80,7 @@ fn put_front(out: &mut Vec<u8>, text: &[u8]) -> Result<(), AllocError>
     let (front, _rest) = text.split_at(FRONT);
     out.extend_from_slice(b"\"")?;
     put_quoted_bytes(out, front)?;
-    out.extend_from_slice(b"..\" (")?;
-    put_number(out, text.len() as u64)?;
+    say(out, b"..\" (", text.len() as u64)?;
     out.extend_from_slice(b" bytes)")
 }
 
@@ -106,8 +106,7 @@ pub(crate) fn put_event(
     ensures { OnOk result (out.new.items ≡ out.old.items
         ++ event_words time (event_of name.now payload.now)) }
 {
-    out.extend_from_slice(b"event ")?;
-    put_number(out, time)?;
+    say(out, b"event ", time)?;
     out.extend_from_slice(b" ")?;
     put_quoted(out, name)?;
     out.extend_from_slice(b" ")?;
@@ -132,13 +131,6 @@ fn put_standing_texts(out: &mut Vec<u8>, name: &[u8], payload: &[u8]) -> Result<
     out.extend_from_slice(b"\"")
 }
 
-fn put_time(out: &mut Vec<u8>, time: u64) -> Result<(), AllocError>
-    ensures { OnOk result (out.new.items ≡ out.old.items ++ (codes "event " ++ decimal time)) }
-{
-    out.extend_from_slice(b"event ")?;
-    put_number(out, time)
-}
-
 /// Appends `event 3 "deploy" "v2"`, where both texts stand as they are.
 pub(crate) fn put_standing_event(
     out: &mut Vec<u8>,
@@ -151,7 +143,7 @@ pub(crate) fn put_standing_event(
     ensures { OnOk result (out.new.items ≡ out.old.items
         ++ event_words time (event_of name.now payload.now)) }
 {
-    put_time(out, time)?;
+    say(out, b"event ", time)?;
     put_standing_texts(out, name, payload)
 }
 
@@ -167,12 +159,6 @@ pub(crate) enum Part<'a> {
     Query(u64, u32),
     /// Since which action something stands; the 0th is the start.
     Since(u64),
-}
-
-/// Appends a text and a number.
-fn say(out: &mut Vec<u8>, text: &[u8], number: u64) -> Result<(), AllocError> {
-    out.extend_from_slice(text)?;
-    put_number(out, number)
 }
 
 fn put_query(out: &mut Vec<u8>, time: u64, id: u32) -> Result<(), AllocError> {

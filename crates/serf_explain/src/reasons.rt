@@ -3,19 +3,18 @@
 ghost use Rattle.std.specs.Prelude.{◌≡◌, ◌++◌, [], true, Ok, OnOk, List, ℕ};
 ghost use Rattle.std.specs.List.{flat_map};
 ghost use Rattle.serf_wire.specs.Decoded.{decoded};
-ghost use Rattle.serf_wire.specs.Message.{PushPull, message_of, push_pull};
+ghost use Rattle.serf_wire.specs.Message.{message_of};
 ghost use Rattle.serf_agent.specs.Sound.{IsSound};
-ghost use Rattle.serf_agent.specs.States.{events_of};
 ghost use Rattle.serf_agent.specs.View.{view_of};
 ghost use Rattle.serf_agent.specs.Ideal.{IdealAgent};
 ghost use Rattle.serf_model.specs.Cluster.{Cluster};
 ghost use Rattle.serf_model.specs.Ready.{AreRepresentable};
 ghost use Rattle.serf_world.specs.View.{IsViewed};
 ghost use Rattle.serf_explain.specs.Because.{AddsReasons, AddsSome, AddsSuch, because_line};
-ghost use Rattle.serf_explain.specs.Carried.{TellsMerged, heard};
+ghost use Rattle.serf_explain.specs.Carried.{TellsMerged};
 ghost use Rattle.serf_explain.specs.Explained.{TellsAll};
 ghost use Rattle.serf_explain.specs.HandOuts.{notes_in};
-ghost use Rattle.serf_explain.specs.Judging.{AddsLines, TellsText};
+ghost use Rattle.serf_explain.specs.Judging.{AddsMerge, TellsText};
 
 use crate::answers::put_reason;
 use crate::because::put_because;
@@ -48,23 +47,14 @@ fn add_message(
     is_join: bool,
     lines: &mut MergeLines,
 ) -> Result<(), AllocError>
-    ensures merged { (i : IdealAgent) (p : PushPull) → IsSound i
-        → merging.now.agent.now.concrete ≡ view_of i → message_of message.now ≡ push_pull p
-        → OnOk result (AddsLines merging.now.phrases.now.number (events_of p.slots)
-        (heard p is_join i) lines.old.text.items lines.new.text.items) }
-    ensures other { ((p : PushPull) → message_of message.now ≡ push_pull p → ⊥)
-        → OnOk result (lines.new.text.items ≡ lines.old.text.items) }
+    ensures { (i : IdealAgent) → IsSound i → merging.now.agent.now.concrete ≡ view_of i
+        → OnOk result (AddsMerge merging.now.phrases.now.number i is_join
+        (Ok (message_of message.now)) lines.old.text.items lines.new.text.items) }
 {
     match message {
         Message::PushPull(state) => {
-            add_carried_lines(
-                alloc,
-                merging,
-                state.event_clock,
-                state.slots,
-                is_join,
-                lines,
-            )
+            let (clock, slots) = (state.event_clock, state.slots);
+            add_carried_lines(alloc, merging, clock, slots, is_join, lines)
         }
         Message::UserEvent(_)
         | Message::Query(_)
@@ -81,12 +71,9 @@ fn add_packet(
     is_join: bool,
     lines: &mut MergeLines,
 ) -> Result<(), AllocError>
-    ensures merged { (i : IdealAgent) (p : PushPull) → IsSound i
-        → merging.now.agent.now.concrete ≡ view_of i → decoded packet.now ≡ Ok (push_pull p)
-        → OnOk result (AddsLines merging.now.phrases.now.number (events_of p.slots)
-        (heard p is_join i) lines.old.text.items lines.new.text.items) }
-    ensures other { ((p : PushPull) → decoded packet.now ≡ Ok (push_pull p) → ⊥)
-        → OnOk result (lines.new.text.items ≡ lines.old.text.items) }
+    ensures { (i : IdealAgent) → IsSound i → merging.now.agent.now.concrete ≡ view_of i
+        → OnOk result (AddsMerge merging.now.phrases.now.number i is_join (decoded packet.now)
+        lines.old.text.items lines.new.text.items) }
 {
     match decode(packet) {
         Ok(message) => add_message(alloc, merging, &message, is_join, lines),
@@ -105,12 +92,9 @@ fn add_merge(
     is_join: bool,
     lines: &mut MergeLines,
 ) -> Result<(), AllocError>
-    ensures merged { (i : IdealAgent) (p : PushPull) → IsSound i → agent.now.concrete ≡ view_of i
-        → decoded packet.now ≡ Ok (push_pull p)
-        → OnOk result (AddsLines number (events_of p.slots)
-        (heard p is_join i) lines.old.text.items lines.new.text.items) }
-    ensures other { ((p : PushPull) → decoded packet.now ≡ Ok (push_pull p) → ⊥)
-        → OnOk result (lines.new.text.items ≡ lines.old.text.items) }
+    ensures { (i : IdealAgent) → IsSound i → agent.now.concrete ≡ view_of i
+        → OnOk result (AddsMerge number i is_join (decoded packet.now)
+        lines.old.text.items lines.new.text.items) }
 {
     let phrases = Phrases::new(alloc, number, agent)?;
     let merging = Merging {
@@ -169,19 +153,20 @@ pub(crate) fn lines_before(
     }
 }
 
+/// Appends the line of a reason.
+fn put_one(out: &mut Vec<u8>, number: u64, reason: &[u8]) -> Result<(), AllocError>
+    ensures { OnOk result (AddsSome number out.old.items out.new.items) }
+{
+    put_because(out, number, reason)
+}
+
 /// Appends the line of an action's only reason.
 pub(crate) fn put_lone(alloc: Global, out: &mut Vec<u8>, told: &Told) -> Result<(), AllocError>
     ensures { OnOk result (AddsSome told.now.number out.old.items out.new.items) }
 {
     let mut reason = Vec::with_capacity(alloc, USUAL_BYTES)?;
     put_reason(&mut reason, told)?;
-    put_because(out, told.number, reason.as_slice())
-}
-
-fn put_text(out: &mut Vec<u8>, text: &[u8]) -> Result<(), AllocError>
-    ensures { OnOk result (out.new.items ≡ out.old.items ++ text.now) }
-{
-    out.extend_from_slice(text)
+    put_one(out, told.number, reason.as_slice())
 }
 
 /// Appends the lines of what is said of the events that a merged state carries; a line that says so where it carries none.
@@ -192,7 +177,8 @@ fn put_merged(out: &mut Vec<u8>, number: u64, lines: &[u8]) -> Result<(), AllocE
     if lines.len() == 0 {
         return put_because(out, number, b"the state carries no event");
     }
-    put_text(out, lines)
+    out.extend_from_slice(lines)?;
+    Ok(())
 }
 
 /// The reason that a line says: what stands behind its number and `because`.
@@ -214,7 +200,7 @@ fn put_again(out: &mut Vec<u8>, number: u64, reason: &[u8]) -> Result<(), AllocE
     if reason.len() == 0 {
         return Ok(());
     }
-    put_because(out, number, reason)
+    put_one(out, number, reason)
 }
 
 /// What is said of the event at which the disk failed.
@@ -242,7 +228,7 @@ fn put_failed_merge(
         if reason.ends_with(NEW_WORDS) {
             if handed == 0 {
                 let reason = failed_reason(alloc, actor, reason)?;
-                return put_because(out, told.number, &reason);
+                return put_one(out, told.number, &reason);
             }
             handed -= 1;
         }
@@ -270,16 +256,8 @@ fn unheard_least(told: &Told, actor: &Actor) -> Option<u64> {
     }
 }
 
-/// Appends the line that says that nothing of a state was heard of, since the line of this least time failed.
-fn put_unheard(
-    alloc: Global,
-    out: &mut Vec<u8>,
-    told: &Told,
-    actor: &Actor,
-    least: u64,
-) -> Result<(), AllocError>
-    ensures { OnOk result (AddsSome told.now.number out.old.items out.new.items) }
-{
+/// What is said where nothing of a state was heard of, since the line of this least time failed.
+fn unheard_reason(alloc: Global, actor: &Actor, least: u64) -> Result<Vec<u8>, AllocError> {
     let mut reason = Vec::with_capacity(alloc, USUAL_BYTES)?;
     put_parts(
         &mut reason,
@@ -290,7 +268,7 @@ fn put_unheard(
         ],
     )?;
     put_sink_fault(&mut reason, actor)?;
-    put_because(out, told.number, &reason)
+    Ok(reason)
 }
 
 /// Appends a line for each reason of a merge at which the disk failed.
@@ -303,7 +281,10 @@ fn put_broken_merge(
     ensures { OnOk result (AddsSome told.now.number out.old.items out.new.items) }
 {
     match unheard_least(told, actor) {
-        Some(least) => put_unheard(alloc, out, told, actor, least),
+        Some(least) => {
+            let reason = unheard_reason(alloc, actor, least)?;
+            put_one(out, told.number, &reason)
+        }
         None => put_failed_merge(alloc, out, told, actor),
     }
 }

@@ -1,8 +1,8 @@
 //! Why an action is refused.
 
 use crate::marks::Plan;
-use crate::quoted::{Part, put_parts};
-use crate::told::{Actor, Told, message_of, named, packet_len};
+use crate::quoted::{Part, put_parts, say};
+use crate::told::{Actor, Told, message_of, moment_of, named, number_in, packet_len};
 use serf_lamport::Time;
 use serf_model::{Act, Refusal};
 use serf_wire::{Message, UserEvent, user_event_len};
@@ -38,18 +38,9 @@ fn put_event_sizes(
     coalesce: bool,
 ) -> Result<(), AllocError> {
     let texts = (name.len() as u64).saturating_add(payload.len() as u64);
-    put_parts(
-        out,
-        &[Part::Text(b"name and payload have "), Part::Number(texts)],
-    )?;
+    say(out, b"name and payload have ", texts)?;
     if let Some(packet) = packet_size(actor, name, payload, coalesce) {
-        put_parts(
-            out,
-            &[
-                Part::Text(b" bytes together, and the packet "),
-                Part::Number(packet),
-            ],
-        )?;
+        say(out, b" bytes together, and the packet ", packet)?;
     }
     put_parts(
         out,
@@ -149,13 +140,7 @@ fn put_responders(out: &mut Vec<u8>, told: &Told, actor: &Actor) -> Result<(), A
                 Part::Text(b" is one more"),
             ],
         ),
-        _ => put_parts(
-            out,
-            &[
-                Part::Text(b"as many are counted as may be: "),
-                Part::Number(counted),
-            ],
-        ),
+        _ => say(out, b"as many are counted as may be: ", counted),
     }
 }
 
@@ -207,15 +192,11 @@ fn put_too_large(out: &mut Vec<u8>, actor: &Actor) -> Result<(), AllocError> {
 
 /// Appends which number the schedule has no packet of.
 fn put_no_message(out: &mut Vec<u8>, told: &Told, actor: &Actor) -> Result<(), AllocError> {
-    let number = match actor.act {
-        Act::Deliver { packet, .. } | Act::Merge { packet, .. } => *packet,
-        _ => 0,
-    };
     put_parts(
         out,
         &[
             Part::Text(b"no packet has the number "),
-            Part::Number(number),
+            Part::Number(number_in(actor.act)),
             Part::Text(b": so many were sent, counted from 0: "),
             Part::Number(told.world.sent().len() as u64),
         ],
@@ -224,33 +205,14 @@ fn put_no_message(out: &mut Vec<u8>, told: &Told, actor: &Actor) -> Result<(), A
 
 /// Appends why a query can't be answered.
 fn put_no_query(out: &mut Vec<u8>, actor: &Actor) -> Result<(), AllocError> {
-    let number = match actor.act {
-        Act::Respond { handed, .. } => *handed,
-        _ => 0,
-    };
     put_parts(
         out,
         &[
             Part::Text(b"no query of number "),
-            Part::Number(number),
+            Part::Number(number_in(actor.act)),
             Part::Text(b" was handed to "),
             named(actor.agent),
             Part::Text(b" in this life, or it is answered"),
-        ],
-    )
-}
-
-/// Appends the moment of an answer that comes too late.
-fn put_past_deadline(out: &mut Vec<u8>, actor: &Actor) -> Result<(), AllocError> {
-    let now = match actor.act {
-        Act::Respond { now, .. } => *now,
-        _ => 0,
-    };
-    put_parts(
-        out,
-        &[
-            Part::Text(b"the query's deadline is before "),
-            Part::Number(now),
         ],
     )
 }
@@ -287,7 +249,13 @@ pub(crate) fn put_refusal(
         Refusal::ZeroTimeout => out.extend_from_slice(
             b"a query with a timeout of 0 takes no answer",
         ),
-        Refusal::PastDeadline => put_past_deadline(out, actor),
+        Refusal::PastDeadline => {
+            say(
+                out,
+                b"the query's deadline is before ",
+                moment_of(actor.act),
+            )
+        }
         Refusal::NotPushPull => put_not_push_pull(out, told),
         Refusal::RespondersFull => put_responders(out, told, actor),
         Refusal::SinkFault => put_sink_fault(out, actor),

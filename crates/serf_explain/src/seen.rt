@@ -12,11 +12,10 @@ ghost use Rattle.serf_explain.specs.Seen.{event_delivered, event_read, tailed_wo
 
 use crate::because::put_because;
 use crate::hand_outs::Event;
-use crate::quoted::{put_event, put_quoted};
+use crate::quoted::{put_event, put_quoted, say};
 use crate::reasons::{USUAL_BYTES, put_lone};
 use crate::told::Told;
 use serf_model::{Act, Action, packet_at};
-use serf_text::put_number;
 use serf_wire::{Message, decode};
 use std::alloc::{AllocError, Global};
 
@@ -32,11 +31,7 @@ fn event_read<'a>(message: &Message<'a>) -> Option<Event<'a>>
     ensures { option_map event_as result ≡ event_read (Ok (message_of message.now)) }
 {
     match message {
-        Message::UserEvent(event) => Some(Event {
-            time: event.time.get(),
-            name: event.name,
-            payload: event.payload,
-        }),
+        Message::UserEvent(event) => Some(Event::of(event)),
         Message::Query(_)
         | Message::QueryResponse(_)
         | Message::PushPull(_)
@@ -72,7 +67,7 @@ fn seen_event<'a>(told: &Told<'a>) -> Option<Delivered<'a>>
 
 /// Appends which action handed an event to an agent of this name.
 #[tactic(auto, unfolding(crate::specs::HandOuts::noted_words))]
-fn put_noted_words(
+pub(crate) fn put_noted_words(
     out: &mut Vec<u8>,
     name: &[u8],
     event: &Event,
@@ -84,8 +79,7 @@ fn put_noted_words(
     put_quoted(out, name)?;
     out.extend_from_slice(b" was handed ")?;
     put_event(out, event.time, event.name, event.payload)?;
-    out.extend_from_slice(b" at action ")?;
-    put_number(out, number)
+    say(out, b" at action ", number)
 }
 
 /// Appends that an agent of this name was opened on a text with the line of an event.

@@ -43,8 +43,9 @@ fn begin(
     match schedule.actions.first() {
         Some(action) => {
             let roster = mem::replace(&mut schedule.agents, Roster::new(alloc));
-            let telling = Telling::new(alloc, roster, ALL)?;
-            Ok(Some(telling.go_on(alloc, action, text)?))
+            let mut telling = Telling::new(alloc, roster, ALL)?;
+            telling.go_on(alloc, action, text)?;
+            Ok(Some(telling))
         }
         None => Ok(None),
     }
@@ -69,7 +70,9 @@ fn go_on(
     let Some(action) = schedule.actions.pop() else {
         unreachable!();
     };
-    telling.go_on(alloc, &action, text)
+    let mut telling = telling;
+    telling.take(alloc, action, text)?;
+    Ok(telling)
 }
 
 /// Does the action that a line put into the schedule, where there is one.

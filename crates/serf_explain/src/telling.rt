@@ -1,11 +1,5 @@
 //! A cluster that acts, and what is told of it.
 
-ghost use Rattle.std.specs.Prelude.{◌≡◌, ◌+◌, ◌++◌, ◌∷◌, [], List, ℕ, length, IfOk};
-ghost use Rattle.serf_agent.specs.declared.config.Config.{Config};
-ghost use Rattle.serf_model.specs.declared.action.Action.{Action};
-ghost use Rattle.serf_explain.specs.Explained.{HasTold, TellsMore};
-ghost use Rattle.serf_explain.specs.HandOuts.{notes_in};
-
 use crate::history::History;
 use crate::job::add_turn;
 use crate::merges::MergeLines;
@@ -23,17 +17,17 @@ pub(crate) struct Telling {
     lines: MergeLines,
     pub(crate) turns: u64,
     pub(crate) range: Range,
-    ghost stands: { ∥ ((configs : List Config) × (done : List Action) × (text : List ℕ)
-        × HasTold range configs done world (notes_in history.hand_outs.outs.items) text
-        × (turns ≡ length done)) ∥₁ },
 }
 
 impl Telling {
+    ghost use Rattle.std.specs.Prelude.{◌++◌, ◌∷◌, [], List, ℕ, IfOk, OnOk};
+    ghost use Rattle.serf_agent.specs.declared.config.Config.{Config};
+    ghost use Rattle.serf_model.specs.declared.action.Action.{Action};
+    ghost use Rattle.serf_explain.specs.Acted.{HasActed};
+
     /// A cluster that did nothing.
     pub(crate) fn new(alloc: Global, roster: Roster, range: Range) -> Result<Telling, AllocError>
-        ensures { IfOk result (λ telling. HasTold range roster [] telling.world
-            (notes_in telling.history.hand_outs.outs.items) [] × (telling.turns ≡ 0)
-            × (telling.range ≡ range)) }
+        ensures { IfOk result (λ telling. HasActed range roster [] telling []) }
     {
         let agents = roster.as_slice().len();
         let world = World::new(alloc, roster)?;
@@ -47,65 +41,40 @@ impl Telling {
         })
     }
 
-    /// Does one more action, and appends what is told of it.
+    /// Does one more action, and appends what is told of it. The text so far may stand elsewhere up to `out`. After an
+    /// `AllocError` each further action fails.
     pub(crate) fn go_on(
-        self,
+        &mut self,
         alloc: Global,
         action: &Action,
         out: &mut Vec<u8>,
-    ) -> Result<Telling, AllocError>
-        ensures { (configs : List Config) (done : List Action) (text : List ℕ)
-            → HasTold self.range configs done self.world
-            (notes_in self.history.hand_outs.outs.items) text → self.turns ≡ length done
-            → IfOk result (λ telling. TellsMore self.range configs (done ++ action.now ∷ [])
-            telling.world (notes_in telling.history.hand_outs.outs.items) text out.old.items
-            out.new.items × (telling.turns ≡ length done + 1) × (telling.range ≡ self.range)) }
+    ) -> Result<(), AllocError>
+        ensures { (range : Range) (configs : List Config) (done : List Action) (front : List ℕ)
+            → HasActed range configs done self.old (front ++ out.old.items)
+            → OnOk result (HasActed range configs (done ++ action.now ∷ []) self.new
+            (front ++ out.new.items)) }
     {
-        let Telling {
-            world,
-            history,
-            lines,
-            turns,
-            range,
-        } = self;
-        let Some(number) = turns.checked_add(1) else {
+        let Some(number) = self.turns.checked_add(1) else {
             return Err(AllocError);
         };
-        let mut world = world;
-        let mut history = history;
-        let mut lines = lines;
-        add_turn(
-            alloc,
-            &mut world,
-            &mut history,
-            &mut lines,
-            out,
-            &range,
-            number,
-            action,
-        )?;
-        Ok(Telling {
-            world,
-            history,
-            lines,
-            turns: number,
-            range,
-        })
+        let range = self.range;
+        let (world, history, lines) = (&mut self.world, &mut self.history, &mut self.lines);
+        add_turn(alloc, world, history, lines, out, &range, number, action)?;
+        self.turns = number;
+        Ok(())
     }
 
     /// Does one more action, appends what is told of it, and drops it.
     pub(crate) fn take(
-        self,
+        &mut self,
         alloc: Global,
         action: Action,
         out: &mut Vec<u8>,
-    ) -> Result<Telling, AllocError>
-        ensures { (configs : List Config) (done : List Action) (text : List ℕ)
-            → HasTold self.range configs done self.world
-            (notes_in self.history.hand_outs.outs.items) text → self.turns ≡ length done
-            → IfOk result (λ telling. TellsMore self.range configs (done ++ action ∷ [])
-            telling.world (notes_in telling.history.hand_outs.outs.items) text out.old.items
-            out.new.items × (telling.turns ≡ length done + 1) × (telling.range ≡ self.range)) }
+    ) -> Result<(), AllocError>
+        ensures { (range : Range) (configs : List Config) (done : List Action) (front : List ℕ)
+            → HasActed range configs done self.old (front ++ out.old.items)
+            → OnOk result (HasActed range configs (done ++ action ∷ []) self.new
+            (front ++ out.new.items)) }
     {
         self.go_on(alloc, &action, out)
     }

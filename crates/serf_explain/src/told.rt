@@ -69,3 +69,20 @@ pub(crate) fn actor_at<'a>(told: &Told<'a>, number: u64, act: &'a Act) -> Option
         before: told.memory.marks(number)?,
     })
 }
+
+/// The moment at which an act is done; 0 where it names none.
+pub(crate) fn moment_of(act: &Act) -> u64 {
+    match act {
+        Act::Deliver { now, .. } | Act::Respond { now, .. } | Act::Close { now } => *now,
+        _ => 0,
+    }
+}
+
+/// The number of the packet, or of the query, that an act takes; 0 where it takes none.
+pub(crate) fn number_in(act: &Act) -> u64 {
+    match act {
+        Act::Deliver { packet, .. } | Act::Merge { packet, .. } => *packet,
+        Act::Respond { handed, .. } => *handed,
+        _ => 0,
+    }
+}

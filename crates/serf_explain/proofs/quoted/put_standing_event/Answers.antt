@@ -6,10 +6,11 @@ use Rattle.serf_explain.proofs.quoted.put_standing_event.Goals as goal
 
 pub returns : goal.returns
 returns c =
+    let old : List ℕ = c.args.out.now.items in
     let texts : List ℕ = standing_texts c.args.name.now c.args.payload.now in
     on_ok_weaker c.put_standing_texts.result
     (λ is. is
-    ∙ ap (λ (t : List ℕ). t ++ texts) c.in_ok-put_time.ensures
-    ∙ append_assoc c.args.out.now.items (codes "event " ++ decimal c.args.time) texts
-    ∙ ap (λ (t : List ℕ). c.args.out.now.items ++ t) (standing-words c.args.time c.args.name.now c.args.payload.now c.requires.name c.requires.payload))
+    ∙ ap (λ (t : List ℕ). t ++ texts) (c.in_ok-say.ensures ∙ append_assoc old (codes "event ") (decimal c.args.time))
+    ∙ append_assoc old (codes "event " ++ decimal c.args.time) texts
+    ∙ ap (λ (t : List ℕ). old ++ t) (standing-words c.args.time c.args.name.now c.args.payload.now c.requires.name c.requires.payload))
     c.put_standing_texts.ensures

@@ -1,9 +1,9 @@
 use Rattle.std.proofs.Common.{◌≡◌, ℕ, List, Some, None, OnOk, ap, sym, subst, ◌∙◌}
 use Rattle.std.specs.Prelude.{slice_get}
-use Rattle.serf_agent.specs.States.{events_of}
+use Rattle.std.proofs.lemmas.Result.{on_ok_weaker}
+use Rattle.serf_wire.specs.Decoded.{decoded}
 use Rattle.serf_agent.specs.View.{view_of}
-use Rattle.serf_explain.specs.Carried.{heard}
-use Rattle.serf_explain.specs.Judging.{AddsLines}
+use Rattle.serf_explain.specs.Judging.{AddsMerge}
 use Rattle.serf_explain.proofs.CarriedLaws.{tells-none}
 use Rattle.serf_explain.proofs.MergeLaws.{tells-merge}
 use Rattle.serf_explain.proofs.WorldLaws.{agent-is, agent-sound, node-of}
@@ -15,9 +15,8 @@ returns-in-Some-packet_at c = λ d view rep empty.
     let sent : slice_get d.sent c.args.packet ≡ Some c.in-Some-packet_at.bytes.now = sym (c.in-Some-packet_at.ensures ∙ ap (λ (s : List (List ℕ)). slice_get s c.args.packet) (c.sent.ensures ∙ sym view.sent)) in
     let sound = agent-sound d c.args.agent node.0 rep node.1 in
     let new = c.add_merge.new.lines.text.items in
-    tells-merge c.args.number d c.args.agent c.args.packet c.args.join node.0 c.in-Some-packet_at.bytes.now new node.1 sent c.add_merge.result
-    (λ p is. subst (λ (old : List ℕ). OnOk c.add_merge.result (AddsLines c.args.number (events_of p.slots) (heard p c.args.join node.0.agent) old new)) empty (c.add_merge.ensures.merged node.0.agent p sound node.2 is))
-    (λ none. subst (λ (old : List ℕ). OnOk c.add_merge.result (new ≡ old)) empty (c.add_merge.ensures.other none))
+    on_ok_weaker c.add_merge.result (tells-merge c.args.number d c.args.agent c.args.packet c.args.join node.0 c.in-Some-packet_at.bytes.now new node.1 sent)
+    (subst (λ (old : List ℕ). OnOk c.add_merge.result (AddsMerge c.args.number node.0.agent c.args.join (decoded c.in-Some-packet_at.bytes.now) old new)) empty (c.add_merge.ensures node.0.agent sound node.2))
 
 pub returns-in-None-packet_at : goal.returns-in-None-packet_at
 returns-in-None-packet_at c = λ d view rep empty.

@@ -1,6 +1,6 @@
-use Rattle.std.proofs.Common.{ap}
-use Rattle.serf_wire.specs.Message.{message_of}
+use Rattle.std.proofs.Common.{refl}
+use Rattle.serf_wire.specs.Message.{push_pull_said}
 use Rattle.serf_explain.proofs.reasons.add_message.Goals as goal
 
-pub returns-in-PushPull-clause-other : goal.returns-in-PushPull-clause-other
-returns-in-PushPull-clause-other c = λ none. absurd (none _ (ap message_of c.in-PushPull.is))
+pub returns-in-PushPull : goal.returns-in-PushPull
+returns-in-PushPull c = λ i sound is. rw c.in-PushPull.is (c.add_carried_lines.ensures i (push_pull_said c.in-PushPull.state) sound is refl refl)
