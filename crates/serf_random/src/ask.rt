@@ -2,6 +2,7 @@
 
 ghost use Rattle.std.specs.Prelude.{◌≡◌, ◌++◌, false, true, OnOk};
 ghost use Rattle.serf_random.specs.Comment.{comment_text};
+ghost use Rattle.serf_random.specs.Draft.{HasNumbers};
 ghost use Rattle.serf_random.specs.Kind.{is_rounds};
 
 use crate::kind::Kind;
@@ -43,6 +44,18 @@ pub struct Ask {
     pub loss: u64,
     /// How many rounds it has: more than [`MAX_ROUNDS`] stand for those.
     pub rounds: u64,
+}
+
+/// What is asked for has numbers of 64 bits. Does nothing.
+pub(crate) fn know_numbers(ask: &Ask)
+    ensures { HasNumbers ask.now }
+{
+    let _seed = ask.seed;
+    let _agents = ask.agents;
+    let _actions = ask.actions;
+    let _fanout = ask.fanout;
+    let _loss = ask.loss;
+    let _rounds = ask.rounds;
 }
 
 /// The comment of a schedule of rounds.

@@ -1,7 +1,6 @@
 //! The comment before a schedule that keeps to Serf's own rules.
 
 ghost use Rattle.std.specs.Prelude.{◌≡◌, ◌++◌, false, true, OnOk};
-ghost use Rattle.serf_random.specs.Draft.{HasNumbers};
 ghost use Rattle.serf_random.specs.Common.{comment_text};
 ghost use Rattle.serf_random.specs.Kind.{is_rounds};
 
@@ -9,18 +8,6 @@ use crate::ask::Ask;
 use serf_schedule::Word::{Number, Plain};
 use serf_schedule::put_line;
 use std::alloc::AllocError;
-
-/// What is asked for has numbers of 64 bits. Does nothing.
-pub(crate) fn know_numbers(ask: &Ask)
-    ensures { HasNumbers ask.now }
-{
-    let _seed = ask.seed;
-    let _agents = ask.agents;
-    let _actions = ask.actions;
-    let _fanout = ask.fanout;
-    let _loss = ask.loss;
-    let _rounds = ask.rounds;
-}
 
 /// The comment of a schedule of rounds.
 #[tactic(auto, unfolding(crate::specs::Common::comment_text))]

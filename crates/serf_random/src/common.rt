@@ -6,8 +6,8 @@ ghost use Rattle.serf_schedule.specs.ScheduleText.{schedule_text};
 ghost use Rattle.serf_random.specs.Common.{AreCommon, comment_text};
 
 use crate::agents::add_agents;
-use crate::ask::Ask;
-use crate::comment::{know_numbers, put_comment};
+use crate::ask::{Ask, know_numbers};
+use crate::comment::put_comment;
 use crate::cut::add_common;
 use crate::make::{Made, random_schedule};
 use crate::rounds::in_rounds;

@@ -4,10 +4,11 @@ ghost use Rattle.std.specs.Prelude.{◌≡◌, ◌+◌, ◌≤◌, ℕ, false, I
 ghost use Rattle.serf_agent.specs.declared.config.Config.{Config};
 ghost use Rattle.serf_random.specs.Cut.{AreKept, GoesOn, IsAlong, MayAdd};
 
+use crate::stepping::stepped;
 use serf_model::{Action, is_common_turn};
 use serf_schedule::{is_sayable, put_action_line};
 use serf_text::MAX_SCHEDULE_BYTES;
-use serf_world::{Roster, StepFault, World};
+use serf_world::{Roster, World};
 use std::alloc::{AllocError, Global};
 
 /// Appends an action and its line, and says whether it did: not where the text would be too long.
@@ -44,11 +45,7 @@ fn add_turn(
     if !is_sayable(&action) {
         return Ok(false);
     }
-    let line = match world.step(alloc, &action) {
-        Ok(line) => line,
-        Err(StepFault::OutOfMemory) => return Err(AllocError),
-        Err(StepFault::Poisoned) => unreachable!(),
-    };
+    let line = stepped(alloc, world, &action)?;
     if !is_common_turn(&action, &line) {
         return Ok(false);
     }

@@ -1,7 +1,7 @@
 //! The filters of queries.
 
+use crate::dice::Dice;
 use crate::kind::Kind;
-use crate::player::Player;
 use serf_agent::BytesList;
 use serf_wire::Bytes;
 use std::alloc::{AllocError, Global};
@@ -47,26 +47,26 @@ const SPELLED: [&[u8]; 24] = [
 ];
 
 /// One filter: in the kinds that spell, one time in two in another form.
-fn one_filter(player: &mut Player) -> &'static [u8] {
-    let is_spelled = match player.kind {
-        Kind::Spellings | Kind::Mixed => player.dice.one_in(2),
+fn one_filter(dice: &mut Dice, kind: Kind) -> &'static [u8] {
+    let is_spelled = match kind {
+        Kind::Spellings | Kind::Mixed => dice.one_in(2),
         _ => false,
     };
     if is_spelled {
-        player.dice.pick(&SPELLED, b"")
+        dice.pick(&SPELLED, b"")
     } else {
-        player.dice.pick(&FILTERS, b"")
+        dice.pick(&FILTERS, b"")
     }
 }
 
 /// The filters of a query: mostly none, else some names, or what excludes every node.
-pub(crate) fn filters(alloc: Global, player: &mut Player) -> Result<BytesList, AllocError> {
+pub(crate) fn filters(alloc: Global, dice: &mut Dice, kind: Kind) -> Result<BytesList, AllocError> {
     let mut list = BytesList::new(alloc);
-    if !player.dice.one_in(4) {
+    if !dice.one_in(4) {
         return Ok(list);
     }
-    for _filter in 0..player.dice.below(3) {
-        let one = one_filter(player);
+    for _filter in 0..dice.below(3) {
+        let one = one_filter(dice, kind);
         list.push(Bytes::copy_of(alloc, one)?)?;
     }
     Ok(list)

@@ -4,14 +4,14 @@ ghost use Rattle.std.specs.Prelude.{◌≡◌, ◌≤◌, ◌++◌, [], All, IfO
 ghost use Rattle.std.specs.List.{flat_map};
 ghost use Rattle.serf_schedule.specs.Schedule.{parsed_of, schedule_of};
 ghost use Rattle.serf_random.specs.Comment.{comment_text};
-ghost use Rattle.serf_random.specs.Draft.{AddsActions, HasNumbers};
+ghost use Rattle.serf_random.specs.Draft.{AddsActions};
 ghost use Rattle.serf_schedule.specs.ScheduleText.{schedule_text};
 
-use crate::ask::{Ask, put_comment};
-use crate::draft::add_action;
+use crate::ask::{Ask, know_numbers, put_comment};
+use crate::course::add_course;
 use crate::player::Player;
 use crate::settings::add_agents;
-use crate::walked::add_walked;
+use crate::walk::Walk;
 use serf_model::Action;
 use serf_schedule::{Schedule, comments_skipped, know_read_back};
 use serf_text::MAX_SCHEDULE_BYTES;
@@ -25,56 +25,24 @@ pub struct Made {
     pub text: Vec<u8>,
 }
 
-/// Plays in a cluster of these agents, and appends the lines of what was done: so many actions, or fewer where the text
-/// would be too long.
-fn add_played(
-    alloc: Global,
-    ask: &Ask,
-    roster: Roster,
-    text: &mut Vec<u8>,
-) -> Result<Vec<Action>, AllocError>
-    ensures { IfOk result (λ actions.
-        AddsActions ask.now.actions text.old.items text.new.items [] actions.items) }
-{
-    let mut player = Player::new(alloc, ask, roster)?;
-    let mut actions = Vec::new(alloc);
-    for _action in 0..ask.actions {
-        let (played, action) = player.play(alloc)?;
-        player = played;
-        if !add_action(text, &mut actions, action)? {
-            return Ok(actions);
-        }
-    }
-    Ok(actions)
-}
-
 /// Appends the lines of what is done in a cluster of these agents: so many actions, or fewer.
 fn add_actions(
     alloc: Global,
     ask: &Ask,
-    roster: Roster,
+    agents: Roster,
     text: &mut Vec<u8>,
 ) -> Result<Vec<Action>, AllocError>
     ensures { IfOk result (λ actions.
         AddsActions ask.now.actions text.old.items text.new.items [] actions.items) }
 {
+    let many = agents.as_slice().len() as u64;
     if ask.kind.is_rounds() {
-        add_walked(alloc, ask, roster, text)
+        let mut walk = Walk::new(alloc, ask, many);
+        add_course(alloc, &mut walk, agents, ask.actions, text)
     } else {
-        add_played(alloc, ask, roster, text)
+        let mut player = Player::new(ask, many);
+        add_course(alloc, &mut player, agents, ask.actions, text)
     }
-}
-
-/// What is asked for has numbers of 64 bits. Does nothing.
-fn know_numbers(ask: &Ask)
-    ensures { HasNumbers ask.now }
-{
-    let _seed = ask.seed;
-    let _agents = ask.agents;
-    let _actions = ask.actions;
-    let _fanout = ask.fanout;
-    let _loss = ask.loss;
-    let _rounds = ask.rounds;
 }
 
 /// A random schedule as it was asked for, and its text.

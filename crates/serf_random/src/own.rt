@@ -6,18 +6,25 @@ use crate::player::{LastQuery, Next, Player};
 use crate::pools::{long_text, name, payload, tail};
 use crate::sizes::{event_filling, query_filling, response_filling};
 use crate::tails::kept_tail;
+use crate::tracks::tracks_of;
 use crate::verb::Verb;
 use serf_agent::QueryParams;
 use serf_model::{Act, Action, Answer, Boxed, Line, NewQuery, SinkCall};
 use serf_wire::Bytes;
+use serf_world::World;
 use std::alloc::{AllocError, Global};
 
 /// What an agent does of its own accord.
-pub(crate) fn act(alloc: Global, player: &mut Player, verb: Verb) -> Result<Action, AllocError> {
+pub(crate) fn act(
+    alloc: Global,
+    player: &mut Player,
+    world: &World,
+    verb: Verb,
+) -> Result<Action, AllocError> {
     match verb {
-        Verb::Ask => ask(alloc, player),
-        Verb::Respond => respond(alloc, player),
-        Verb::Restart => restart(alloc, player),
+        Verb::Ask => ask(alloc, player, world),
+        Verb::Respond => respond(alloc, player, world),
+        Verb::Restart => restart(alloc, player, world),
         Verb::Break => Ok(fail(player)),
         Verb::Close => Ok(Action::Of {
             agent: player.agent(),
@@ -33,7 +40,7 @@ pub(crate) fn act(alloc: Global, player: &mut Player, verb: Verb) -> Result<Acti
             agent: player.agent(),
             act: Act::Compact,
         }),
-        _ => fire(alloc, player),
+        _ => fire(alloc, player, world),
     }
 }
 
@@ -55,32 +62,38 @@ fn is_filled(player: &mut Player) -> bool {
     }
 }
 
+/// A payload; now and then one that is about as long as a limit.
+fn payload_up_to(alloc: Global, player: &mut Player, limit: u64) -> Result<Vec<u8>, AllocError> {
+    if is_long(player) {
+        long_text(alloc, &mut player.dice, limit)
+    } else {
+        payload(alloc, &mut player.dice)
+    }
+}
+
 /// The name and the payload of an event that an agent fires.
 fn event_texts(
     alloc: Global,
     player: &mut Player,
+    world: &World,
     agent: u64,
 ) -> Result<(Vec<u8>, Vec<u8>), AllocError> {
     if is_filled(player) {
         let name = name(alloc, &mut player.dice)?;
-        let payload = event_filling(alloc, player, agent, &name)?;
+        let payload = event_filling(alloc, &mut player.dice, world, agent, &name)?;
         return Ok((name, payload));
     }
-    let limit = match player.world.agent(agent) {
+    let limit = match world.agent(agent) {
         Some(one) => one.config().event_limit,
         None => 0,
     };
-    let payload = if is_long(player) {
-        long_text(alloc, &mut player.dice, limit)?
-    } else {
-        payload(alloc, &mut player.dice)?
-    };
+    let payload = payload_up_to(alloc, player, limit)?;
     Ok((name(alloc, &mut player.dice)?, payload))
 }
 
-fn fire(alloc: Global, player: &mut Player) -> Result<Action, AllocError> {
+fn fire(alloc: Global, player: &mut Player, world: &World) -> Result<Action, AllocError> {
     let agent = player.agent();
-    let (name, payload) = event_texts(alloc, player, agent)?;
+    let (name, payload) = event_texts(alloc, player, world, agent)?;
     let act = Act::Fire {
         name: Bytes::from_vec(name),
         payload: Bytes::from_vec(payload),
@@ -89,19 +102,15 @@ fn fire(alloc: Global, player: &mut Player) -> Result<Action, AllocError> {
     Ok(Action::Of { agent, act })
 }
 
-fn ask(alloc: Global, player: &mut Player) -> Result<Action, AllocError> {
+fn ask(alloc: Global, player: &mut Player, world: &World) -> Result<Action, AllocError> {
     let agent = player.agent();
     let moment = player.moment();
-    let payload = if is_long(player) {
-        long_text(alloc, &mut player.dice, 970)?
-    } else {
-        payload(alloc, &mut player.dice)?
-    };
+    let payload = payload_up_to(alloc, player, 970)?;
     let timeout = player
         .dice
         .pick(&[0, 1, 10, 100, 1_000, 1_000, 1_000, i64::MAX], 10);
     let params = QueryParams {
-        filters: filters(alloc, player)?,
+        filters: filters(alloc, &mut player.dice, player.kind)?,
         want_ack: player.dice.one_in(2),
         no_broadcast: player.dice.one_in(4),
         timeout,
@@ -112,7 +121,7 @@ fn ask(alloc: Global, player: &mut Player) -> Result<Action, AllocError> {
     let id = player.dice.pick(&[0, 1, 2, 3, u32::MAX], 0);
     let name = name(alloc, &mut player.dice)?;
     let payload = if is_filled(player) {
-        query_filling(alloc, player, agent, id, &name, &params)?
+        query_filling(alloc, &mut player.dice, world, agent, id, &name, &params)?
     } else {
         payload
     };
@@ -130,9 +139,13 @@ fn ask(alloc: Global, player: &mut Player) -> Result<Action, AllocError> {
 }
 
 /// An answer to the query that was handed out last, whose packet is as long as its limit, or nearly so.
-fn respond_in_full(alloc: Global, player: &mut Player) -> Result<Action, AllocError> {
+fn respond_in_full(
+    alloc: Global,
+    player: &mut Player,
+    world: &World,
+) -> Result<Action, AllocError> {
     let last = player.last_handed;
-    let payload = response_filling(alloc, player)?;
+    let payload = response_filling(alloc, &mut player.dice, world, &last)?;
     Ok(Action::Of {
         agent: last.agent,
         act: Act::Respond {
@@ -143,15 +156,11 @@ fn respond_in_full(alloc: Global, player: &mut Player) -> Result<Action, AllocEr
     })
 }
 
-fn respond(alloc: Global, player: &mut Player) -> Result<Action, AllocError> {
+fn respond(alloc: Global, player: &mut Player, world: &World) -> Result<Action, AllocError> {
     if is_filled(player) {
-        return respond_in_full(alloc, player);
+        return respond_in_full(alloc, player, world);
     }
-    let payload = if is_long(player) {
-        long_text(alloc, &mut player.dice, 970)?
-    } else {
-        payload(alloc, &mut player.dice)?
-    };
+    let payload = payload_up_to(alloc, player, 970)?;
     Ok(Action::Of {
         agent: player.agent(),
         act: Act::Respond {
@@ -163,10 +172,10 @@ fn respond(alloc: Global, player: &mut Player) -> Result<Action, AllocError> {
 }
 
 /// An agent is opened again on a tail of such agents' lines, and gets older packets again.
-fn restart_kept(alloc: Global, player: &mut Player) -> Result<Action, AllocError> {
+fn restart_kept(alloc: Global, player: &mut Player, world: &World) -> Result<Action, AllocError> {
     let agent = player.agent();
     let act = Act::Restart {
-        tail: Bytes::from_vec(kept_tail(alloc, player, agent)?),
+        tail: Bytes::from_vec(kept_tail(alloc, player, world, agent)?),
     };
     player.next = Some(Next::Again {
         to: agent,
@@ -175,15 +184,12 @@ fn restart_kept(alloc: Global, player: &mut Player) -> Result<Action, AllocError
     Ok(Action::Of { agent, act })
 }
 
-fn restart(alloc: Global, player: &mut Player) -> Result<Action, AllocError> {
+fn restart(alloc: Global, player: &mut Player, world: &World) -> Result<Action, AllocError> {
     if player.kind == Kind::Kept {
-        return restart_kept(alloc, player);
+        return restart_kept(alloc, player, world);
     }
     let agent = player.agent();
-    let time = match player.world.agent(agent) {
-        Some(one) => one.event_time(),
-        None => 1,
-    };
+    let time = tracks_of(world, agent).events.clock;
     let act = Act::Restart {
         tail: Bytes::from_vec(tail(alloc, &mut player.dice, time)?),
     };

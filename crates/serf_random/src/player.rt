@@ -1,17 +1,17 @@
-//! A cluster that is stepped along, and what is done in it next.
-
-ghost use Rattle.std.specs.Prelude.{◌≡◌, false};
+//! What is done next in a cluster, by where it stands.
 
 use crate::ask::Ask;
+use crate::course::Course;
 use crate::dice::Dice;
 use crate::kind::Kind;
+use crate::own;
 use crate::spelled::{foreign, spelled};
 use crate::strangers::stranger;
-use crate::times::near;
+use crate::times::{great_time, near};
+use crate::tracks::{Track, Tracks, edge_of_track, tracks_of};
 use crate::verb::{Verb, verbs};
-use crate::{own, pools};
 use serf_model::{Act, Action, Line};
-use serf_world::{Roster, StepFault, World};
+use serf_world::World;
 use std::alloc::{AllocError, Global};
 
 /// What follows an action: mostly the packet that it sent goes on.
@@ -47,33 +47,40 @@ pub(crate) struct LastHanded {
     pub(crate) id: u32,
 }
 
-/// A cluster that is stepped along, so that what is done next aims at where it stands.
+/// What is known of a cluster beside what its agents know, so that what is done next aims at where it stands.
 #[derive(Drop)]
 pub(crate) struct Player {
     pub(crate) dice: Dice,
     pub(crate) kind: Kind,
-    pub(crate) world: World,
     /// How many agents the cluster has.
-    pub(crate) agents: u64,
+    agents: u64,
+    /// How many packets were sent.
+    sent: u64,
     /// The present moment, in nanoseconds.
     pub(crate) now: u64,
     pub(crate) next: Option<Next>,
     /// The first packet that was not given to all agents, and how many got it.
-    pub(crate) passed: (u64, u64),
+    passed: (u64, u64),
     pub(crate) query: LastQuery,
     pub(crate) last_handed: LastHanded,
     /// How many queries were handed to some agent in its life, at most.
     pub(crate) handed: u64,
-    // memory hasn't run out
-    ghost unpoisoned: { world.poisoned ≡ false },
 }
 
 /// The seed of a player's numbers: other ones than those of the settings.
 const SALT: u64 = 0x5eed;
 
+/// An agent merges a packet.
+fn merge_of(agent: u64, packet: u64, join: bool) -> Action {
+    Action::Of {
+        agent,
+        act: Act::Merge { packet, join },
+    }
+}
+
 impl Player {
-    pub(crate) fn new(alloc: Global, ask: &Ask, roster: Roster) -> Result<Player, AllocError> {
-        let agents = roster.as_slice().len() as u64;
+    /// What is known before the first action in a cluster of so many agents.
+    pub(crate) fn new(ask: &Ask, agents: u64) -> Player {
         let query = LastQuery {
             agent: 0,
             time: 1,
@@ -86,62 +93,36 @@ impl Player {
             time: 1,
             id: 0,
         };
-        Ok(Player {
+        Player {
             dice: Dice::new(ask.seed ^ SALT),
             kind: ask.kind,
-            world: World::new(alloc, roster)?,
             agents,
+            sent: 0,
             now: 0,
             next: None,
             passed: (0, 0),
             query,
             last_handed,
             handed: 0,
-        })
-    }
-
-    /// The player that has done the next action, and that action. Where memory runs out, the player is let go.
-    pub(crate) fn play(self, alloc: Global) -> Result<(Player, Action), AllocError> {
-        let mut player = self;
-        let action = player.choose(alloc)?;
-        let line = match player.world.step(alloc, &action) {
-            Ok(line) => line,
-            Err(StepFault::OutOfMemory) => return Err(AllocError),
-            Err(StepFault::Poisoned) => unreachable!(),
-        };
-        player.note(&action, &line);
-        Ok((player, action))
-    }
-
-    fn choose(&mut self, alloc: Global) -> Result<Action, AllocError> {
-        match self.next {
-            Some(next) => {
-                self.next = None;
-                Ok(self.follow(next))
-            }
-            None => {
-                let verb = self.dice.pick(verbs(self.kind), Verb::Fire);
-                self.act(alloc, verb)
-            }
         }
     }
 
     fn follow(&mut self, next: Next) -> Action {
-        let packet = (self.world.sent().len() as u64).saturating_sub(1);
+        let packet = self.sent.saturating_sub(1);
         match next {
-            Next::Deliver { to } => Action::Of {
-                agent: to,
-                act: Act::Deliver {
-                    packet,
-                    now: self.moment(),
-                },
-            },
-            Next::Merge { to, join } => Action::Of {
-                agent: to,
-                act: Act::Merge { packet, join },
-            },
+            Next::Deliver { to } => self.deliver(to, packet),
+            Next::Merge { to, join } => merge_of(to, packet, join),
             Next::Again { to, more } => self.again(to, more),
             Next::Join { to } => self.join(to),
+        }
+    }
+
+    /// An agent gets a packet.
+    fn deliver(&mut self, agent: u64, packet: u64) -> Action {
+        let now = self.moment();
+        Action::Of {
+            agent,
+            act: Act::Deliver { packet, now },
         }
     }
 
@@ -162,55 +143,52 @@ impl Player {
                 more: more.saturating_sub(1),
             });
         }
-        Action::Of {
-            agent: to,
-            act: Act::Deliver {
-                packet: self.older(),
-                now: self.moment(),
-            },
-        }
+        let packet = self.older();
+        self.deliver(to, packet)
     }
 
-    fn act(&mut self, alloc: Global, verb: Verb) -> Result<Action, AllocError> {
+    fn act(&mut self, alloc: Global, world: &World, verb: Verb) -> Result<Action, AllocError> {
         match verb {
             Verb::Pass => Ok(self.pass()),
             Verb::Repeat => Ok(self.repeat()),
             Verb::Merge => Ok(self.merge()),
             Verb::Exchange => Ok(self.exchange()),
             Verb::Event | Verb::Query | Verb::Answer | Verb::State | Verb::Spoil => {
-                self.next = Some(self.next_of(verb));
-                let bytes = stranger(alloc, self, verb)?;
+                let tracks = self.aim(world, verb);
+                let bytes = stranger(alloc, self, &tracks, world.sent(), verb)?;
                 Ok(Action::Inject { bytes })
             }
             Verb::Spelled => {
                 let kinds = [Verb::Event, Verb::Query, Verb::Answer, Verb::State];
                 let verb = self.dice.pick(&kinds, Verb::Event);
-                self.next = Some(self.next_of(verb));
-                let bytes = spelled(alloc, self, verb)?;
+                let tracks = self.aim(world, verb);
+                let bytes = spelled(alloc, self, &tracks, verb)?;
                 Ok(Action::Inject { bytes })
             }
             Verb::Foreign => {
-                self.next = Some(self.next_of(verb));
-                let bytes = foreign(alloc, self)?;
+                self.aim(world, verb);
+                let bytes = foreign(alloc, &mut self.dice)?;
                 Ok(Action::Inject { bytes })
             }
-            other => own::act(alloc, self, other),
+            other => own::act(alloc, self, world, other),
         }
     }
 
-    /// Who gets a stranger's packet.
-    fn next_of(&mut self, verb: Verb) -> Next {
+    /// An agent gets a stranger's packet next. Gives its tracks.
+    fn aim(&mut self, world: &World, verb: Verb) -> Tracks {
         let to = match verb {
             Verb::Answer => self.query.agent,
             _ => self.agent(),
         };
-        match verb {
+        let next = match verb {
             Verb::State => Next::Merge {
                 to,
                 join: self.dice.one_in(2),
             },
             _ => Next::Deliver { to },
-        }
+        };
+        self.next = Some(next);
+        tracks_of(world, to)
     }
 
     /// The number of an agent, now and then of none.
@@ -233,6 +211,19 @@ impl Player {
         }
     }
 
+    /// A time at an edge of a track, now and then one near the greatest time.
+    pub(crate) fn edge(&mut self, track: &Track) -> u64 {
+        let is_great = match self.kind {
+            Kind::Exhaustion => !self.dice.one_in(3),
+            _ => self.dice.one_in(60),
+        };
+        if is_great {
+            great_time(&mut self.dice)
+        } else {
+            edge_of_track(&mut self.dice, track)
+        }
+    }
+
     /// The next packet goes to the next agent. In a gossip one in four is lost.
     fn pass(&mut self) -> Action {
         let (packet, got) = self.passed;
@@ -241,8 +232,7 @@ impl Player {
         } else {
             got
         };
-        let sent = self.world.sent().len() as u64;
-        if packet >= sent {
+        if packet >= self.sent {
             return self.repeat();
         }
         if got >= self.agents {
@@ -250,52 +240,38 @@ impl Player {
             return self.repeat();
         }
         self.passed = (packet, got.saturating_add(1));
-        Action::Of {
-            agent: got,
-            act: Act::Deliver {
-                packet,
-                now: self.moment(),
-            },
-        }
+        self.deliver(got, packet)
     }
 
     /// One of the last packets, now and then none.
     fn recent(&mut self) -> u64 {
-        let sent = self.world.sent().len() as u64;
         if self.dice.one_in(100) {
-            return sent;
+            return self.sent;
         }
         let back = self.dice.pick(&[2, 4, 8, 40], 8);
-        sent.saturating_sub(1).saturating_sub(self.dice.below(back))
+        self.sent
+            .saturating_sub(1)
+            .saturating_sub(self.dice.below(back))
     }
 
     /// One of the last packets, now and then one of all that were sent.
     pub(crate) fn older(&mut self) -> u64 {
         if self.dice.one_in(6) {
-            let sent = self.world.sent().len() as u64;
-            return self.dice.below(sent);
+            return self.dice.below(self.sent);
         }
         self.recent()
     }
 
     fn repeat(&mut self) -> Action {
-        Action::Of {
-            agent: self.agent(),
-            act: Act::Deliver {
-                packet: self.recent(),
-                now: self.moment(),
-            },
-        }
+        let agent = self.agent();
+        let packet = self.recent();
+        self.deliver(agent, packet)
     }
 
     fn merge(&mut self) -> Action {
-        Action::Of {
-            agent: self.agent(),
-            act: Act::Merge {
-                packet: self.recent(),
-                join: self.dice.one_in(3),
-            },
-        }
+        let agent = self.agent();
+        let packet = self.recent();
+        merge_of(agent, packet, self.dice.one_in(3))
     }
 
     /// A push/pull. Where packets go round, only one time in four: gossip is far more frequent there.
@@ -312,9 +288,26 @@ impl Player {
             act: Act::State,
         }
     }
+}
 
-    /// Notes what an action came to.
-    fn note(&mut self, action: &Action, line: &Line) {
+impl Course for Player {
+    /// The next action: there is always one.
+    fn next_action(&mut self, alloc: Global, world: &World) -> Result<Option<Action>, AllocError> {
+        self.sent = world.sent().len() as u64;
+        let action = match self.next {
+            Some(next) => {
+                self.next = None;
+                self.follow(next)
+            }
+            None => {
+                let verb = self.dice.pick(verbs(self.kind), Verb::Fire);
+                self.act(alloc, world, verb)?
+            }
+        };
+        Ok(Some(action))
+    }
+
+    fn note(&mut self, action: &Action, line: &Line) -> Result<(), AllocError> {
         own::note_query(self, action, line);
         if let Some(handed) = &line.handed {
             let handed = handed.get();
@@ -326,5 +319,6 @@ impl Player {
                 id: handed.id,
             };
         }
+        Ok(())
     }
 }

@@ -2,8 +2,9 @@
 
 ghost use Rattle.std.specs.Prelude.{◌≡◌, ◌+◌, ◌≤◌, false, IfOk, OnOk, length};
 
+use crate::stepping::stepped;
 use serf_model::{Action, is_common_turn};
-use serf_world::{Roster, StepFault, World};
+use serf_world::{Roster, World};
 use std::alloc::{AllocError, Global};
 
 /// How often actions are left out, at most: what is left runs otherwise, so that other turns may rest on a rule of our
@@ -21,11 +22,7 @@ fn keep_common(
     ensures few { OnOk result (length kept.new.items ≤ length kept.old.items + 1) }
     ensures unpoisoned { OnOk result (world.new.poisoned ≡ false) }
 {
-    let line = match world.step(alloc, &action) {
-        Ok(line) => line,
-        Err(StepFault::OutOfMemory) => return Err(AllocError),
-        Err(StepFault::Poisoned) => unreachable!(),
-    };
+    let line = stepped(alloc, world, &action)?;
     if is_common_turn(&action, &line) {
         kept.push(action)?;
     }

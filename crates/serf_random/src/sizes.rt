@@ -1,11 +1,12 @@
 //! Texts that make a packet as long as its limit.
 
 use crate::dice::Dice;
-use crate::player::Player;
+use crate::player::LastHanded;
 use crate::times::near;
 use serf_agent::{DEFAULT_QUERY_LIMIT, DEFAULT_RESPONSE_LIMIT, QueryParams};
 use serf_lamport::Time;
 use serf_wire::{Query, QueryResponse, UserEvent, query_len, response_len, user_event_len};
+use serf_world::World;
 use std::alloc::{AllocError, Global};
 
 /// A text with which a packet, of so many bytes where the text is empty, has as many as its limit, one less or one more.
@@ -24,11 +25,12 @@ fn filling(alloc: Global, dice: &mut Dice, empty: u128, limit: u64) -> Result<Ve
 /// A payload that fills the packet of an event that an agent fires.
 pub(crate) fn event_filling(
     alloc: Global,
-    player: &mut Player,
+    dice: &mut Dice,
+    world: &World,
     agent: u64,
     name: &[u8],
 ) -> Result<Vec<u8>, AllocError> {
-    let (time, limit) = match player.world.agent(agent) {
+    let (time, limit) = match world.agent(agent) {
         Some(one) => (one.event_time(), one.config().event_limit),
         None => (1, 0),
     };
@@ -41,20 +43,21 @@ pub(crate) fn event_filling(
         }),
         None => 0,
     };
-    filling(alloc, &mut player.dice, empty, limit)
+    filling(alloc, dice, empty, limit)
 }
 
 /// A payload that fills the packet of a query that an agent fires.
 pub(crate) fn query_filling(
     alloc: Global,
-    player: &mut Player,
+    dice: &mut Dice,
+    world: &World,
     agent: u64,
     id: u32,
     name: &[u8],
     params: &QueryParams,
 ) -> Result<Vec<u8>, AllocError> {
-    let Some(one) = player.world.agent(agent) else {
-        return filling(alloc, &mut player.dice, 0, DEFAULT_QUERY_LIMIT);
+    let Some(one) = world.agent(agent) else {
+        return filling(alloc, dice, 0, DEFAULT_QUERY_LIMIT);
     };
     let limit = one.config().query_limit;
     let empty = match Time::new(one.query_time()) {
@@ -73,14 +76,18 @@ pub(crate) fn query_filling(
         }),
         None => 0,
     };
-    filling(alloc, &mut player.dice, empty, limit)
+    filling(alloc, dice, empty, limit)
 }
 
 /// A payload that fills the packet of the response to the query that was handed out last.
-pub(crate) fn response_filling(alloc: Global, player: &mut Player) -> Result<Vec<u8>, AllocError> {
-    let last = player.last_handed;
-    let Some(one) = player.world.agent(last.agent) else {
-        return filling(alloc, &mut player.dice, 0, DEFAULT_RESPONSE_LIMIT);
+pub(crate) fn response_filling(
+    alloc: Global,
+    dice: &mut Dice,
+    world: &World,
+    last: &LastHanded,
+) -> Result<Vec<u8>, AllocError> {
+    let Some(one) = world.agent(last.agent) else {
+        return filling(alloc, dice, 0, DEFAULT_RESPONSE_LIMIT);
     };
     let limit = one.config().response_limit;
     let empty = response_len(&QueryResponse {
@@ -90,5 +97,5 @@ pub(crate) fn response_filling(alloc: Global, player: &mut Player) -> Result<Vec
         flags: 0,
         payload: b"",
     });
-    filling(alloc, &mut player.dice, empty, limit)
+    filling(alloc, dice, empty, limit)
 }

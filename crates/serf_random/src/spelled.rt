@@ -1,11 +1,13 @@
 //! Strangers' packets in any spelling that the grammar takes, and just beyond it.
 
+use crate::dice::Dice;
 use crate::filters::filters;
 use crate::pen::Pen;
 use crate::player::Player;
 use crate::pools::{letter, name, payload};
-use crate::strangers::{answer_names, event_time, query_time};
+use crate::strangers::answer_names;
 use crate::times::near;
+use crate::tracks::Tracks;
 use crate::verb::Verb;
 use serf_wire::Bytes;
 use std::alloc::{AllocError, Global};
@@ -149,8 +151,13 @@ impl Fields for TextFields<'_> {
     }
 }
 
-/// The packet of a stranger, in any spelling.
-pub(crate) fn spelled(alloc: Global, player: &mut Player, verb: Verb) -> Result<Bytes, AllocError> {
+/// The packet of a stranger to an agent of these tracks, in any spelling.
+pub(crate) fn spelled(
+    alloc: Global,
+    player: &mut Player,
+    tracks: &Tracks,
+    verb: Verb,
+) -> Result<Bytes, AllocError> {
     let seed = player.dice.roll();
     let kind = match verb {
         Verb::State => 2,
@@ -164,26 +171,24 @@ pub(crate) fn spelled(alloc: Global, player: &mut Player, verb: Verb) -> Result<
     } else {
         None
     };
-    let pen = Pen::new(alloc, seed, kind, faulty)?;
-    let pen = match verb {
-        Verb::State => state(alloc, player, pen)?,
-        Verb::Query => query(alloc, player, pen)?,
-        Verb::Answer => answer(alloc, player, pen)?,
-        _ => event(alloc, player, pen)?,
-    };
+    let mut pen = Pen::new(alloc, seed, kind, faulty)?;
+    match verb {
+        Verb::State => put_state(alloc, player, tracks, &mut pen)?,
+        Verb::Query => put_query(alloc, player, tracks, &mut pen)?,
+        Verb::Answer => put_answer(alloc, player, &mut pen)?,
+        _ => put_event(alloc, player, tracks, &mut pen)?,
+    }
     Ok(Bytes::from_vec(pen.finish()?))
 }
 
 /// A packet of Serf's other messages, of no type that there is, or of a type alone, with some bytes after it.
-pub(crate) fn foreign(alloc: Global, player: &mut Player) -> Result<Bytes, AllocError> {
-    let kind = player
-        .dice
-        .pick(&[0, 1, 6, 7, 8, 9, 2, 3, 4, 5, 10, 127, 128, 255], 0);
+pub(crate) fn foreign(alloc: Global, dice: &mut Dice) -> Result<Bytes, AllocError> {
+    let kind = dice.pick(&[0, 1, 6, 7, 8, 9, 2, 3, 4, 5, 10, 127, 128, 255], 0);
     let mut packet = Vec::from_slice(alloc, &[kind])?;
-    for _byte in 0..player.dice.below(4) {
-        packet.push(player.dice.below(256) as u8)?;
+    for _byte in 0..dice.below(4) {
+        packet.push(dice.below(256) as u8)?;
     }
-    if player.dice.one_in(20) {
+    if dice.one_in(20) {
         packet.truncate(0);
     }
     Ok(Bytes::from_vec(packet))
@@ -212,35 +217,39 @@ fn put_fields<F: Fields>(
 /// A payload with which the texts have as many bytes as an event may have, one less or one more.
 pub(crate) fn full_payload(
     alloc: Global,
-    player: &mut Player,
+    dice: &mut Dice,
     name: &[u8],
 ) -> Result<Vec<u8>, AllocError> {
     let room = MAX_EVENT.saturating_sub(name.len() as u64);
     let mut text = Vec::new(alloc);
-    text.resize(near(&mut player.dice, room) as usize, b'x')?;
+    text.resize(near(dice, room) as usize, b'x')?;
     Ok(text)
 }
 
 /// A payload; one time in six it is full.
-fn event_payload(alloc: Global, player: &mut Player, name: &[u8]) -> Result<Vec<u8>, AllocError> {
-    if !player.dice.one_in(6) {
-        return payload(alloc, &mut player.dice);
+fn event_payload(alloc: Global, dice: &mut Dice, name: &[u8]) -> Result<Vec<u8>, AllocError> {
+    if dice.one_in(6) {
+        full_payload(alloc, dice, name)
+    } else {
+        payload(alloc, dice)
     }
-    full_payload(alloc, player, name)
 }
 
-fn event(alloc: Global, player: &mut Player, pen: Pen) -> Result<Pen, AllocError> {
-    let mut pen = pen;
+fn put_event(
+    alloc: Global,
+    player: &mut Player,
+    tracks: &Tracks,
+    pen: &mut Pen,
+) -> Result<(), AllocError> {
     let name = name(alloc, &mut player.dice)?;
-    let payload = event_payload(alloc, player, &name)?;
+    let payload = event_payload(alloc, &mut player.dice, &name)?;
     let event = EventFields {
-        time: event_time(player),
+        time: player.edge(&tracks.events),
         name: &name,
         payload: &payload,
         coalesce: player.dice.one_in(2),
     };
-    put_fields(alloc, &mut pen, &event, 1)?;
-    Ok(pen)
+    put_fields(alloc, pen, &event, 1)
 }
 
 /// Timeouts at the ends of the forms that numbers with a sign have.
@@ -258,13 +267,17 @@ const TIMEOUTS: [i64; 11] = [
     i64::MAX,
 ];
 
-fn query(alloc: Global, player: &mut Player, pen: Pen) -> Result<Pen, AllocError> {
-    let mut pen = pen;
+fn put_query(
+    alloc: Global,
+    player: &mut Player,
+    tracks: &Tracks,
+    pen: &mut Pen,
+) -> Result<(), AllocError> {
     let name = name(alloc, &mut player.dice)?;
     let payload = payload(alloc, &mut player.dice)?;
-    let filters = filters(alloc, player)?;
+    let filters = filters(alloc, &mut player.dice, player.kind)?;
     let query = QueryFields {
-        time: query_time(player),
+        time: player.edge(&tracks.queries),
         id: player
             .dice
             .pick(&[0, 1, 2, 7, 0xffff_ffff, 0x1_0000_0000], 0),
@@ -276,12 +289,10 @@ fn query(alloc: Global, player: &mut Player, pen: Pen) -> Result<Pen, AllocError
         payload: &payload,
         filters: filters.as_slice(),
     };
-    put_fields(alloc, &mut pen, &query, 1)?;
-    Ok(pen)
+    put_fields(alloc, pen, &query, 1)
 }
 
-fn answer(alloc: Global, player: &mut Player, pen: Pen) -> Result<Pen, AllocError> {
-    let mut pen = pen;
+fn put_answer(alloc: Global, player: &mut Player, pen: &mut Pen) -> Result<(), AllocError> {
     let (named, id) = answer_names(player);
     let time = player.dice.pick(&[named, named, named, named, named, named, u64::MAX], named);
     let from = [letter(&mut player.dice)];
@@ -293,37 +304,37 @@ fn answer(alloc: Global, player: &mut Player, pen: Pen) -> Result<Pen, AllocErro
         flags: player.dice.pick(&[0, 0, 1, 1, 2, 3, 0xffff_ffff], 0),
         payload: &payload,
     };
-    put_fields(alloc, &mut pen, &answer, 1)?;
-    Ok(pen)
+    put_fields(alloc, pen, &answer, 1)
 }
 
-/// An event of a slot.
-fn put_event(alloc: Global, player: &mut Player, pen: &mut Pen) -> Result<(), AllocError> {
-    let name = [letter(&mut player.dice)];
-    put_fields(alloc, pen, &TextFields { name: &name }, 5)
-}
-
-fn put_events(alloc: Global, player: &mut Player, pen: &mut Pen) -> Result<(), AllocError> {
-    let count = player.dice.below(3);
+/// The events of a slot.
+fn put_events(alloc: Global, dice: &mut Dice, pen: &mut Pen) -> Result<(), AllocError> {
+    let count = dice.below(3);
     pen.put_items(count as u32)?;
     for _event in 0..count {
-        put_event(alloc, player, pen)?;
+        let name = [letter(dice)];
+        put_fields(alloc, pen, &TextFields { name: &name }, 5)?;
     }
     Ok(())
 }
 
-fn put_slot(alloc: Global, player: &mut Player, pen: &mut Pen) -> Result<(), AllocError> {
+fn put_slot(
+    alloc: Global,
+    player: &mut Player,
+    tracks: &Tracks,
+    pen: &mut Pen,
+) -> Result<(), AllocError> {
     let order = pen.order(alloc, 2)?;
     pen.put_pairs(order.len().min(255) as u32)?;
     for at in &order {
         match *at {
             0 => {
                 pen.put_key(b"LTime")?;
-                pen.put_number(event_time(player))?;
+                pen.put_number(player.edge(&tracks.events))?;
             }
             1 => {
                 pen.put_key(b"Events")?;
-                put_events(alloc, player, pen)?;
+                put_events(alloc, &mut player.dice, pen)?;
             }
             _ => pen.put_unknown(3)?,
         }
@@ -332,36 +343,41 @@ fn put_slot(alloc: Global, player: &mut Player, pen: &mut Pen) -> Result<(), All
 }
 
 /// A state's slots, of which some are empty.
-fn put_slots(alloc: Global, player: &mut Player, pen: &mut Pen) -> Result<(), AllocError> {
+fn put_slots(
+    alloc: Global,
+    player: &mut Player,
+    tracks: &Tracks,
+    pen: &mut Pen,
+) -> Result<(), AllocError> {
     let count = player.dice.below(4);
     pen.put_items(count as u32)?;
     for _slot in 0..count {
         if player.dice.one_in(6) {
             pen.put_empty()?;
         } else {
-            put_slot(alloc, player, pen)?;
+            put_slot(alloc, player, tracks, pen)?;
         }
     }
     Ok(())
 }
 
 /// The status times of some nodes, of which 0 may stand as nil.
-fn put_statuses(player: &mut Player, pen: &mut Pen) -> Result<(), AllocError> {
-    let count = player.dice.below(4);
+fn put_statuses(dice: &mut Dice, pen: &mut Pen) -> Result<(), AllocError> {
+    let count = dice.below(4);
     pen.put_pairs(count as u32)?;
     for _node in 0..count {
-        pen.put_key(&[letter(&mut player.dice)])?;
-        pen.put_number(player.dice.pick(&[0, 0, 1, 300, u64::MAX], 0))?;
+        pen.put_key(&[letter(dice)])?;
+        pen.put_number(dice.pick(&[0, 0, 1, 300, u64::MAX], 0))?;
     }
     Ok(())
 }
 
 /// Nodes that left.
-fn put_left(player: &mut Player, pen: &mut Pen) -> Result<(), AllocError> {
-    let count = player.dice.below(3);
+fn put_left(dice: &mut Dice, pen: &mut Pen) -> Result<(), AllocError> {
+    let count = dice.below(3);
     pen.put_items(count as u32)?;
     for _node in 0..count {
-        let node: &[u8] = player.dice.pick(&[b"a".as_slice(), b"", b"node"], b"");
+        let node: &[u8] = dice.pick(&[b"a".as_slice(), b"", b"node"], b"");
         pen.put_text(node)?;
     }
     Ok(())
@@ -371,6 +387,7 @@ fn put_left(player: &mut Player, pen: &mut Pen) -> Result<(), AllocError> {
 fn put_state_field(
     alloc: Global,
     player: &mut Player,
+    tracks: &Tracks,
     pen: &mut Pen,
     at: u64,
 ) -> Result<(), AllocError> {
@@ -381,34 +398,38 @@ fn put_state_field(
         }
         1 => {
             pen.put_key(b"StatusLTimes")?;
-            put_statuses(player, pen)
+            put_statuses(&mut player.dice, pen)
         }
         2 => {
             pen.put_key(b"LeftMembers")?;
-            put_left(player, pen)
+            put_left(&mut player.dice, pen)
         }
         3 => {
             pen.put_key(b"EventLTime")?;
-            pen.put_number(event_time(player))
+            pen.put_number(player.edge(&tracks.events))
         }
         4 => {
             pen.put_key(b"Events")?;
-            put_slots(alloc, player, pen)
+            put_slots(alloc, player, tracks, pen)
         }
         5 => {
             pen.put_key(b"QueryLTime")?;
-            pen.put_number(query_time(player))
+            pen.put_number(player.edge(&tracks.queries))
         }
         _ => pen.put_unknown(1),
     }
 }
 
-fn state(alloc: Global, player: &mut Player, pen: Pen) -> Result<Pen, AllocError> {
-    let mut pen = pen;
+fn put_state(
+    alloc: Global,
+    player: &mut Player,
+    tracks: &Tracks,
+    pen: &mut Pen,
+) -> Result<(), AllocError> {
     let order = pen.order(alloc, 6)?;
     pen.put_pairs(order.len().min(255) as u32)?;
     for at in &order {
-        put_state_field(alloc, player, &mut pen, *at)?;
+        put_state_field(alloc, player, tracks, pen, *at)?;
     }
-    Ok(pen)
+    Ok(())
 }

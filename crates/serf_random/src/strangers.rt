@@ -5,94 +5,34 @@ use crate::kind::Kind;
 use crate::packets::{
     StrangeQuery, StrangeSlot, answer_packet, event_packet, query_packet, spoiled, state_packet,
 };
-use crate::player::{Next, Player};
+use crate::player::Player;
 use crate::pools::{letter, long_text, name, payload};
-use crate::times::{edge_of_track, great_time, near};
+use crate::times::near;
+use crate::tracks::Tracks;
 use crate::verb::Verb;
 use serf_wire::Bytes;
 use std::alloc::{AllocError, Global};
 
-/// The packet of a stranger.
+/// The packet of a stranger to an agent of these tracks.
 pub(crate) fn stranger(
     alloc: Global,
     player: &mut Player,
+    tracks: &Tracks,
+    sent: &[Bytes],
     verb: Verb,
 ) -> Result<Bytes, AllocError> {
     let packet = match verb {
-        Verb::Query => query(alloc, player)?,
+        Verb::Query => query(alloc, player, tracks)?,
         Verb::Answer => answer(alloc, player)?,
-        Verb::State => state(alloc, player)?,
-        Verb::Spoil => spoil(alloc, player)?,
-        _ => event(alloc, player)?,
+        Verb::State => state(alloc, player, tracks)?,
+        Verb::Spoil => spoil(alloc, player, tracks, sent)?,
+        _ => event(alloc, player, tracks)?,
     };
     Ok(Bytes::from_vec(packet))
 }
 
-/// The agent that gets the packet.
-fn target(player: &Player) -> u64 {
-    match player.next {
-        Some(Next::Deliver { to }) => to,
-        Some(Next::Merge { to, .. }) => to,
-        Some(Next::Again { to, .. }) => to,
-        Some(Next::Join { to }) => to,
-        None => 0,
-    }
-}
-
-/// Whether a time is to be near the greatest one.
-fn is_great(player: &mut Player) -> bool {
-    match player.kind {
-        Kind::Exhaustion => !player.dice.one_in(3),
-        _ => player.dice.one_in(60),
-    }
-}
-
-/// A time at an edge of the target's event window.
-pub(crate) fn event_time(player: &mut Player) -> u64 {
-    let agent = target(player);
-    event_time_of(player, agent)
-}
-
-/// A time at an edge of an agent's event window.
-pub(crate) fn event_time_of(player: &mut Player, agent: u64) -> u64 {
-    if is_great(player) {
-        return great_time(&mut player.dice);
-    }
-    let (clock, slots, minimum) = match player.world.agent(agent) {
-        Some(one) => (
-            one.event_time(),
-            one.config().event_buffer,
-            one.event_minimum(),
-        ),
-        None => (1, 1, 0),
-    };
-    edge_of_track(&mut player.dice, clock, slots, minimum)
-}
-
-/// A time at an edge of the target's query window.
-pub(crate) fn query_time(player: &mut Player) -> u64 {
-    let agent = target(player);
-    query_time_of(player, agent)
-}
-
-/// A time at an edge of an agent's query window.
-pub(crate) fn query_time_of(player: &mut Player, agent: u64) -> u64 {
-    if is_great(player) {
-        return great_time(&mut player.dice);
-    }
-    let (clock, slots, minimum) = match player.world.agent(agent) {
-        Some(one) => (
-            one.query_time(),
-            one.config().query_buffer,
-            one.query_minimum(),
-        ),
-        None => (1, 1, 0),
-    };
-    edge_of_track(&mut player.dice, clock, slots, minimum)
-}
-
-fn event(alloc: Global, player: &mut Player) -> Result<Vec<u8>, AllocError> {
-    let time = event_time(player);
+fn event(alloc: Global, player: &mut Player, tracks: &Tracks) -> Result<Vec<u8>, AllocError> {
+    let time = player.edge(&tracks.events);
     let name = name(alloc, &mut player.dice)?;
     let payload = if player.kind == Kind::Limits || player.dice.one_in(60) {
         long_text(alloc, &mut player.dice, 9_216)?
@@ -103,10 +43,10 @@ fn event(alloc: Global, player: &mut Player) -> Result<Vec<u8>, AllocError> {
     event_packet(alloc, time, &name, &payload, coalesce)
 }
 
-fn query(alloc: Global, player: &mut Player) -> Result<Vec<u8>, AllocError> {
-    let time = query_time(player);
+fn query(alloc: Global, player: &mut Player, tracks: &Tracks) -> Result<Vec<u8>, AllocError> {
+    let time = player.edge(&tracks.queries);
     let name = name(alloc, &mut player.dice)?;
-    let filters = filters(alloc, player)?;
+    let filters = filters(alloc, &mut player.dice, player.kind)?;
     let query = StrangeQuery {
         time,
         id: player
@@ -146,11 +86,15 @@ fn answer(alloc: Global, player: &mut Player) -> Result<Vec<u8>, AllocError> {
     answer_packet(alloc, time, id, &from, flags, &payload)
 }
 
-fn slots(alloc: Global, player: &mut Player) -> Result<Vec<StrangeSlot>, AllocError> {
+fn slots(
+    alloc: Global,
+    player: &mut Player,
+    tracks: &Tracks,
+) -> Result<Vec<StrangeSlot>, AllocError> {
     let mut slots = Vec::new(alloc);
     for _slot in 0..player.dice.below(5) {
         let slot = StrangeSlot {
-            time: event_time(player),
+            time: player.edge(&tracks.events),
             events: player.dice.below(4),
         };
         slots.push(slot)?;
@@ -158,20 +102,28 @@ fn slots(alloc: Global, player: &mut Player) -> Result<Vec<StrangeSlot>, AllocEr
     Ok(slots)
 }
 
-fn state(alloc: Global, player: &mut Player) -> Result<Vec<u8>, AllocError> {
-    let slots = slots(alloc, player)?;
+fn state(alloc: Global, player: &mut Player, tracks: &Tracks) -> Result<Vec<u8>, AllocError> {
+    let slots = slots(alloc, player, tracks)?;
     let member = player.dice.below(20);
-    let clocks = (member, event_time(player), query_time(player));
+    let clocks = (
+        member,
+        player.edge(&tracks.events),
+        player.edge(&tracks.queries),
+    );
     state_packet(alloc, &mut player.dice, clocks, &slots)
 }
 
 /// One of the last packets, or a stranger's event, with a byte more, less or other.
-fn spoil(alloc: Global, player: &mut Player) -> Result<Vec<u8>, AllocError> {
-    let sent = player.world.sent().len() as u64;
-    let at = sent.saturating_sub(player.dice.below(8)) as usize;
-    let packet = match player.world.sent().get(at) {
+fn spoil(
+    alloc: Global,
+    player: &mut Player,
+    tracks: &Tracks,
+    sent: &[Bytes],
+) -> Result<Vec<u8>, AllocError> {
+    let at = (sent.len() as u64).saturating_sub(player.dice.below(8));
+    let packet = match sent.get(at as usize) {
         Some(packet) => Vec::from_slice(alloc, packet.as_slice())?,
-        None => event(alloc, player)?,
+        None => event(alloc, player, tracks)?,
     };
     spoiled(alloc, &mut player.dice, &packet)
 }

@@ -1,14 +1,16 @@
 //! What follows a snapshot's text where agents keep their events: lines as these write them, of what was sent and of
 //! other events, whole and torn.
 
+use crate::dice::Dice;
 use crate::player::Player;
 use crate::pools::{name, payload, tail};
 use crate::spelled::full_payload;
-use crate::strangers::{event_time_of, query_time_of};
+use crate::tracks::{Tracks, tracks_of};
 use serf_lamport::Time;
 use serf_snap::{ClockKind, put_event_line, put_kept_clock_line, put_least_line, put_query_line};
 use serf_text::put_number;
-use serf_wire::{Message, decode, decode_user_event};
+use serf_wire::{Bytes, Message, decode, decode_user_event};
+use serf_world::World;
 use std::alloc::{AllocError, Global};
 
 /// How many packets are looked at for an event, or for a query, at most.
@@ -115,50 +117,49 @@ const ODD_LINES: [OddLine; 22] = [
 
 /// What an agent that keeps its events writes as it takes an event: now and then without the clock line in front.
 fn put_event(
-    player: &mut Player,
+    dice: &mut Dice,
     text: &mut Vec<u8>,
     time: Time,
     name: &[u8],
     payload: &[u8],
 ) -> Result<(), AllocError> {
-    if player.dice.one_in(2) {
+    if dice.one_in(2) {
         put_kept_clock_line(text, ClockKind::Event, time.get())?;
     }
     put_event_line(text, time, name, payload)
 }
 
 /// And as it takes a query.
-fn put_query(
-    player: &mut Player,
-    text: &mut Vec<u8>,
-    time: Time,
-    id: u32,
-) -> Result<(), AllocError> {
-    if player.dice.one_in(2) {
+fn put_query(dice: &mut Dice, text: &mut Vec<u8>, time: Time, id: u32) -> Result<(), AllocError> {
+    if dice.one_in(2) {
         put_kept_clock_line(text, ClockKind::Query, time.get())?;
     }
     put_query_line(text, time, id)
 }
 
-/// A copy of one of the packets that were sent; of none now and then, and where none was sent.
-fn copy_of_sent(alloc: Global, player: &mut Player) -> Result<Vec<u8>, AllocError> {
-    let at = player.older();
-    match player.world.sent().get(at as usize) {
-        Some(packet) => Vec::from_slice(alloc, packet.as_slice()),
-        None => Ok(Vec::new(alloc)),
+/// One of the packets that were sent; none now and then, and where none was sent.
+fn packet_of<'a>(player: &mut Player, sent: &'a [Bytes]) -> &'a [u8] {
+    match sent.get(player.older() as usize) {
+        Some(packet) => packet.as_slice(),
+        None => b"",
     }
 }
 
 /// The line of an event that was sent, if one is found.
 fn put_sent_event(
-    alloc: Global,
     player: &mut Player,
+    sent: &[Bytes],
     text: &mut Vec<u8>,
 ) -> Result<(), AllocError> {
     for _look in 0..LOOKS {
-        let packet = copy_of_sent(alloc, player)?;
-        if let Some(event) = decode_user_event(&packet) {
-            return put_event(player, text, event.time, event.name, event.payload);
+        if let Some(event) = decode_user_event(packet_of(player, sent)) {
+            return put_event(
+                &mut player.dice,
+                text,
+                event.time,
+                event.name,
+                event.payload,
+            );
         }
     }
     Ok(())
@@ -174,14 +175,13 @@ fn query_in(packet: &[u8]) -> Option<(Time, u32)> {
 
 /// The line of a query that was sent, if one is found.
 fn put_sent_query(
-    alloc: Global,
     player: &mut Player,
+    sent: &[Bytes],
     text: &mut Vec<u8>,
 ) -> Result<(), AllocError> {
     for _look in 0..LOOKS {
-        let packet = copy_of_sent(alloc, player)?;
-        if let Some((time, id)) = query_in(&packet) {
-            return put_query(player, text, time, id);
+        if let Some((time, id)) = query_in(packet_of(player, sent)) {
+            return put_query(&mut player.dice, text, time, id);
         }
     }
     Ok(())
@@ -191,38 +191,42 @@ fn put_sent_query(
 fn put_near_event(
     alloc: Global,
     player: &mut Player,
-    agent: u64,
+    tracks: &Tracks,
     text: &mut Vec<u8>,
 ) -> Result<(), AllocError> {
-    let Some(time) = Time::new(event_time_of(player, agent)) else {
+    let Some(time) = Time::new(player.edge(&tracks.events)) else {
         return Ok(());
     };
     let name = name(alloc, &mut player.dice)?;
     let payload = if player.dice.one_in(30) {
-        full_payload(alloc, player, &name)?
+        full_payload(alloc, &mut player.dice, &name)?
     } else {
         payload(alloc, &mut player.dice)?
     };
-    put_event(player, text, time, &name, &payload)
+    put_event(&mut player.dice, text, time, &name, &payload)
 }
 
 /// The line of a query near the agent's window.
-fn put_near_query(player: &mut Player, agent: u64, text: &mut Vec<u8>) -> Result<(), AllocError> {
-    let Some(time) = Time::new(query_time_of(player, agent)) else {
+fn put_near_query(
+    player: &mut Player,
+    tracks: &Tracks,
+    text: &mut Vec<u8>,
+) -> Result<(), AllocError> {
+    let Some(time) = Time::new(player.edge(&tracks.queries)) else {
         return Ok(());
     };
     let id = player.dice.pick(&[0, 1, 2, 3, u32::MAX], 0);
-    put_query(player, text, time, id)
+    put_query(&mut player.dice, text, time, id)
 }
 
 /// A line of a clock or of a least time near the agent's window of events, or of queries.
-fn put_clock(player: &mut Player, agent: u64, text: &mut Vec<u8>) -> Result<(), AllocError> {
+fn put_clock(player: &mut Player, tracks: &Tracks, text: &mut Vec<u8>) -> Result<(), AllocError> {
     let (kind, front, number) = if player.dice.one_in(3) {
         let front: &[u8] = b"query-clock: ";
-        (ClockKind::Query, front, query_time_of(player, agent))
+        (ClockKind::Query, front, player.edge(&tracks.queries))
     } else {
         let front: &[u8] = b"event-clock: ";
-        (ClockKind::Event, front, event_time_of(player, agent))
+        (ClockKind::Event, front, player.edge(&tracks.events))
     };
     match player.dice.below(12) {
         0 => {
@@ -236,14 +240,18 @@ fn put_clock(player: &mut Player, agent: u64, text: &mut Vec<u8>) -> Result<(), 
 }
 
 /// A line that agents don't write.
-fn put_odd_line(player: &mut Player, agent: u64, text: &mut Vec<u8>) -> Result<(), AllocError> {
+fn put_odd_line(
+    player: &mut Player,
+    tracks: &Tracks,
+    text: &mut Vec<u8>,
+) -> Result<(), AllocError> {
     let none = OddLine {
         front: b"",
         behind: b"",
     };
     let line = player.dice.pick(&ODD_LINES, none);
     text.extend_from_slice(line.front)?;
-    put_number(text, event_time_of(player, agent))?;
+    put_number(text, player.edge(&tracks.events))?;
     text.extend_from_slice(line.behind)
 }
 
@@ -251,38 +259,44 @@ fn put_odd_line(player: &mut Player, agent: u64, text: &mut Vec<u8>) -> Result<(
 fn put_line(
     alloc: Global,
     player: &mut Player,
-    agent: u64,
+    tracks: &Tracks,
+    sent: &[Bytes],
     text: &mut Vec<u8>,
 ) -> Result<(), AllocError> {
     match player.dice.below(16) {
-        0..=4 => put_sent_event(alloc, player, text),
-        5..=7 => put_near_event(alloc, player, agent, text),
-        8 | 9 => put_sent_query(alloc, player, text),
-        10 => put_near_query(player, agent, text),
-        11 => put_odd_line(player, agent, text),
-        _ => put_clock(player, agent, text),
+        0..=4 => put_sent_event(player, sent, text),
+        5..=7 => put_near_event(alloc, player, tracks, text),
+        8 | 9 => put_sent_query(player, sent, text),
+        10 => put_near_query(player, tracks, text),
+        11 => put_odd_line(player, tracks, text),
+        _ => put_clock(player, tracks, text),
     }
 }
 
 /// Cuts a text anywhere, or shortly before its end.
-fn tear(player: &mut Player, text: &mut Vec<u8>) {
+fn tear(dice: &mut Dice, text: &mut Vec<u8>) {
     let len = text.len() as u64;
-    let left = if player.dice.one_in(2) {
-        player.dice.below(len)
+    let left = if dice.one_in(2) {
+        dice.below(len)
     } else {
-        len.saturating_sub(player.dice.below(12))
+        len.saturating_sub(dice.below(12))
     };
     text.truncate(left as usize);
 }
 
 /// Up to three lines; one time in three the last of them is torn.
-fn lines(alloc: Global, player: &mut Player, agent: u64) -> Result<Vec<u8>, AllocError> {
+fn lines(
+    alloc: Global,
+    player: &mut Player,
+    tracks: &Tracks,
+    sent: &[Bytes],
+) -> Result<Vec<u8>, AllocError> {
     let mut text = Vec::new(alloc);
     for _line in 0..player.dice.below(3).saturating_add(1) {
-        put_line(alloc, player, agent, &mut text)?;
+        put_line(alloc, player, tracks, sent, &mut text)?;
     }
     if player.dice.one_in(3) {
-        tear(player, &mut text);
+        tear(&mut player.dice, &mut text);
     }
     Ok(text)
 }
@@ -291,14 +305,16 @@ fn lines(alloc: Global, player: &mut Player, agent: u64) -> Result<Vec<u8>, Allo
 pub(crate) fn kept_tail(
     alloc: Global,
     player: &mut Player,
+    world: &World,
     agent: u64,
 ) -> Result<Vec<u8>, AllocError> {
+    let tracks = tracks_of(world, agent);
     match player.dice.below(20) {
         0..=8 => Ok(Vec::new(alloc)),
         9 => {
-            let time = event_time_of(player, agent);
+            let time = player.edge(&tracks.events);
             tail(alloc, &mut player.dice, time)
         }
-        _ => lines(alloc, player, agent),
+        _ => lines(alloc, player, &tracks, world.sent()),
     }
 }

@@ -1,9 +1,13 @@
 //! What a player does next, by the kind of its schedule.
 
 use crate::kind::Kind;
+use crate::verb::Verb::{
+    Answer, Ask, Break, Close, Compact, Event, Exchange, Fire, Foreign, Merge, Pass, Query, Repeat,
+    Respond, Restart, Save, Spelled, Spoil, State,
+};
 
 /// What a player does next.
-#[derive(Clone, Copy, PartialEq, Eq)]
+#[derive(Clone, Copy)]
 pub(crate) enum Verb {
     /// An agent fires an event.
     Fire,
@@ -46,259 +50,66 @@ pub(crate) enum Verb {
 }
 
 const MIXED: [Verb; 28] = [
-    Verb::Fire,
-    Verb::Fire,
-    Verb::Pass,
-    Verb::Pass,
-    Verb::Pass,
-    Verb::Pass,
-    Verb::Repeat,
-    Verb::Repeat,
-    Verb::Exchange,
-    Verb::Merge,
-    Verb::Ask,
-    Verb::Respond,
-    Verb::Restart,
-    Verb::Break,
-    Verb::Event,
-    Verb::Event,
-    Verb::Query,
-    Verb::Answer,
-    Verb::Answer,
-    Verb::State,
-    Verb::Spoil,
-    Verb::Spelled,
-    Verb::Spelled,
-    Verb::Spelled,
-    Verb::Foreign,
-    Verb::Close,
-    Verb::Save,
-    Verb::Compact,
+    Fire, Fire, Pass, Pass, Pass, Pass, Repeat, Repeat, Exchange, Merge, Ask, Respond, Restart,
+    Break, Event, Event, Query, Answer, Answer, State, Spoil, Spelled, Spelled, Spelled, Foreign,
+    Close, Save, Compact,
 ];
 
 const TINY: [Verb; 12] = [
-    Verb::Fire,
-    Verb::Fire,
-    Verb::Fire,
-    Verb::Pass,
-    Verb::Pass,
-    Verb::Repeat,
-    Verb::Repeat,
-    Verb::Exchange,
-    Verb::Ask,
-    Verb::Event,
-    Verb::Query,
-    Verb::Restart,
+    Fire, Fire, Fire, Pass, Pass, Repeat, Repeat, Exchange, Ask, Event, Query, Restart,
 ];
 
 const MERGES: [Verb; 12] = [
-    Verb::Fire,
-    Verb::Fire,
-    Verb::Pass,
-    Verb::Repeat,
-    Verb::Exchange,
-    Verb::Exchange,
-    Verb::Exchange,
-    Verb::Merge,
-    Verb::State,
-    Verb::State,
-    Verb::Break,
-    Verb::Restart,
+    Fire, Fire, Pass, Repeat, Exchange, Exchange, Exchange, Merge, State, State, Break, Restart,
 ];
 
 const RESTARTS: [Verb; 14] = [
-    Verb::Fire,
-    Verb::Fire,
-    Verb::Pass,
-    Verb::Pass,
-    Verb::Repeat,
-    Verb::Repeat,
-    Verb::Restart,
-    Verb::Restart,
-    Verb::Exchange,
-    Verb::Ask,
-    Verb::Respond,
-    Verb::Save,
-    Verb::Event,
-    Verb::Query,
+    Fire, Fire, Pass, Pass, Repeat, Repeat, Restart, Restart, Exchange, Ask, Respond, Save, Event,
+    Query,
 ];
 
 const DEVICES: [Verb; 14] = [
-    Verb::Fire,
-    Verb::Fire,
-    Verb::Pass,
-    Verb::Repeat,
-    Verb::Break,
-    Verb::Break,
-    Verb::Break,
-    Verb::Restart,
-    Verb::Restart,
-    Verb::Exchange,
-    Verb::Ask,
-    Verb::Save,
-    Verb::Compact,
-    Verb::Event,
+    Fire, Fire, Pass, Repeat, Break, Break, Break, Restart, Restart, Exchange, Ask, Save, Compact,
+    Event,
 ];
 
 const INJECTIONS: [Verb; 14] = [
-    Verb::Fire,
-    Verb::Pass,
-    Verb::Repeat,
-    Verb::Event,
-    Verb::Event,
-    Verb::Event,
-    Verb::Query,
-    Verb::Query,
-    Verb::State,
-    Verb::Spoil,
-    Verb::Spoil,
-    Verb::Spoil,
-    Verb::Merge,
-    Verb::Restart,
+    Fire, Pass, Repeat, Event, Event, Event, Query, Query, State, Spoil, Spoil, Spoil, Merge,
+    Restart,
 ];
 
 const QUERIES: [Verb; 16] = [
-    Verb::Ask,
-    Verb::Ask,
-    Verb::Ask,
-    Verb::Pass,
-    Verb::Pass,
-    Verb::Pass,
-    Verb::Repeat,
-    Verb::Respond,
-    Verb::Respond,
-    Verb::Respond,
-    Verb::Query,
-    Verb::Answer,
-    Verb::Answer,
-    Verb::Answer,
-    Verb::Close,
-    Verb::Restart,
+    Ask, Ask, Ask, Pass, Pass, Pass, Repeat, Respond, Respond, Respond, Query, Answer, Answer,
+    Answer, Close, Restart,
 ];
 
 const LIMITS: [Verb; 10] = [
-    Verb::Fire,
-    Verb::Fire,
-    Verb::Fire,
-    Verb::Event,
-    Verb::Event,
-    Verb::Ask,
-    Verb::Respond,
-    Verb::Pass,
-    Verb::Exchange,
-    Verb::State,
+    Fire, Fire, Fire, Event, Event, Ask, Respond, Pass, Exchange, State,
 ];
 
 const EXHAUSTION: [Verb; 12] = [
-    Verb::Event,
-    Verb::Event,
-    Verb::Query,
-    Verb::State,
-    Verb::Fire,
-    Verb::Fire,
-    Verb::Ask,
-    Verb::Ask,
-    Verb::Restart,
-    Verb::Exchange,
-    Verb::Save,
-    Verb::Repeat,
+    Event, Event, Query, State, Fire, Fire, Ask, Ask, Restart, Exchange, Save, Repeat,
 ];
 
-const PER_TIME: [Verb; 8] = [
-    Verb::Event,
-    Verb::Event,
-    Verb::Event,
-    Verb::Query,
-    Verb::State,
-    Verb::Repeat,
-    Verb::Exchange,
-    Verb::Restart,
-];
+const PER_TIME: [Verb; 8] = [Event, Event, Event, Query, State, Repeat, Exchange, Restart];
 
 const COMPACTIONS: [Verb; 12] = [
-    Verb::Fire,
-    Verb::Fire,
-    Verb::Pass,
-    Verb::Ask,
-    Verb::Save,
-    Verb::Compact,
-    Verb::Compact,
-    Verb::Compact,
-    Verb::Break,
-    Verb::Restart,
-    Verb::Restart,
-    Verb::Event,
+    Fire, Fire, Pass, Ask, Save, Compact, Compact, Compact, Break, Restart, Restart, Event,
 ];
 
 const GOSSIP: [Verb; 16] = [
-    Verb::Fire,
-    Verb::Pass,
-    Verb::Pass,
-    Verb::Pass,
-    Verb::Pass,
-    Verb::Pass,
-    Verb::Pass,
-    Verb::Pass,
-    Verb::Pass,
-    Verb::Pass,
-    Verb::Pass,
-    Verb::Pass,
-    Verb::Repeat,
-    Verb::Exchange,
-    Verb::Ask,
-    Verb::Respond,
+    Fire, Pass, Pass, Pass, Pass, Pass, Pass, Pass, Pass, Pass, Pass, Pass, Repeat, Exchange, Ask,
+    Respond,
 ];
 
 const SPELLINGS: [Verb; 20] = [
-    Verb::Spelled,
-    Verb::Spelled,
-    Verb::Spelled,
-    Verb::Spelled,
-    Verb::Spelled,
-    Verb::Spelled,
-    Verb::Spelled,
-    Verb::Spelled,
-    Verb::Foreign,
-    Verb::Foreign,
-    Verb::Fire,
-    Verb::Ask,
-    Verb::Respond,
-    Verb::Repeat,
-    Verb::Merge,
-    Verb::Exchange,
-    Verb::Close,
-    Verb::Save,
-    Verb::Break,
-    Verb::Restart,
+    Spelled, Spelled, Spelled, Spelled, Spelled, Spelled, Spelled, Spelled, Foreign, Foreign, Fire,
+    Ask, Respond, Repeat, Merge, Exchange, Close, Save, Break, Restart,
 ];
 
 const KEPT: [Verb; 26] = [
-    Verb::Fire,
-    Verb::Fire,
-    Verb::Fire,
-    Verb::Pass,
-    Verb::Pass,
-    Verb::Pass,
-    Verb::Repeat,
-    Verb::Repeat,
-    Verb::Exchange,
-    Verb::Exchange,
-    Verb::Merge,
-    Verb::Ask,
-    Verb::Ask,
-    Verb::Event,
-    Verb::Event,
-    Verb::Query,
-    Verb::Query,
-    Verb::State,
-    Verb::Save,
-    Verb::Break,
-    Verb::Compact,
-    Verb::Compact,
-    Verb::Restart,
-    Verb::Restart,
-    Verb::Restart,
-    Verb::Restart,
+    Fire, Fire, Fire, Pass, Pass, Pass, Repeat, Repeat, Exchange, Exchange, Merge, Ask, Ask, Event,
+    Event, Query, Query, State, Save, Break, Compact, Compact, Restart, Restart, Restart, Restart,
 ];
 
 /// What a player of this kind does, each as often as it stands here. Rounds are walked, and never played.

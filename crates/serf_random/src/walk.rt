@@ -1,14 +1,13 @@
-//! A cluster that goes by rounds of gossip, as Serf's memberlist spreads broadcasts.
-
-ghost use Rattle.std.specs.Prelude.{◌≡◌, false};
+//! Rounds of gossip, as Serf's memberlist spreads broadcasts.
 
 use crate::ask::{Ask, MAX_FANOUT, MAX_ROUNDS};
+use crate::course::Course;
 use crate::dice::Dice;
 use crate::others::{other_than, others};
 use serf_model::{Act, Action, Answer, Line};
 use serf_text::put_number;
 use serf_wire::Bytes;
-use serf_world::{Roster, StepFault, World};
+use serf_world::World;
 use std::alloc::{AllocError, Global};
 
 /// The seed of a walk's numbers: other ones than those of the settings.
@@ -51,11 +50,11 @@ enum Step {
     Merge { agent: u64, back: u64 },
 }
 
-/// A cluster that goes by rounds, what its agents still spread, and what is left of the present round.
+/// What the agents of a cluster still spread, and what is left of the present round.
 #[derive(Drop)]
 pub(crate) struct Walk {
     dice: Dice,
-    world: World,
+    /// How many agents the cluster has.
     agents: u64,
     fanout: u64,
     /// How many packets in a hundred are lost.
@@ -73,8 +72,6 @@ pub(crate) struct Walk {
     steps: Vec<Step>,
     /// How many of these are done.
     done: usize,
-    // memory hasn't run out
-    ghost unpoisoned: { world.poisoned ≡ false },
 }
 
 /// How often an agent sends a packet in a cluster of so many: four times for each digit of their number.
@@ -90,11 +87,10 @@ fn sends_of(agents: u64) -> u64 {
 }
 
 impl Walk {
-    pub(crate) fn new(alloc: Global, ask: &Ask, roster: Roster) -> Result<Walk, AllocError> {
-        let agents = roster.as_slice().len() as u64;
-        Ok(Walk {
+    /// What comes before the first round in a cluster of so many agents.
+    pub(crate) fn new(alloc: Global, ask: &Ask, agents: u64) -> Walk {
+        Walk {
             dice: Dice::new(ask.seed ^ SALT),
-            world: World::new(alloc, roster)?,
             agents,
             fanout: ask.fanout.min(MAX_FANOUT),
             loss: ask.loss,
@@ -105,25 +101,7 @@ impl Walk {
             rumors: Vec::new(alloc),
             steps: Vec::new(alloc),
             done: 0,
-        })
-    }
-
-    /// The walk that has done the next action, and that action; `None` after the last round. Where memory runs out, the
-    /// walk is let go.
-    pub(crate) fn play(self, alloc: Global) -> Result<(Walk, Option<Action>), AllocError> {
-        let mut walk = self;
-        walk.go_on(alloc)?;
-        let Some(step) = walk.next_step() else {
-            return Ok((walk, None));
-        };
-        let action = walk.action_of(alloc, step)?;
-        let line = match walk.world.step(alloc, &action) {
-            Ok(line) => line,
-            Err(StepFault::OutOfMemory) => return Err(AllocError),
-            Err(StepFault::Poisoned) => unreachable!(),
-        };
-        walk.note(&action, &line)?;
-        Ok((walk, Some(action)))
+        }
     }
 
     /// Plans rounds up to one in which there is something to do.
@@ -227,7 +205,12 @@ impl Walk {
         Ok(())
     }
 
-    fn action_of(&mut self, alloc: Global, step: Step) -> Result<Action, AllocError> {
+    fn action_of(
+        &mut self,
+        alloc: Global,
+        world: &World,
+        step: Step,
+    ) -> Result<Action, AllocError> {
         match step {
             Step::Fire { agent } => self.fire(alloc, agent),
             Step::Deliver { agent, packet } => Ok(Action::Of {
@@ -244,7 +227,7 @@ impl Walk {
             Step::Merge { agent, back } => Ok(Action::Of {
                 agent,
                 act: Act::Merge {
-                    packet: (self.world.sent().len() as u64).saturating_sub(back),
+                    packet: (world.sent().len() as u64).saturating_sub(back),
                     join: false,
                 },
             }),
@@ -262,6 +245,17 @@ impl Walk {
             coalesce: false,
         };
         Ok(Action::Of { agent, act })
+    }
+}
+
+impl Course for Walk {
+    /// The next action; `None` after the last round.
+    fn next_action(&mut self, alloc: Global, world: &World) -> Result<Option<Action>, AllocError> {
+        self.go_on(alloc)?;
+        match self.next_step() {
+            Some(step) => Ok(Some(self.action_of(alloc, world, step)?)),
+            None => Ok(None),
+        }
     }
 
     /// What an agent fired, or got for the first time, it goes on sending from the next round on.

@@ -10,10 +10,10 @@ use Rattle.serf_random.proofs.cut.add_turn.Goals as goal
 pub returns-clause-along : goal.returns-clause-along
 returns-clause-along c = λ configs first h.
     let sayable : IsSayable c.args.action = search rules in
-    let common : (is_common_answer c.in-Ok.line.answer && has_no_tail c.args.action) ≡ true = search rules in
-    let took = c.in-Ok.ensures.step (run_of configs c.args.kept.now.items).cluster h.view h.representable in
+    let common : (is_common_answer c.in_ok-line.line.answer && has_no_tail c.args.action) ≡ true = search rules in
+    let took = c.in_ok-line.ensures.step (run_of configs c.args.kept.now.items).cluster h.view h.representable in
     IfOk-weaker c.add_line.result
     (λ added. MayAdd added c.args.action c.args.text.now.items c.add_line.new.text.items c.args.kept.now.items c.add_line.new.kept.items)
-    (λ more. GoesOn more configs first c.add_line.new.text.items c.add_line.new.kept.items c.step.new.self)
-    (λ added adds. may-keep configs first c.args.text.now.items c.add_line.new.text.items c.args.kept.now.items c.add_line.new.kept.items c.args.action c.in-Ok.line c.args.world.now c.step.new.self h sayable common took added adds)
+    (λ more. GoesOn more configs first c.add_line.new.text.items c.add_line.new.kept.items c.stepped.new.world)
+    (λ added adds. may-keep configs first c.args.text.now.items c.add_line.new.text.items c.args.kept.now.items c.add_line.new.kept.items c.args.action c.in_ok-line.line c.args.world.now c.stepped.new.world h sayable common took added adds)
     c.add_line.ensures
