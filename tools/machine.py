@@ -1,4 +1,4 @@
-"""What the repository's scripts keep on this machine, outside each checkout."""
+"""What the repository's scripts may use of this machine, and what they keep on it, outside each checkout."""
 
 import os
 import shutil
@@ -8,6 +8,11 @@ FOLDER = os.path.join(os.environ.get("XDG_CACHE_HOME") or os.path.expanduser("~/
 
 # How long something stays that no run asks for, in seconds.
 MONTH = 30 * 24 * 3600
+
+
+def processors():
+    """How many processors this process may use."""
+    return len(os.sched_getaffinity(0))
 
 
 def write(folder, files):

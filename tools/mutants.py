@@ -32,13 +32,14 @@ import edit_checks
 import edits
 import evidence
 import libraries
+import machine
 import reach
 import toolchain
 
 OPTIONS = ("--list", "--control", "--over-ci", "--anew", "--write")
 
 # How many crates are tried side by side: a check takes one processor, and up to 3 GB.
-LANES = min(os.cpu_count() or 1, 5)
+LANES = min(machine.processors(), 5)
 
 
 class Counts:

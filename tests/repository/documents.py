@@ -173,21 +173,47 @@ def wrong_command(jobs, page, script, words):
     return None
 
 
-def missing_siblings(page):
-    """Each file of a crate that names a sibling of "To add something", and what is wrong with the table, or None."""
+def rows_of_siblings(page):
+    """The head and the rows of the table of "To add something"."""
     head, *rows = [
         line.strip("|").split("|")
         for line in page.partition("## To add something\n")[2].split("\n")
         if line.startswith("|")
     ]
+    return head, rows
+
+
+def own_paths():
+    return [path for kind in ("src", "specs", "proofs") for path in paths_of(kind)]
+
+
+def missing_siblings(page):
+    """Each file of a crate that names a sibling of "To add something", and what is wrong with the table, or None."""
+    head, rows = rows_of_siblings(page)
     words = {word: at for at, cell in enumerate(head) for word in SPAN.findall(cell)}
     cells = {crate: row for row in rows for crate in SPAN.findall(row[0])}
-    for path in [path for kind in ("src", "specs", "proofs") for path in paths_of(kind)]:
+    for path in own_paths():
         row, text = cells.get(os.path.relpath(path, TOP).split(os.sep)[1], [""] * len(head)), text_of(path)
         for word, sibling in SIBLINGS.items():
             if re.search(sibling, text):
                 is_named = any(path.endswith(os.sep + name) for name in SPAN.findall(row[words[word]]))
                 yield f"{os.path.relpath(path, TOP)} ({word})", None if is_named else "isn't in the table"
+
+
+def stray_siblings(page):
+    """Each file that the table of "To add something" has, and what is wrong with it, or None: a file that names none of
+    its column's siblings doesn't belong there. The files of a call have its name instead."""
+    head, rows = rows_of_siblings(page)
+    columns = [[SIBLINGS[word] for word in SPAN.findall(cell) if word in SIBLINGS] for cell in head]
+    for row in rows:
+        crates = [crate for crate in SPAN.findall(row[0]) if crate.startswith("serf_")]
+        for cell, siblings in zip(row, columns):
+            if not siblings or re.match(r" (?:the call|an export of the call): ", cell):
+                continue
+            for name in SPAN.findall(cell) if crates else []:
+                paths = [path for path in own_paths() if path.endswith(os.sep + name) and os.path.relpath(path, TOP).split(os.sep)[1] in crates]
+                is_named = any(re.search(sibling, text_of(path)) for path in paths for sibling in siblings)
+                yield f"{', '.join(crates)}: {name}", None if is_named else "names none of its column's"
 
 
 # What the scripts of tests/ share, beside the folders that they stand in.
@@ -308,6 +334,7 @@ def checks_of(tree, jobs, document):
         yield script + words, wrong_command(jobs, page, script, words.split())
     if document == os.path.join("docs", "ARCHITECTURE.md"):
         yield from missing_siblings(page)
+        yield from stray_siblings(page)
     if document == os.path.join("docs", "PROMISES.md"):
         yield from quoted(page)
     if document == os.path.join("tests", "README.md"):
