@@ -64,6 +64,10 @@ SIBLINGS = {
     "relay_factor": r"relay_factor|RelayFactor",
 }
 
+# How a file names the call of an agent that a word of a schedule makes, in the cells of the table that begin so.
+OF_CALL = re.compile(r" (?:the call|an export of the call): ")
+CALLS = {"save": r"\b(?:[Ss]aves?|saves_so|save_member_clock)\b"}
+
 SPAN = re.compile(r"`([^`\n]+)`")
 LINK = re.compile(r"\[[^\]\n]*\]\(([^)\s]+)\)")
 COMMAND = re.compile(r"^(?: {4,}|\$ )?((?:\./|python3 )[\w./-]+)((?: [\w./-]+)*)", re.M)
@@ -187,32 +191,40 @@ def own_paths():
     return [path for kind in ("src", "specs", "proofs") for path in paths_of(kind)]
 
 
+def crate_of(path):
+    return os.path.relpath(path, TOP).split(os.sep)[1]
+
+
+def siblings_of(cell, words):
+    """The patterns of these words in a cell of the table."""
+    return [CALLS[word] if OF_CALL.match(cell) else SIBLINGS[word] for word in words if word in SIBLINGS]
+
+
 def missing_siblings(page):
     """Each file of a crate that names a sibling of "To add something", and what is wrong with the table, or None."""
     head, rows = rows_of_siblings(page)
     words = {word: at for at, cell in enumerate(head) for word in SPAN.findall(cell)}
     cells = {crate: row for row in rows for crate in SPAN.findall(row[0])}
     for path in own_paths():
-        row, text = cells.get(os.path.relpath(path, TOP).split(os.sep)[1], [""] * len(head)), text_of(path)
-        for word, sibling in SIBLINGS.items():
-            if re.search(sibling, text):
-                is_named = any(path.endswith(os.sep + name) for name in SPAN.findall(row[words[word]]))
+        row, text = cells.get(crate_of(path), [""] * len(head)), text_of(path)
+        for word in SIBLINGS:
+            cell = row[words[word]]
+            if any(re.search(sibling, text) for sibling in siblings_of(cell, [word])):
+                is_named = any(path.endswith(os.sep + name) for name in SPAN.findall(cell))
                 yield f"{os.path.relpath(path, TOP)} ({word})", None if is_named else "isn't in the table"
 
 
 def stray_siblings(page):
     """Each file that the table of "To add something" has, and what is wrong with it, or None: a file that names none of
-    its column's siblings doesn't belong there. The files of a call have its name instead."""
+    its column's siblings doesn't belong there."""
     head, rows = rows_of_siblings(page)
-    columns = [[SIBLINGS[word] for word in SPAN.findall(cell) if word in SIBLINGS] for cell in head]
     for row in rows:
         crates = [crate for crate in SPAN.findall(row[0]) if crate.startswith("serf_")]
-        for cell, siblings in zip(row, columns):
-            if not siblings or re.match(r" (?:the call|an export of the call): ", cell):
-                continue
-            for name in SPAN.findall(cell) if crates else []:
-                paths = [path for path in own_paths() if path.endswith(os.sep + name) and os.path.relpath(path, TOP).split(os.sep)[1] in crates]
-                is_named = any(re.search(sibling, text_of(path)) for path in paths for sibling in siblings)
+        for cell, title in zip(row, head):
+            siblings = siblings_of(cell, SPAN.findall(title))
+            for name in SPAN.findall(cell) if siblings and crates else []:
+                texts = [text_of(path) for path in own_paths() if path.endswith(os.sep + name) and crate_of(path) in crates]
+                is_named = any(re.search(sibling, text) for text in texts for sibling in siblings)
                 yield f"{', '.join(crates)}: {name}", None if is_named else "names none of its column's"
 
 
