@@ -100,7 +100,7 @@ def files_of():
     """The crate and the file of each function, by its path."""
     import edits
 
-    crates = [name for name in os.listdir(os.path.join(TOP, "crates"))]
+    crates = os.listdir(os.path.join(TOP, "crates"))
     return {f"{crate}::{name}": (crate, path) for crate in crates for path in edits.source_files(crate) for _, name, _ in edits.functions_in(crate, path)}
 
 
