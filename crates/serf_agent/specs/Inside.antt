@@ -35,13 +35,17 @@ pub record IsBuilt (config : Config) (events : TrackState EventBody) (queries : 
   pub query_per_time : queries.window.per_time ≡ config.per_time
   pub asked_below : All (λ q. q.0 < queries.clock) asked
 
+-- a track that has nothing, above the last time of a text
+abbrev pub new_track : {K : Type 0} → ℕ → ℕ → ConcreteTrack K
+new_track n last = record { clock = last + 1; minimum = last + 1; slots = slots_of n [] }
+
 -- A track at an opening, where a text has this last clock, this least time and these entries of its kind: what the buffer takes
 -- back where the settings keep events, and else nothing.
 abbrev pub first_track : {K : Type 0} → Bool → (K → K → Bool) → ℕ → ℕ → ℕ → ℕ → List (TimedEntry K) → ConcreteTrack K
 first_track keeps same n k last least kept =
     if keeps then (let back = taken_back same n k last least kept in
     record { clock = opened_clock last least; minimum = max back.minimum (opened_clock last least - n); slots = slots_of n back.entries })
-    else record { clock = last + 1; minimum = last + 1; slots = slots_of n [] }
+    else new_track n last
 
 abbrev pub first_events : Config → List ℕ → ℕ → ConcreteTrack EventBody
 first_events config text last = first_track config.keep_events same_texts config.event_buffer config.per_time last (least_in kinds.Event text) (events_reached config last text)

@@ -7,7 +7,7 @@ ghost use Rattle.serf_snap.specs.Clocks.{is_whole, seal_line};
 ghost use Rattle.serf_snap.specs.Notes.{HasTriedNote, note_decremented, note_fails, opened, opened_device};
 ghost use Rattle.serf_agent.specs.Config.{is_sound};
 ghost use Rattle.serf_agent.specs.Ideal.{IdealAgent, with_config};
-ghost use Rattle.serf_agent.specs.Inside.{concrete_of};
+ghost use Rattle.serf_agent.specs.Inside.{concrete_of, new_track};
 ghost use Rattle.serf_agent.specs.Restart.{HasPast, restarted, unopened};
 ghost use Rattle.serf_agent.specs.Sound.{IsSound};
 ghost use Rattle.serf_agent.specs.View.{view_of};
@@ -24,7 +24,6 @@ use std::alloc::Global;
 use std::marker::Model;
 
 /// An agent: its clocks, what it knows of events and queries, and its snapshot on a sink.
-#[derive(Drop)]
 pub struct Agent<S: Sink> {
     pub(crate) config: Config,
     pub(crate) member_clock: Clock,
@@ -32,6 +31,20 @@ pub struct Agent<S: Sink> {
     pub(crate) queries: QueryTrack,
     pub(crate) asked: Asked,
     pub(crate) snapshot: Snapshot<S>,
+}
+
+/// Written out, so that a crate above need not prove anew that each part can be let go.
+impl<S: Sink + Drop> Drop for Agent<S> {
+    fn drop(self) {
+        let Agent {
+            config: _,
+            member_clock: _,
+            events: _,
+            queries: _,
+            asked: _,
+            snapshot: _,
+        } = self;
+    }
 }
 
 impl<S: Sink> Model for Agent<S> {
@@ -138,11 +151,27 @@ impl<S: Sink> Agent<S> {
         if let Some((events, queries)) = kept {
             return Ok(Agent::behind(alloc, config, events, queries, snapshot));
         }
+        Ok(Agent::with_nothing_kept(alloc, config, snapshot))
+    }
+
+    /// The agent that takes no event and no query back at an opening, after the last lines of a snapshot.
+    fn with_nothing_kept(alloc: Global, config: Config, snapshot: Snapshot<S>) -> Self
+        requires { is_sound config ≡ true }
+        ensures concrete { let last = snapshot.snapshot in result.concrete ≡ record {
+          config = config;
+          member_clock = last.member_clock + 1;
+          events = new_track config.event_buffer last.event_clock;
+          queries = new_track config.query_buffer last.query_clock;
+          snapshot = last;
+          asked = [];
+        } }
+        ensures device { result.device ≡ snapshot.device }
+    {
         let last = snapshot.clocks();
         let per_time = config.per_time;
         let events = EventTrack::after(alloc, config.event_buffer, per_time, last.event_clock);
         let queries = QueryTrack::after(alloc, config.query_buffer, per_time, last.query_clock);
-        Ok(Agent::behind(alloc, config, events, queries, snapshot))
+        Agent::behind(alloc, config, events, queries, snapshot)
     }
 
     /// The agent that has these tracks at an opening, after the last lines of a snapshot.

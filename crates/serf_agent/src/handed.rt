@@ -16,9 +16,16 @@ use std::marker::Model;
 /// A query that was handed out, which can be answered once: a response uses it up. It has no clone.
 ///
 /// What it says has a place of its own, so that an answer that may have a query stays small.
-#[derive(Debug, Drop)]
+#[derive(Debug)]
 pub struct HandedQuery {
     parts: Box<HandedParts>,
+}
+
+/// Written out, so that a crate above need not prove anew that each part can be let go.
+impl Drop for HandedQuery {
+    fn drop(self) {
+        let HandedQuery { parts: _ } = self;
+    }
 }
 
 /// What a query says that was handed out.
@@ -255,7 +262,8 @@ impl HandedQuery {
         }
         match self.packet_of(alloc, payload) {
             Ok(packet) => {
-                let HandedParts { addr, port, .. } = Box::into_inner(self.parts);
+                let HandedQuery { parts } = self;
+                let HandedParts { addr, port, .. } = Box::into_inner(parts);
                 Ok(Reply { addr, port, packet })
             }
             Err(_) => Err((self, RespondFault::OutOfMemory)),

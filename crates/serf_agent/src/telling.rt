@@ -6,6 +6,7 @@ ghost use Rattle.serf_lamport.specs.Clock.{greatest_clock};
 ghost use Rattle.serf_wire.specs.Buffers.{lent_slot, slots_to_come};
 ghost use Rattle.serf_wire.specs.Message.{push_pull_said};
 ghost use Rattle.serf_window.specs.Texts.{event_of};
+ghost use Rattle.serf_snap.specs.Compaction.{counted};
 ghost use Rattle.serf_snap.specs.EventLines.{query_line};
 ghost use Rattle.serf_snap.specs.declared.kind.ClockKind.TheVariants as kinds;
 ghost use Rattle.serf_agent.specs.Events.{told_event};
@@ -19,7 +20,10 @@ use crate::agent::Agent;
 use crate::config::Config;
 use crate::track::Track;
 use serf_lamport::Time;
-use serf_snap::{ClockKind, Sink, put_event_line, put_least_line, put_query_line};
+use serf_snap::{
+    ClockKind, Sink, event_line_length, put_event_line, put_least_line, put_query_line,
+    query_line_length,
+};
 use serf_wire::{Bytes, EventBody, LentSlot, LentSlots, PushPull};
 use std::alloc::{AllocError, Global};
 
@@ -81,7 +85,7 @@ pub(crate) fn told_least(
 }
 
 /// A key of a track whose entries a snapshot keeps, each in a line of its own: an event's texts, or a query's ID.
-trait Told: Drop {
+pub(crate) trait Told: Drop {
     ghost use Rattle.serf_snap.specs.declared.kind.ClockKind.{ClockKind};
 
     /// The kind of clock that its times are of.
@@ -95,6 +99,10 @@ trait Told: Drop {
     /// Adds the line of its entry of a time.
     fn put_line(&self, text: &mut Vec<u8>, time: Time) -> Result<(), AllocError>
         ensures { OnOk result (text.new.items ≡ text.old.items ++ line time self.now) };
+
+    /// How long this line is. A length stays at 2^64 - 1.
+    fn line_length(&self, time: Time) -> u64
+        ensures { result ≡ counted (line time self.now) };
 }
 
 impl Told for EventBody {
@@ -107,6 +115,10 @@ impl Told for EventBody {
     fn put_line(&self, text: &mut Vec<u8>, time: Time) -> Result<(), AllocError> {
         put_event_line(text, time, self.name.as_slice(), self.payload.as_slice())
     }
+
+    fn line_length(&self, time: Time) -> u64 {
+        event_line_length(time, self.name.as_slice(), self.payload.as_slice())
+    }
 }
 
 impl Told for u32 {
@@ -118,6 +130,10 @@ impl Told for u32 {
 
     fn put_line(&self, text: &mut Vec<u8>, time: Time) -> Result<(), AllocError> {
         put_query_line(text, time, *self)
+    }
+
+    fn line_length(&self, time: Time) -> u64 {
+        query_line_length(time, *self)
     }
 }
 

@@ -8,7 +8,7 @@ ghost use Rattle.serf_window.specs.Slots.{slot_view};
 ghost use Rattle.serf_window.specs.Window.{TimedEntry, count_in, greatest_per_time, greatest_slot_count, room_for, slots_of, time_in};
 ghost use Rattle.serf_agent.specs.Events.{drawn};
 ghost use Rattle.serf_agent.specs.Ideal as ideal;
-ghost use Rattle.serf_agent.specs.Inside.{concrete_of, first_track};
+ghost use Rattle.serf_agent.specs.Inside.{concrete_of, first_track, new_track};
 ghost use Rattle.serf_agent.specs.Tracks.{IsTrackSound, track_reason, view_of_track};
 
 use crate::outcome::Reason;
@@ -77,11 +77,7 @@ impl<K: Drop> Track<K> {
         requires some_of_time { 0 < per_time }
         requires most_of_time { per_time ≤ greatest_per_time }
         requires small { last < greatest_clock }
-        ensures concrete { concrete_of result ≡ record {
-          clock = last + 1;
-          minimum = last + 1;
-          slots = slots_of slot_count [];
-        } }
+        ensures concrete { concrete_of result ≡ new_track slot_count last }
         ensures size { length result.window.slots ≡ slot_count }
         ensures per_time { result.window.per_time ≡ per_time }
     {

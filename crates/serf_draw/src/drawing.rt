@@ -34,7 +34,7 @@ fn row(
         event_clock line) }
 {
     let answer = line.answer;
-    let events = merged_events(alloc, asked, action, line.events)?;
+    let events = merged_events(alloc, asked, action, line.into_events())?;
     Ok(Row {
         action: sender.action,
         above: sender.above,

@@ -23,7 +23,7 @@ pub enum SinkCall {
 }
 
 /// What is done in a cluster. Agents are numbered from 0 in the order of their settings.
-#[derive(Debug, Drop)]
+#[derive(Debug)]
 pub enum Action {
     /// Bytes are sent that no agent made.
     Inject { bytes: Bytes },
@@ -31,9 +31,19 @@ pub enum Action {
     Of { agent: u64, act: Act },
 }
 
+/// Written out, so that a crate above need not prove anew that each part can be let go.
+impl Drop for Action {
+    fn drop(self) {
+        match self {
+            Action::Inject { bytes: _ } => {}
+            Action::Of { agent: _, act: _ } => {}
+        }
+    }
+}
+
 /// What an agent does. Packets are numbered from 0 in the order in which they were sent, and the queries that were
 /// handed to an agent from 0 in each of its lives. Moments are nanoseconds.
-#[derive(Debug, Drop)]
+#[derive(Debug)]
 pub enum Act {
     /// It fires a user event.
     Fire {
@@ -79,6 +89,31 @@ pub enum Act {
     Save,
     /// It replaces its snapshot's text by its last lines.
     Compact,
+}
+
+/// Written out, so that a crate above need not prove anew that each part can be let go.
+impl Drop for Act {
+    fn drop(self) {
+        match self {
+            Act::Fire {
+                name: _,
+                payload: _,
+                coalesce: _,
+            } => {}
+            Act::Deliver { packet: _, now: _ } => {}
+            Act::State | Act::Save | Act::Compact => {}
+            Act::Merge { packet: _, join: _ } => {}
+            Act::Query(_) => {}
+            Act::Respond {
+                handed: _,
+                now: _,
+                payload: _,
+            } => {}
+            Act::Restart { tail: _ } => {}
+            Act::Break { call: _, count: _ } => {}
+            Act::Close { now: _ } => {}
+        }
+    }
 }
 
 impl Action {

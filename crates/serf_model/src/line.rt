@@ -1,5 +1,7 @@
 //! What comes of an action.
 
+ghost use Rattle.std.specs.Prelude.{◌≡◌};
+
 use crate::boxed::Boxed;
 use crate::lists::{EventLines, Numbers};
 use serf_agent::Reason;
@@ -107,7 +109,7 @@ pub struct HandedLine {
 }
 
 /// What came of one action.
-#[derive(Debug, Drop)]
+#[derive(Debug)]
 pub struct Line {
     pub answer: Answer,
     /// The numbers of the packets that were sent, in order.
@@ -116,4 +118,31 @@ pub struct Line {
     pub events: EventLines,
     /// The query that was handed out, in a place of its own, so that a line without one is small.
     pub handed: Option<Boxed<HandedLine>>,
+}
+
+/// Written out, so that a crate above need not prove anew that each part can be let go.
+impl Drop for Line {
+    fn drop(self) {
+        let Line {
+            answer: _,
+            sent: _,
+            events: _,
+            handed: _,
+        } = self;
+    }
+}
+
+impl Line {
+    /// The events that were handed out, in order. Takes no memory.
+    pub fn into_events(self) -> EventLines
+        ensures { result ≡ self.events }
+    {
+        let Line {
+            answer: _,
+            sent: _,
+            events,
+            handed: _,
+        } = self;
+        events
+    }
 }

@@ -27,10 +27,20 @@ pub enum RosterFault {
 /// The settings of agents that can make a cluster: in order, each within its bounds, and no two of one name.
 ///
 /// Contracts see the list of them. A name is looked up in a time that does not grow with the number of agents.
-#[derive(Debug, Drop)]
+#[derive(Debug)]
 pub struct Roster {
     configs: Vec<Config>,
     names: HashSet<Vec<u8>>,
+}
+
+/// Written out, so that a crate above need not prove anew that each part can be let go.
+impl Drop for Roster {
+    fn drop(self) {
+        let Roster {
+            configs: _,
+            names: _,
+        } = self;
+    }
 }
 
 impl Model for Roster {
@@ -158,7 +168,7 @@ impl Roster {
         ensures agents { result.items ≡ self }
         ensures configs { AreConfigs self }
     {
-        let Roster { configs, .. } = self;
+        let Roster { configs, names: _ } = self;
         configs
     }
 }

@@ -32,11 +32,21 @@ use std::marker::Model;
 /// A cluster: its agents, each over a sink in memory, and all packets that were sent.
 ///
 /// Contracts see what it stores of an ideal cluster.
-#[derive(Drop)]
 pub struct World {
     nodes: Vec<Node>,
     sent: Vec<Bytes>,
     poisoned: bool,
+}
+
+/// Written out, so that a crate above need not prove anew that each part can be let go.
+impl Drop for World {
+    fn drop(self) {
+        let World {
+            nodes: _,
+            sent: _,
+            poisoned: _,
+        } = self;
+    }
 }
 
 impl Model for World {
@@ -177,7 +187,11 @@ impl World {
     pub(crate) fn into_sent(self) -> BytesList
         ensures { result ≡ self.sent }
     {
-        let World { sent, .. } = self;
+        let World {
+            nodes: _,
+            sent,
+            poisoned: _,
+        } = self;
         BytesList::from_vec(sent)
     }
 }

@@ -1,7 +1,6 @@
 use Rattle.serf_agent.proofs.Names.{rules, false, true, ◌≡◌, ◌+◌, ◌<◌, ◌-◌, ◌^◌, ℕ, List, [], refl, subst, sym, ◌∙◌, EventBody, Device, SnapshotView, last_clock, opened}
 use Rattle.serf_window.specs.Queries.{same_id}
 use Rattle.serf_window.specs.Texts.{same_texts}
-use Rattle.serf_window.specs.Window.{slots_of}
 use Rattle.serf_snap.specs.EventLines.{least_in}
 use Rattle.serf_snap.specs.declared.kind.ClockKind.TheVariants as kinds
 use Rattle.serf_snap.specs.declared.snapshot.SealFault.{SealFault}
@@ -11,7 +10,7 @@ use Rattle.serf_agent.specs.declared.config.Config.{Config}
 use Rattle.serf_agent.specs.declared.outcome.OpenFault.TheVariants as opens
 use Rattle.serf_agent.specs.Faults.{open_fault_of}
 use Rattle.serf_agent.specs.Ideal.{IdealAgent, with_config}
-use Rattle.serf_agent.specs.Inside.{concrete_of, first_events, first_queries, first_track}
+use Rattle.serf_agent.specs.Inside.{concrete_of, first_events, first_queries, first_track, new_track}
 use Rattle.serf_agent.specs.KeptLaws.{KeptRestartLaws}
 use Rattle.serf_agent.specs.KeptRestart.{HasKept, events_reached, queries_reached}
 use Rattle.serf_agent.specs.Restart.{HasPast, restarted, unopened}
@@ -32,14 +31,12 @@ goes-on snapshots kept i text d s events queries a sound past small is event_tra
   sound-restarted snapshots kept i text d sound past (subst (λ (s : SnapshotView). s.member_clock < 2 ^ 64 - 1) is small),
 )
 
--- where the settings keep no events, a new track is that of an opening
-new-events : (config : Config) (text : List ℕ) (last : ℕ) (t : ConcreteTrack EventBody) → config.keep_events ≡ false → last ≡ last_clock kinds.Event text
-    → t ≡ record { clock = last + 1; minimum = last + 1; slots = slots_of config.event_buffer [] } → t ≡ first_events config text (last_clock kinds.Event text)
-new-events config text last t off is new = new ∙ (λ k. first_track (sym off k) same_texts config.event_buffer config.per_time (is k) (least_in kinds.Event text) (events_reached config (is k) text))
+-- where the settings keep no events, new tracks are those of an opening
+new-events : (config : Config) (text : List ℕ) (last : ℕ) → config.keep_events ≡ false → last ≡ last_clock kinds.Event text → new_track config.event_buffer last ≡ first_events config text (last_clock kinds.Event text)
+new-events config text last off is = λ k. first_track (sym off k) same_texts config.event_buffer config.per_time (is k) (least_in kinds.Event text) (events_reached config (is k) text)
 
-new-queries : (config : Config) (text : List ℕ) (last : ℕ) (t : ConcreteTrack ℕ) → config.keep_events ≡ false → last ≡ last_clock kinds.Query text
-    → t ≡ record { clock = last + 1; minimum = last + 1; slots = slots_of config.query_buffer [] } → t ≡ first_queries config text (last_clock kinds.Query text)
-new-queries config text last t off is new = new ∙ (λ k. first_track (sym off k) same_id config.query_buffer config.per_time (is k) (least_in kinds.Query text) (queries_reached config (is k) text))
+new-queries : (config : Config) (text : List ℕ) (last : ℕ) → config.keep_events ≡ false → last ≡ last_clock kinds.Query text → new_track config.query_buffer last ≡ first_queries config text (last_clock kinds.Query text)
+new-queries config text last off is = λ k. first_track (sym off k) same_id config.query_buffer config.per_time (is k) (least_in kinds.Query text) (queries_reached config (is k) text)
 
 pub returns-in-Some-clause-restarted : goal.returns-in-Some-clause-restarted
 returns-in-Some-clause-restarted g c = λ i sound said.
@@ -80,8 +77,7 @@ returns-clause-restarted g c = λ i sound said.
     } in
     let off : config.keep_events ≡ false = search rules in
     goes-on c.sound_snapshots.ensures c.kept_restart_laws.ensures (with_config config i) text (g.S.Sink.device c.args.sink) _ _ _ _ (sound-with_config config i sound ok) past c.in-Ok-open.ensures.times.member_clock c.in-Ok-open.ensures.ok
-    (new-events config text _ _ off (c.clocks-last.ensures.event ∙ (λ k. (c.in-Ok-open.ensures.ok k).event_clock)) c.after-events.ensures.concrete)
-    (new-queries config text _ _ off (c.clocks-last.ensures.query ∙ (λ k. (c.in-Ok-open.ensures.ok k).query_clock)) c.after-queries.ensures.concrete) c.behind-2.ensures.concrete
+    (new-events config text _ off (λ k. (c.in-Ok-open.ensures.ok k).event_clock)) (new-queries config text _ off (λ k. (c.in-Ok-open.ensures.ok k).query_clock)) c.with_nothing_kept.ensures.concrete
 
 pub returns-clause-first : goal.returns-clause-first
 returns-clause-first g c =
@@ -94,8 +90,7 @@ returns-clause-first g c =
     let sound = sound-unopened c.sound_snapshots.ensures config text device ok small in
     let off : config.keep_events ≡ false = search rules in
     goes-on c.sound_snapshots.ensures c.kept_restart_laws.ensures i text device _ _ _ _ sound (past-unopened config (opened text device) text) c.in-Ok-open.ensures.times.member_clock c.in-Ok-open.ensures.ok
-    (new-events config text _ _ off (c.clocks-last.ensures.event ∙ (λ k. (c.in-Ok-open.ensures.ok k).event_clock)) c.after-events.ensures.concrete)
-    (new-queries config text _ _ off (c.clocks-last.ensures.query ∙ (λ k. (c.in-Ok-open.ensures.ok k).query_clock)) c.after-queries.ensures.concrete) c.behind-2.ensures.concrete
+    (new-events config text _ off (λ k. (c.in-Ok-open.ensures.ok k).event_clock)) (new-queries config text _ off (λ k. (c.in-Ok-open.ensures.ok k).query_clock)) c.with_nothing_kept.ensures.concrete
 
 seal-failed : (fault : SealFault) → open_fault_of fault ≡ opens.SinkFault → fault ≡ seals.SinkFault
 seal-failed seals.OutOfMemory is = absurd (cc is)

@@ -1,7 +1,0 @@
-use Rattle.serf_agent.proofs.Names.{◌≡◌, flat_map, take}
-use Rattle.serf_snap.specs.Compaction.{counted}
-use Rattle.serf_agent.specs.KeptTexts.{line_of_event}
-use Rattle.serf_agent.proofs.told_lengths.events_length.Given as goal
-
-abbrev pub invariant-loop-event : goal.invariant-loop-event
-invariant-loop-event l = l.total ≡ counted (flat_map (line_of_event l.time) (take l.event-index l.held))

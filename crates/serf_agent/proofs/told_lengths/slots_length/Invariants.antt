@@ -1,0 +1,12 @@
+use Rattle.serf_agent.proofs.Names.{◌≡◌, ◌≤◌, ◌+◌, ◌-◌, ◌^◌, flat_map, length, min}
+use Rattle.serf_wire.specs.Buffers.{slots_to_come}
+use Rattle.serf_snap.specs.Compaction.{counted}
+use Rattle.serf_agent.specs.KeptLines.{lines_of_slot}
+use Rattle.serf_agent.proofs.told_lengths.slots_length.Given as goal
+
+abbrev pub invariant-loop-slot : goal.invariant-loop-slot
+invariant-loop-slot g l =
+    let line = g.K.Told.line in record {
+      counts : min (l.total + length (flat_map (lines_of_slot line l.least) (slots_to_come l.slot-iterator))) (2 ^ 64 - 1) ≡ counted (flat_map (lines_of_slot line l.least) (slots_to_come l.fn.slots));
+      fits : l.total ≤ 2 ^ 64 - 1;
+    }
