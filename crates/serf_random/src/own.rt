@@ -32,13 +32,9 @@ pub(crate) fn act(
                 now: player.moment(),
             },
         }),
-        Verb::Save => Ok(Action::Of {
+        Verb::Lone(lone) => Ok(Action::Of {
             agent: player.agent(),
-            act: Act::Save,
-        }),
-        Verb::Compact => Ok(Action::Of {
-            agent: player.agent(),
-            act: Act::Compact,
+            act: lone.act(),
         }),
         _ => fire(alloc, player, world),
     }

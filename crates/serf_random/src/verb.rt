@@ -2,9 +2,10 @@
 
 use crate::kind::Kind;
 use crate::verb::Verb::{
-    Answer, Ask, Break, Close, Compact, Event, Exchange, Fire, Foreign, Merge, Pass, Query, Repeat,
-    Respond, Restart, Save, Spelled, Spoil, State,
+    Answer, Ask, Break, Close, Event, Exchange, Fire, Foreign, Merge, Pass, Query, Repeat, Respond,
+    Restart, Spelled, Spoil, State,
 };
+use serf_schedule::Lone;
 
 /// What a player does next.
 #[derive(Clone, Copy)]
@@ -43,16 +44,20 @@ pub(crate) enum Verb {
     Foreign,
     /// An agent closes its open queries.
     Close,
-    /// An agent writes its member clock.
-    Save,
-    /// An agent compacts its snapshot.
-    Compact,
+    /// An agent does what a word says that stands alone.
+    Lone(Lone),
 }
+
+/// An agent writes its member clock.
+const SAVE: Verb = Verb::Lone(Lone::Save);
+
+/// An agent compacts its snapshot.
+const COMPACT: Verb = Verb::Lone(Lone::Compact);
 
 const MIXED: [Verb; 28] = [
     Fire, Fire, Pass, Pass, Pass, Pass, Repeat, Repeat, Exchange, Merge, Ask, Respond, Restart,
     Break, Event, Event, Query, Answer, Answer, State, Spoil, Spelled, Spelled, Spelled, Foreign,
-    Close, Save, Compact,
+    Close, SAVE, COMPACT,
 ];
 
 const TINY: [Verb; 12] = [
@@ -64,12 +69,12 @@ const MERGES: [Verb; 12] = [
 ];
 
 const RESTARTS: [Verb; 14] = [
-    Fire, Fire, Pass, Pass, Repeat, Repeat, Restart, Restart, Exchange, Ask, Respond, Save, Event,
+    Fire, Fire, Pass, Pass, Repeat, Repeat, Restart, Restart, Exchange, Ask, Respond, SAVE, Event,
     Query,
 ];
 
 const DEVICES: [Verb; 14] = [
-    Fire, Fire, Pass, Repeat, Break, Break, Break, Restart, Restart, Exchange, Ask, Save, Compact,
+    Fire, Fire, Pass, Repeat, Break, Break, Break, Restart, Restart, Exchange, Ask, SAVE, COMPACT,
     Event,
 ];
 
@@ -88,13 +93,13 @@ const LIMITS: [Verb; 10] = [
 ];
 
 const EXHAUSTION: [Verb; 12] = [
-    Event, Event, Query, State, Fire, Fire, Ask, Ask, Restart, Exchange, Save, Repeat,
+    Event, Event, Query, State, Fire, Fire, Ask, Ask, Restart, Exchange, SAVE, Repeat,
 ];
 
 const PER_TIME: [Verb; 8] = [Event, Event, Event, Query, State, Repeat, Exchange, Restart];
 
 const COMPACTIONS: [Verb; 12] = [
-    Fire, Fire, Pass, Ask, Save, Compact, Compact, Compact, Break, Restart, Restart, Event,
+    Fire, Fire, Pass, Ask, SAVE, COMPACT, COMPACT, COMPACT, Break, Restart, Restart, Event,
 ];
 
 const GOSSIP: [Verb; 16] = [
@@ -104,12 +109,12 @@ const GOSSIP: [Verb; 16] = [
 
 const SPELLINGS: [Verb; 20] = [
     Spelled, Spelled, Spelled, Spelled, Spelled, Spelled, Spelled, Spelled, Foreign, Foreign, Fire,
-    Ask, Respond, Repeat, Merge, Exchange, Close, Save, Break, Restart,
+    Ask, Respond, Repeat, Merge, Exchange, Close, SAVE, Break, Restart,
 ];
 
 const KEPT: [Verb; 26] = [
     Fire, Fire, Fire, Pass, Pass, Pass, Repeat, Repeat, Exchange, Exchange, Merge, Ask, Ask, Event,
-    Event, Query, Query, State, Save, Break, Compact, Compact, Restart, Restart, Restart, Restart,
+    Event, Query, Query, State, SAVE, Break, COMPACT, COMPACT, Restart, Restart, Restart, Restart,
 ];
 
 /// What a player of this kind does, each as often as it stands here. Rounds are walked, and never played.

@@ -21,7 +21,7 @@ pub use keys::EventKey;
 pub use laws::answered_lines;
 pub use replaying::Replaying;
 pub use serf_schedule::{
-    Command, ReplayFault, Schedule, ScheduleFault, Unwatched, Verb, Watch, answer_words,
+    Command, Lone, ReplayFault, Schedule, ScheduleFault, Unwatched, Verb, Watch, answer_words,
     command_in, lines_grow, lines_stay, parse_schedule, put_action, put_answer, read_schedule_line,
     show_trace, sink_call, sized_schedules, told_schedules,
 };

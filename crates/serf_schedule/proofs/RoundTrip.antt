@@ -4,8 +4,9 @@ use Rattle.std.specs.List.{All}
 use Rattle.serf_model.specs.declared.action.Act.TheVariants as acts
 use Rattle.serf_model.specs.declared.action.Action.TheVariants.{Inject, Of}
 use Rattle.serf_model.specs.Runs.{NoneBadIsSound}
+use Rattle.serf_schedule.specs.Command.{verb_word}
 use Rattle.serf_schedule.specs.Sayable.{AreSayable, HasByteName, IsActSayable, IsSayable}
-use Rattle.serf_schedule.specs.ScheduleText.{act_words, action_text, action_words, agent_text, agent_words, flags_of, join_word, mode_word, schedule_text, sink_call_word, spaced, verb_word}
+use Rattle.serf_schedule.specs.ScheduleText.{act_words, action_text, action_words, agent_text, agent_words, flags_of, join_word, mode_word, schedule_text, sink_call_word, spaced}
 use Rattle.serf_schedule.proofs.ActionsBack.{action-back}
 use Rattle.serf_schedule.proofs.LinesBack.{body, line-off, words-back}
 use Rattle.serf_schedule.specs.Comments.{IsWord}

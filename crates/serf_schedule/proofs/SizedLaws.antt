@@ -2,8 +2,9 @@
 use Rattle.serf_schedule.proofs.Names.{◌≡◌, ◌≤◌, ◌&&◌, ℕ, Bool, true, false, cond, nat_lt, nat_le, List, [], Option, Some, None, Ok, refl, arith, pos, and_parts, nat_tests, fits, QueryParams, HasSizes}
 use Rattle.std.specs.Prelude.{All, codes}
 use Rattle.serf_model.specs.declared.action.Act.{Act as Deed}
+use Rattle.serf_schedule.specs.declared.command.Lone.TheVariants.{State}
 use Rattle.serf_schedule.specs.declared.command.Verb.{Verb}
-use Rattle.serf_schedule.specs.declared.command.Verb.TheVariants.{Deliver, Fire, Merge, Respond, Restart, Break, Close}
+use Rattle.serf_schedule.specs.declared.command.Verb.TheVariants.{Deliver, Fire, Merge, Respond, Restart, Break, Close, Lone}
 use Rattle.serf_text.specs.Words.{between, bytes_in, choice_in, number_between, number_in, number_of, or_bad, word_at}
 use Rattle.serf_schedule.specs.Sinks.{sink_call_in}
 use Rattle.serf_schedule.specs.Line.{Parsed, act_of, answer_of, break_of, closing_of, delivery_of, filters_from, firing_of, injection_of, merging_of, params_of, query_of, restart_of}
@@ -62,6 +63,7 @@ sized-act Respond words = next-ok IsActSized (number_in 3 words) _ (λ handed. n
 sized-act Restart words = next-ok IsActSized (bytes_in 3 words) _ (λ tail agent. tt)
 sized-act Break words = next-ok IsActSized (sink_call_in 3 words) _ (λ call. next-ok IsActSized (number_between 1 18446744073709551615 4 words) _ (λ count agent. tt))
 sized-act Close words = next-ok IsActSized (number_in 3 words) _ (λ now agent. tt)
+sized-act (Lone State) words = λ agent. tt
 sized-act _ words = λ agent. tt
 
 sized-injection : (words : List (List ℕ)) → AllOk HasSizes (injection_of words)

@@ -10,8 +10,9 @@ use Rattle.serf_agent.specs.KeptTexts.{IsTold}
 use Rattle.serf_model.specs.Tails.{BringsTold}
 use Rattle.serf_model.specs.Trace.{events_in_packet}
 use Rattle.serf_model.specs.declared.action.Act.{Act as Deed}
+use Rattle.serf_schedule.specs.declared.command.Lone.TheVariants.{State}
 use Rattle.serf_schedule.specs.declared.command.Verb.{Verb}
-use Rattle.serf_schedule.specs.declared.command.Verb.TheVariants.{Deliver, Fire, Merge, Respond, Restart, Break, Close}
+use Rattle.serf_schedule.specs.declared.command.Verb.TheVariants.{Deliver, Fire, Merge, Respond, Restart, Break, Close, Lone}
 use Rattle.serf_text.specs.Words.{bytes_in, bytes_of, choice_in, number_between, number_in, or_bad, word_at}
 use Rattle.serf_schedule.specs.Sinks.{sink_call_in}
 use Rattle.serf_schedule.specs.Line.{Parsed, act_of, answer_of, break_of, closing_of, delivery_of, firing_of, injection_of, merging_of, params_of, query_of, restart_of}
@@ -61,6 +62,7 @@ told-act Respond words = next-ok IsActTold (number_in 3 words) _ (λ handed. nex
 told-act Restart words = next-ok IsActTold (bytes_in 3 words) _ (λ tail agent. tt)
 told-act Break words = next-ok IsActTold (sink_call_in 3 words) _ (λ call. next-ok IsActTold (number_between 1 18446744073709551615 4 words) _ (λ count agent. tt))
 told-act Close words = next-ok IsActTold (number_in 3 words) _ (λ now agent. tt)
+told-act (Lone State) words = λ agent. tt
 told-act _ words = λ agent. tt
 
 told-injection : ((packet : List ℕ) → IsBytes packet → All (λ e. IsTold e.key) (events_in_packet packet)) → (words : List (List ℕ)) → AllOk BringsTold (injection_of words)

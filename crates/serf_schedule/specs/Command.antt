@@ -1,26 +1,41 @@
--- The first word of a line.
+-- The first word of a line, read and written.
 use Rattle.std.specs.Prelude.{ℕ, List, if◌then◌else◌, codes, Option, Some, None}
 use Rattle.std.specs.Option.{option_map}
 use Rattle.std.specs.Str.{bytes_eq}
+use Rattle.serf_model.specs.declared.action.Act.{Act as Deed}
+use Rattle.serf_model.specs.declared.action.Act.TheVariants as acts
 use Rattle.serf_schedule.specs.declared.command.Command.{Command}
 use Rattle.serf_schedule.specs.declared.command.Command.TheVariants.{Agent, Inject, Query, Act}
+use Rattle.serf_schedule.specs.declared.command.Lone.{Lone}
+use Rattle.serf_schedule.specs.declared.command.Lone.TheVariants as lones
 use Rattle.serf_schedule.specs.declared.command.Verb.{Verb}
-use Rattle.serf_schedule.specs.declared.command.Verb.TheVariants.{Deliver, Fire, State, Merge, Respond, Restart, Break, Close, Save, Compact}
+use Rattle.serf_schedule.specs.declared.command.Verb.TheVariants as verbs
+
+-- what an agent does by a word that stands alone
+abbrev pub lone_of : List ℕ → Option Lone
+lone_of word =
+    if bytes_eq word (codes "state") then Some lones.State
+    else if bytes_eq word (codes "save") then Some lones.Save
+    else if bytes_eq word (codes "compact") then Some lones.Compact
+    else None
+
+-- what its agent does
+abbrev pub lone_act : Lone → Deed
+lone_act lones.State = acts.State
+lone_act lones.Save = acts.Save
+lone_act lones.Compact = acts.Compact
 
 -- what an agent does, by a word
 abbrev pub verb_of : List ℕ → Option Verb
 verb_of word =
-    if bytes_eq word (codes "deliver") then Some Deliver
-    else if bytes_eq word (codes "fire") then Some Fire
-    else if bytes_eq word (codes "state") then Some State
-    else if bytes_eq word (codes "merge") then Some Merge
-    else if bytes_eq word (codes "respond") then Some Respond
-    else if bytes_eq word (codes "restart") then Some Restart
-    else if bytes_eq word (codes "break") then Some Break
-    else if bytes_eq word (codes "close") then Some Close
-    else if bytes_eq word (codes "save") then Some Save
-    else if bytes_eq word (codes "compact") then Some Compact
-    else None
+    if bytes_eq word (codes "deliver") then Some verbs.Deliver
+    else if bytes_eq word (codes "fire") then Some verbs.Fire
+    else if bytes_eq word (codes "merge") then Some verbs.Merge
+    else if bytes_eq word (codes "respond") then Some verbs.Respond
+    else if bytes_eq word (codes "restart") then Some verbs.Restart
+    else if bytes_eq word (codes "break") then Some verbs.Break
+    else if bytes_eq word (codes "close") then Some verbs.Close
+    else option_map (λ lone. verbs.Lone lone) (lone_of word)
 
 -- the command that a word names
 unfoldable pub command_of : List ℕ → Option Command
@@ -32,13 +47,25 @@ command_of word =
 
 -- how many words its line has, the command and the agent among them
 abbrev pub count_of : Verb → ℕ
-count_of State = 2
-count_of Save = 2
-count_of Compact = 2
-count_of Restart = 3
-count_of Close = 3
-count_of Deliver = 4
-count_of Merge = 4
-count_of Break = 4
-count_of Fire = 5
-count_of Respond = 5
+count_of (verbs.Lone lone) = 2
+count_of verbs.Restart = 3
+count_of verbs.Close = 3
+count_of verbs.Deliver = 4
+count_of verbs.Merge = 4
+count_of verbs.Break = 4
+count_of verbs.Fire = 5
+count_of verbs.Respond = 5
+
+-- the word of what an agent does
+abbrev pub verb_word : Deed → List ℕ
+verb_word (acts.Fire name payload coalesce) = codes "fire"
+verb_word (acts.Deliver packet now) = codes "deliver"
+verb_word acts.State = codes "state"
+verb_word (acts.Merge packet join) = codes "merge"
+verb_word (acts.Query q) = codes "query"
+verb_word (acts.Respond handed now payload) = codes "respond"
+verb_word (acts.Restart tail) = codes "restart"
+verb_word (acts.Break call count) = codes "break"
+verb_word (acts.Close now) = codes "close"
+verb_word acts.Save = codes "save"
+verb_word acts.Compact = codes "compact"

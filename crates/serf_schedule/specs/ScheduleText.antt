@@ -11,6 +11,7 @@ use Rattle.serf_model.specs.declared.action.Action.{Action}
 use Rattle.serf_model.specs.declared.action.Action.TheVariants as actions
 use Rattle.serf_model.specs.declared.action.SinkCall.{SinkCall}
 use Rattle.serf_model.specs.declared.action.SinkCall.TheVariants.{Append, Flush, ReplaceOld, ReplaceNew}
+pub use Rattle.serf_schedule.specs.Command.{verb_word}
 use Rattle.serf_schedule.specs.Line.{Parsed}
 use Rattle.serf_text.specs.TextParts.{flag_text, hex_text}
 
@@ -45,19 +46,6 @@ limit_words c =
 
 abbrev pub config_words : Config → List (List ℕ)
 config_words c = hex_text c.name ∷ decimal c.event_buffer ∷ decimal c.query_buffer ∷ decimal c.event_limit ∷ decimal c.responders ∷ mode_word c ∷ decimal c.per_time ∷ limit_words c
-
-abbrev pub verb_word : Act → List ℕ
-verb_word (acts.Fire name payload coalesce) = codes "fire"
-verb_word (acts.Deliver packet now) = codes "deliver"
-verb_word acts.State = codes "state"
-verb_word (acts.Merge packet join) = codes "merge"
-verb_word (acts.Query q) = codes "query"
-verb_word (acts.Respond handed now payload) = codes "respond"
-verb_word (acts.Restart tail) = codes "restart"
-verb_word (acts.Break call count) = codes "break"
-verb_word (acts.Close now) = codes "close"
-verb_word acts.Save = codes "save"
-verb_word acts.Compact = codes "compact"
 
 -- a packet by its bytes, where these are given, else by its number
 abbrev pub packet_word : Option (List ℕ) → ℕ → List ℕ

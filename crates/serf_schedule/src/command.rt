@@ -1,8 +1,9 @@
-//! The first word of a line.
+//! The first word of a line, read and written.
 
 ghost use Rattle.std.specs.Prelude.{◌≡◌};
-ghost use Rattle.serf_schedule.specs.Command.{verb_of, command_of, count_of};
+ghost use Rattle.serf_schedule.specs.Command.{lone_of, lone_act, verb_of, command_of, count_of, verb_word};
 
+use serf_model::Act;
 use serf_text::is_word;
 
 /// What a line is about.
@@ -23,14 +24,35 @@ pub enum Command {
 pub enum Verb {
     Deliver,
     Fire,
-    State,
     Merge,
     Respond,
     Restart,
     Break,
     Close,
+    /// What a word says that stands alone.
+    Lone(Lone),
+}
+
+/// What an agent does by a word that stands alone: its line has the agent behind it, and nothing else.
+#[derive(Clone, Copy, Debug, PartialEq, Eq)]
+pub enum Lone {
+    State,
     Save,
     Compact,
+}
+
+fn lone_in(word: &[u8]) -> Option<Lone>
+    ensures { result ≡ lone_of word.now }
+{
+    if is_word(word, b"state") {
+        Some(Lone::State)
+    } else if is_word(word, b"save") {
+        Some(Lone::Save)
+    } else if is_word(word, b"compact") {
+        Some(Lone::Compact)
+    } else {
+        None
+    }
 }
 
 fn verb_in(word: &[u8]) -> Option<Verb>
@@ -40,8 +62,6 @@ fn verb_in(word: &[u8]) -> Option<Verb>
         Some(Verb::Deliver)
     } else if is_word(word, b"fire") {
         Some(Verb::Fire)
-    } else if is_word(word, b"state") {
-        Some(Verb::State)
     } else if is_word(word, b"merge") {
         Some(Verb::Merge)
     } else if is_word(word, b"respond") {
@@ -52,12 +72,11 @@ fn verb_in(word: &[u8]) -> Option<Verb>
         Some(Verb::Break)
     } else if is_word(word, b"close") {
         Some(Verb::Close)
-    } else if is_word(word, b"save") {
-        Some(Verb::Save)
-    } else if is_word(word, b"compact") {
-        Some(Verb::Compact)
     } else {
-        None
+        match lone_in(word) {
+            Some(lone) => Some(Verb::Lone(lone)),
+            None => None,
+        }
     }
 }
 
@@ -86,10 +105,42 @@ impl Verb {
         ensures { result ≡ count_of self }
     {
         match self {
-            Verb::State | Verb::Save | Verb::Compact => 2,
+            Verb::Lone(_) => 2,
             Verb::Restart | Verb::Close => 3,
             Verb::Deliver | Verb::Merge | Verb::Break => 4,
             Verb::Fire | Verb::Respond => 5,
         }
+    }
+}
+
+impl Lone {
+    /// What its agent does. Takes no memory.
+    pub fn act(self) -> Act
+        ensures { result ≡ lone_act self }
+    {
+        match self {
+            Lone::State => Act::State,
+            Lone::Save => Act::Save,
+            Lone::Compact => Act::Compact,
+        }
+    }
+}
+
+/// The word of what an agent does. Takes no memory.
+pub fn verb_word(act: &Act) -> &'static [u8]
+    ensures { result.now ≡ verb_word act.now }
+{
+    match act {
+        Act::Fire { .. } => b"fire",
+        Act::Deliver { .. } => b"deliver",
+        Act::State => b"state",
+        Act::Merge { .. } => b"merge",
+        Act::Query(_) => b"query",
+        Act::Respond { .. } => b"respond",
+        Act::Restart { .. } => b"restart",
+        Act::Break { .. } => b"break",
+        Act::Close { .. } => b"close",
+        Act::Save => b"save",
+        Act::Compact => b"compact",
     }
 }

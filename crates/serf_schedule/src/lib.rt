@@ -17,7 +17,7 @@ mod whole;
 mod written_lines;
 mod written_words;
 
-pub use command::{Command, Verb, command_in};
+pub use command::{Command, Lone, Verb, command_in, verb_word};
 pub use laws::{
     comments_skipped, lines_grow, lines_stay, sized_schedules, text_reads_back, told_schedules,
 };
@@ -29,7 +29,5 @@ pub use show::{answer_words, put_action, put_answer, show_trace};
 pub use sinks::sink_call;
 pub use watch::{Unwatched, Watch};
 pub use whole::{know_read_back, put_schedule};
-pub use written_lines::{
-    put_act_words, put_action_line, put_agent_line, put_config_words, verb_word,
-};
+pub use written_lines::{put_act_words, put_action_line, put_agent_line, put_config_words};
 pub use written_words::{Word, put_line};

@@ -163,14 +163,12 @@ fn act(alloc: Global, verb: Verb, words: &[&[u8]]) -> Result<Act, LineFault>
     match verb {
         Verb::Deliver => delivery(words),
         Verb::Fire => firing(alloc, words),
-        Verb::State => Ok(Act::State),
         Verb::Merge => merging(words),
         Verb::Respond => answer(alloc, words),
         Verb::Restart => restarting(alloc, words),
         Verb::Break => breaking(words),
         Verb::Close => closing(words),
-        Verb::Save => Ok(Act::Save),
-        Verb::Compact => Ok(Act::Compact),
+        Verb::Lone(lone) => Ok(lone.act()),
     }
 }
 

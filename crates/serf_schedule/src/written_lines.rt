@@ -2,9 +2,10 @@
 
 ghost use Rattle.std.specs.Prelude.{◌≡◌, ◌++◌, OnOk};
 ghost use Rattle.std.specs.Option.{option_copied};
-ghost use Rattle.serf_schedule.specs.ScheduleText.{act_words, action_text, agent_text, config_words, limit_words, packet_word, spaced, verb_word};
+ghost use Rattle.serf_schedule.specs.ScheduleText.{act_words, action_text, agent_text, config_words, limit_words, packet_word, spaced};
 ghost use Rattle.serf_schedule.specs.Words.{word_text};
 
+use crate::command::verb_word;
 use crate::modes::mode_word;
 use crate::written_words::Word::{Hex, Number, Plain, Signed};
 use crate::written_words::{Word, flags, join, put_hex_words, put_line, put_words, sink_call};
@@ -54,25 +55,6 @@ pub fn put_agent_line(out: &mut Vec<u8>, config: &Config) -> Result<(), AllocErr
     out.extend_from_slice(b"agent")?;
     put_config_words(out, config)?;
     out.extend_from_slice(b"\n")
-}
-
-/// The word of what an agent does. Takes no memory.
-pub fn verb_word(act: &Act) -> &'static [u8]
-    ensures { result.now ≡ verb_word act.now }
-{
-    match act {
-        Act::Fire { .. } => b"fire",
-        Act::Deliver { .. } => b"deliver",
-        Act::State => b"state",
-        Act::Merge { .. } => b"merge",
-        Act::Query(_) => b"query",
-        Act::Respond { .. } => b"respond",
-        Act::Restart { .. } => b"restart",
-        Act::Break { .. } => b"break",
-        Act::Close { .. } => b"close",
-        Act::Save => b"save",
-        Act::Compact => b"compact",
-    }
 }
 
 /// A packet by its bytes, where these are given, else by its number.

@@ -5,11 +5,11 @@ use Rattle.std.specs.Option.{is_some}
 use Rattle.std.specs.Str.{bytes_eq}
 use Rattle.serf_agent.specs.declared.config.Config.{Config}
 use Rattle.serf_model.specs.declared.action.Act.{Act}
-use Rattle.serf_model.specs.declared.action.Act.TheVariants as acts
 use Rattle.serf_model.specs.declared.action.Action.{Action}
 use Rattle.serf_model.specs.Cluster.{run_of}
 use Rattle.serf_schedule.specs.declared.command.Verb.{Verb as ScheduleVerb}
 use Rattle.serf_schedule.specs.declared.command.Verb.TheVariants as verbs_of_schedules
+use Rattle.serf_schedule.specs.Command.{lone_act}
 use Rattle.serf_schedule.specs.Line.{Parsed}
 use Rattle.serf_text.specs.Words.{number_of}
 use Rattle.serf_write.specs.declared.fault.Fault.{Fault}
@@ -39,14 +39,12 @@ sent_count configs actions = length (run_of configs actions).cluster.sent
 abbrev pub act_of : ScheduleVerb → List Label → List Piece → Result Act Fault
 act_of verbs_of_schedules.Deliver labels pieces = delivery_of labels pieces
 act_of verbs_of_schedules.Fire labels pieces = firing_of pieces
-act_of verbs_of_schedules.State labels pieces = lone_of acts.State pieces
 act_of verbs_of_schedules.Merge labels pieces = merging_of labels pieces
 act_of verbs_of_schedules.Respond labels pieces = answer_of pieces
 act_of verbs_of_schedules.Restart labels pieces = restart_of pieces
 act_of verbs_of_schedules.Break labels pieces = break_of pieces
 act_of verbs_of_schedules.Close labels pieces = closing_of pieces
-act_of verbs_of_schedules.Save labels pieces = lone_of acts.Save pieces
-act_of verbs_of_schedules.Compact labels pieces = lone_of acts.Compact pieces
+act_of (verbs_of_schedules.Lone lone) labels pieces = lone_of (lone_act lone) pieces
 
 -- the actions of a line, where so many packets were sent before it
 abbrev pub acts_of : Verb → List Config → List Label → ℕ → List Piece → Result (List Action) Fault

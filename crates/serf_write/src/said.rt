@@ -36,14 +36,12 @@ fn act(
     match verb {
         ReplayVerb::Deliver => delivery(labels, pieces),
         ReplayVerb::Fire => firing(alloc, pieces),
-        ReplayVerb::State => lone(Act::State, pieces),
         ReplayVerb::Merge => merging(labels, pieces),
         ReplayVerb::Respond => answer(alloc, pieces),
         ReplayVerb::Restart => restarting(alloc, pieces),
         ReplayVerb::Break => breaking(pieces),
         ReplayVerb::Close => closing(pieces),
-        ReplayVerb::Save => lone(Act::Save, pieces),
-        ReplayVerb::Compact => lone(Act::Compact, pieces),
+        ReplayVerb::Lone(verb) => lone(verb.act(), pieces),
     }
 }
 
