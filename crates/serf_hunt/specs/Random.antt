@@ -1,5 +1,5 @@
 -- Random schedules.
-use Rattle.std.specs.Prelude.{◌≡◌, ◌≤◌, ◌++◌, Ok, length}
+use Rattle.std.specs.Prelude.{◌≡◌, ◌≤◌, ◌++◌, false, Ok, length}
 use Rattle.serf_schedule.specs.Line.{Parsed}
 use Rattle.serf_schedule.specs.Schedule.{schedule_of}
 use Rattle.serf_random.specs.declared.ask.Ask.{Ask}
@@ -8,5 +8,5 @@ use Rattle.serf_schedule.specs.ScheduleText.{schedule_text}
 
 -- a schedule that reads back after the comment of what was asked for, with at most so many actions
 pub record IsRandom (ask : Ask) (p : Parsed) : Type 0 where
-  pub reads_back : schedule_of (comment_text ask ++ schedule_text p) ≡ Ok p
+  pub reads_back : schedule_of (comment_text false ask ++ schedule_text p) ≡ Ok p
   pub few : length p.actions ≤ ask.actions

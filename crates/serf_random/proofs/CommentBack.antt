@@ -1,129 +1,126 @@
 -- The text of a random schedule, whose first line is a comment, read back.
-use Rattle.std.proofs.Common.{◌≡◌, ◌+◌, ◌≤◌, ℕ, Bool, true, false, List, [], ◌∷◌, ◌++◌, length, Ok, refl, arith, length-append}
-use Rattle.std.specs.Prelude.{codes, drop}
+use Rattle.std.proofs.Common.{◌≡◌, ◌+◌, ◌<◌, ◌≤◌, ◌^◌, ℕ, Bool, true, false, List, [], ◌∷◌, ◌++◌, length, Ok, refl, arith, length-append}
+use Rattle.std.specs.Prelude.{codes, decimal}
 use Rattle.std.specs.List.{AllByRecursion}
 use Rattle.std.proofs.lemmas.Fmt.{length-decimal-le}
+use Rattle.std.proofs.lemmas.List.Concat.{flat_map-append}
 use Rattle.serf_schedule.specs.Line.{Parsed}
 use Rattle.serf_schedule.specs.Schedule.{schedule_of}
 use Rattle.serf_schedule.specs.Comments.{CommentsAreSkipped, IsWord, NumbersAreWords}
 use Rattle.serf_random.specs.declared.ask.Ask.{Ask}
 use Rattle.serf_random.specs.declared.kind.Kind.{Kind}
 use Rattle.serf_random.specs.declared.kind.Kind.TheVariants as kinds
-use Rattle.serf_schedule.specs.ScheduleText.{line_text, spaced}
-use Rattle.serf_random.specs.Comment.{asked_words, comment_text, comment_words, rounds_words}
+use Rattle.serf_schedule.specs.ScheduleText.{spaced}
+use Rattle.serf_random.specs.Comment.{asked_words, comment_text, comment_words, rules_words, seed_words, size_words, spread_of, spread_words}
 use Rattle.serf_random.specs.Draft.{HasNumbers, IsShort}
 use Rattle.serf_random.specs.Kind.{is_rounds, kind_name}
 
-kind-plain : (k : Kind) → IsWord (kind_name k)
-kind-plain kinds.Mixed = record { some = omega arith; plain = refl }
-kind-plain kinds.Tiny = record { some = omega arith; plain = refl }
-kind-plain kinds.Merges = record { some = omega arith; plain = refl }
-kind-plain kinds.Restarts = record { some = omega arith; plain = refl }
-kind-plain kinds.Devices = record { some = omega arith; plain = refl }
-kind-plain kinds.Injections = record { some = omega arith; plain = refl }
-kind-plain kinds.Queries = record { some = omega arith; plain = refl }
-kind-plain kinds.Limits = record { some = omega arith; plain = refl }
-kind-plain kinds.Exhaustion = record { some = omega arith; plain = refl }
-kind-plain kinds.PerTime = record { some = omega arith; plain = refl }
-kind-plain kinds.Compactions = record { some = omega arith; plain = refl }
-kind-plain kinds.Gossip = record { some = omega arith; plain = refl }
-kind-plain kinds.Spellings = record { some = omega arith; plain = refl }
-kind-plain kinds.Kept = record { some = omega arith; plain = refl }
-kind-plain kinds.Rounds = record { some = omega arith; plain = refl }
+-- words of a line, which have so many bytes at most with a space before each
+record AreWords (most : ℕ) (words : List (List ℕ)) : Type 0 where
+  plain : AllByRecursion IsWord words
+  few : length (spaced words) ≤ most
 
-kind-short : (k : Kind) → length (kind_name k) ≤ 20
-kind-short kinds.Mixed = omega arith
-kind-short kinds.Tiny = omega arith
-kind-short kinds.Merges = omega arith
-kind-short kinds.Restarts = omega arith
-kind-short kinds.Devices = omega arith
-kind-short kinds.Injections = omega arith
-kind-short kinds.Queries = omega arith
-kind-short kinds.Limits = omega arith
-kind-short kinds.Exhaustion = omega arith
-kind-short kinds.PerTime = omega arith
-kind-short kinds.Compactions = omega arith
-kind-short kinds.Gossip = omega arith
-kind-short kinds.Spellings = omega arith
-kind-short kinds.Kept = omega arith
-kind-short kinds.Rounds = omega arith
+both-plain : (xs ys : List (List ℕ)) → AllByRecursion IsWord xs → AllByRecursion IsWord ys → AllByRecursion IsWord (xs ++ ys)
+both-plain [] ys p q = q
+both-plain (x ∷ xs) ys p q = (p.0, both-plain xs ys p.1 q)
 
-rounds-plain : NumbersAreWords → (is : Bool) (ask : Ask) (behind : List (List ℕ)) → HasNumbers ask → AllByRecursion IsWord behind
-    → AllByRecursion IsWord (rounds_words is ask behind)
-rounds-plain number-word true ask behind h rest = (
-  record { some = omega arith; plain = refl },
-  (
-    number-word ask.fanout h.3,
+both : (m n : ℕ) (xs ys : List (List ℕ)) → AreWords m xs → AreWords n ys → AreWords (m + n) (xs ++ ys)
+both m n xs ys p q =
+    let spaces = length-append (spaced xs) (spaced ys) in
+    record {
+      plain = both-plain xs ys p.plain q.plain;
+      few = rw (flat_map-append (λ (word : List ℕ). codes " " ++ word) xs ys) (omega (arith, spaces, p.few, q.few));
+    }
+
+-- a word and its number
+pair : NumbersAreWords → (word : List ℕ) (n : ℕ) → IsWord word → length word ≤ 9 → n < 2 ^ 64 → AreWords 31 (word ∷ decimal n ∷ [])
+pair number-word word n is few below =
+    let digits = length-decimal-le 20 n (omega arith) (omega (arith, below)) below in
+    record { plain = (is, (number-word n below, tt)); few = simp length-append (omega (arith, few, digits)) }
+
+kind-word : (k : Kind) → IsWord (kind_name k) × (length (kind_name k) ≤ 20)
+kind-word kinds.Mixed = (record { some = omega arith; plain = refl }, omega arith)
+kind-word kinds.Tiny = (record { some = omega arith; plain = refl }, omega arith)
+kind-word kinds.Merges = (record { some = omega arith; plain = refl }, omega arith)
+kind-word kinds.Restarts = (record { some = omega arith; plain = refl }, omega arith)
+kind-word kinds.Devices = (record { some = omega arith; plain = refl }, omega arith)
+kind-word kinds.Injections = (record { some = omega arith; plain = refl }, omega arith)
+kind-word kinds.Queries = (record { some = omega arith; plain = refl }, omega arith)
+kind-word kinds.Limits = (record { some = omega arith; plain = refl }, omega arith)
+kind-word kinds.Exhaustion = (record { some = omega arith; plain = refl }, omega arith)
+kind-word kinds.PerTime = (record { some = omega arith; plain = refl }, omega arith)
+kind-word kinds.Compactions = (record { some = omega arith; plain = refl }, omega arith)
+kind-word kinds.Gossip = (record { some = omega arith; plain = refl }, omega arith)
+kind-word kinds.Spellings = (record { some = omega arith; plain = refl }, omega arith)
+kind-word kinds.Kept = (record { some = omega arith; plain = refl }, omega arith)
+kind-word kinds.Rounds = (record { some = omega arith; plain = refl }, omega arith)
+
+-- The parts of the comment
+
+seed-part : NumbersAreWords → (ask : Ask) → HasNumbers ask → AreWords 60 (seed_words ask)
+unfolding seed_words
+seed-part number-word ask h =
+    let kind = kind-word ask.kind in
+    both 31 29 _ (codes "--kind" ∷ kind_name ask.kind ∷ [])
+    (pair number-word (codes "random") ask.seed (record { some = omega arith; plain = refl }) (omega arith) h.0)
+    (record { plain = (record { some = omega arith; plain = refl }, (kind.0, tt)); few = simp length-append (omega (arith, kind.1)) })
+
+size-part : NumbersAreWords → (ask : Ask) → HasNumbers ask → AreWords 62 (size_words ask)
+unfolding size_words
+size-part number-word ask h =
+    both 31 31 _ _
+    (pair number-word (codes "--agents") ask.agents (record { some = omega arith; plain = refl }) (omega arith) h.1)
+    (pair number-word (codes "--actions") ask.actions (record { some = omega arith; plain = refl }) (omega arith) h.2)
+
+spread-by : NumbersAreWords → (is : Bool) (ask : Ask) → HasNumbers ask → AreWords 93 (spread_of is ask)
+spread-by number-word true ask h =
+    both 31 62 _ _
+    (pair number-word (codes "--fanout") ask.fanout (record { some = omega arith; plain = refl }) (omega arith) h.3)
     (
-      record { some = omega arith; plain = refl },
-      (number-word ask.loss h.4, (record { some = omega arith; plain = refl }, (number-word ask.rounds h.5, rest))),
-    ),
-  ),
-)
-rounds-plain number-word false ask behind h rest = rest
+    both 31 31 _ _
+    (pair number-word (codes "--loss") ask.loss (record { some = omega arith; plain = refl }) (omega arith) h.4)
+    (pair number-word (codes "--rounds") ask.rounds (record { some = omega arith; plain = refl }) (omega arith) h.5)
+    )
+spread-by number-word false ask h = record { plain = tt; few = omega arith }
 
-pub asked-plain : NumbersAreWords → (ask : Ask) (behind : List (List ℕ)) → HasNumbers ask → AllByRecursion IsWord behind
-    → AllByRecursion IsWord (asked_words ask behind)
-asked-plain number-word ask behind h rest = (
-  record { some = omega arith; plain = refl },
-  (
-    record { some = omega arith; plain = refl },
-    (
-      number-word ask.seed h.0,
-      (
-        record { some = omega arith; plain = refl },
-        (
-          kind-plain ask.kind,
-          (
-            record { some = omega arith; plain = refl },
-            (
-              number-word ask.agents h.1,
-              (
-                record { some = omega arith; plain = refl },
-                (number-word ask.actions h.2, rounds-plain number-word (is_rounds ask.kind) ask behind h rest),
-              ),
-            ),
-          ),
-        ),
-      ),
-    ),
-  ),
-)
+spread-part : NumbersAreWords → (ask : Ask) → HasNumbers ask → AreWords 93 (spread_words ask)
+unfolding spread_words
+spread-part number-word ask h = spread-by number-word (is_rounds ask.kind) ask h
 
-rounds-short : (is : Bool) (ask : Ask) (behind : List (List ℕ)) → HasNumbers ask
-    → length (spaced (rounds_words is ask behind)) ≤ length (spaced behind) + 100
-rounds-short true ask behind h =
-    let fanout = length-decimal-le 20 ask.fanout (omega arith) (omega (arith, h.3)) h.3 in
-    let loss = length-decimal-le 20 ask.loss (omega arith) (omega (arith, h.4)) h.4 in
-    let rounds = length-decimal-le 20 ask.rounds (omega arith) (omega (arith, h.5)) h.5 in
-    simp length-append (omega (arith, fanout, loss, rounds))
-rounds-short false ask behind h = omega arith
+rules-part : (is_common : Bool) → AreWords 13 (rules_words is_common)
+rules-part true = record {
+  plain = (record { some = omega arith; plain = refl }, (record { some = omega arith; plain = refl }, tt));
+  few = omega arith;
+}
+rules-part false = record { plain = tt; few = omega arith }
 
--- what was asked for, in front of a few words
-pub asked-short : (ask : Ask) (behind : List (List ℕ)) → HasNumbers ask → length (spaced behind) ≤ 100
-    → IsShort (line_text (asked_words ask behind))
-asked-short ask behind h few =
-    let kind = kind-short ask.kind in
-    let seed = length-decimal-le 20 ask.seed (omega arith) (omega (arith, h.0)) h.0 in
-    let agents = length-decimal-le 20 ask.agents (omega arith) (omega (arith, h.1)) h.1 in
-    let actions = length-decimal-le 20 ask.actions (omega arith) (omega (arith, h.2)) h.2 in
-    let rounds = rounds-short (is_rounds ask.kind) ask behind h in
-    simp length-append (omega (arith, kind, seed, agents, actions, rounds, few))
+version-part : AreWords 10 (codes "version" ∷ codes "3" ∷ [])
+version-part = record {
+  plain = (record { some = omega arith; plain = refl }, (record { some = omega arith; plain = refl }, tt));
+  few = omega arith;
+}
 
-pub comment-short : (ask : Ask) → HasNumbers ask → IsShort (comment_text ask)
+-- The comment
+
+asked-part : NumbersAreWords → (ask : Ask) → HasNumbers ask → AreWords 215 (asked_words ask)
+unfolding asked_words
+asked-part number-word ask h =
+    both 122 93 _ _ (both 60 62 _ _ (seed-part number-word ask h) (size-part number-word ask h)) (spread-part number-word ask h)
+
+comment-parts : NumbersAreWords → (is_common : Bool) (ask : Ask) → HasNumbers ask → AreWords 238 (comment_words is_common ask)
+comment-parts number-word is_common ask h =
+    both 228 10 _ _ (both 215 13 _ _ (asked-part number-word ask h) (rules-part is_common)) version-part
+
+pub comment-short : NumbersAreWords → (is_common : Bool) (ask : Ask) → HasNumbers ask → IsShort (comment_text is_common ask)
 unfolding comment_text
-comment-short ask h = asked-short ask (codes "version" ∷ codes "3" ∷ []) h (omega arith)
-
-comment-plain : NumbersAreWords → (ask : Ask) → HasNumbers ask → AllByRecursion IsWord (comment_words ask)
-comment-plain number-word ask h =
-    asked-plain number-word ask (codes "version" ∷ codes "3" ∷ []) h (record { some = omega arith; plain = refl }, (record { some = omega arith; plain = refl }, tt))
-
-abbrev words_behind : Ask → List (List ℕ)
-words_behind ask = drop 1 (comment_words ask)
+comment-short number-word is_common ask h =
+    let few = (comment-parts number-word is_common ask h).few in
+    omega (arith, few, length-append (spaced (comment_words is_common ask)) (codes "\n"))
 
 -- a text behind the comment stands for what it stood for
-pub behind-comment : CommentsAreSkipped → NumbersAreWords → (ask : Ask) (text : List ℕ) (p : Parsed) → HasNumbers ask → schedule_of text ≡ Ok p
-    → schedule_of (comment_text ask ++ text) ≡ Ok p
+pub behind-comment : CommentsAreSkipped → NumbersAreWords → (is_common : Bool) (ask : Ask) (text : List ℕ) (p : Parsed) → HasNumbers ask
+    → schedule_of text ≡ Ok p → schedule_of (comment_text is_common ask ++ text) ≡ Ok p
 unfolding comment_text
-behind-comment comments-skipped number-word ask text p h back =
-    comments-skipped [] (words_behind ask) text p (comment-plain number-word ask h) back
+behind-comment skipped number-word is_common ask text p h back =
+    let plain = (comment-parts number-word is_common ask h).plain in
+    skipped [] (comment_words is_common ask) text p (record { some = omega arith; plain = refl }, plain) back

@@ -1,4 +1,3 @@
 pub mod CommentBack
-pub mod CommonBack
 pub mod CutLemmas
 pub mod DraftLemmas

@@ -1,14 +1,8 @@
 //! What a random schedule is asked for.
 
-ghost use Rattle.std.specs.Prelude.{◌≡◌, ◌++◌, false, true, OnOk};
-ghost use Rattle.serf_random.specs.Comment.{comment_text};
 ghost use Rattle.serf_random.specs.Draft.{HasNumbers};
-ghost use Rattle.serf_random.specs.Kind.{is_rounds};
 
 use crate::kind::Kind;
-use serf_schedule::Word::{Number, Plain};
-use serf_schedule::put_line;
-use std::alloc::AllocError;
 
 /// The version of the generator. Another one may make other schedules of the same seed.
 pub const VERSION: u64 = 3;
@@ -56,72 +50,4 @@ pub(crate) fn know_numbers(ask: &Ask)
     let _fanout = ask.fanout;
     let _loss = ask.loss;
     let _rounds = ask.rounds;
-}
-
-/// The comment of a schedule of rounds.
-#[tactic(auto, unfolding(crate::specs::Comment::comment_text))]
-fn put_rounds_comment(out: &mut Vec<u8>, ask: &Ask) -> Result<(), AllocError>
-    requires { is_rounds ask.now.kind ≡ true }
-    ensures { OnOk result (out.new.items ≡ out.old.items ++ comment_text ask.now) }
-{
-    let Ask {
-        seed,
-        kind,
-        agents,
-        actions,
-        fanout,
-        loss,
-        rounds,
-    } = *ask;
-    let words = [
-        Plain(b"random"),
-        Number(seed),
-        Plain(b"--kind"),
-        Plain(kind.name()),
-        Plain(b"--agents"),
-        Number(agents),
-        Plain(b"--actions"),
-        Number(actions),
-        Plain(b"--fanout"),
-        Number(fanout),
-        Plain(b"--loss"),
-        Number(loss),
-        Plain(b"--rounds"),
-        Number(rounds),
-        Plain(b"version"),
-        Plain(b"3"),
-    ];
-    put_line(out, b"#", &words)
-}
-
-/// The comment of a schedule of another kind.
-#[tactic(auto, unfolding(crate::specs::Comment::comment_text))]
-fn put_plain_comment(out: &mut Vec<u8>, ask: &Ask) -> Result<(), AllocError>
-    requires { is_rounds ask.now.kind ≡ false }
-    ensures { OnOk result (out.new.items ≡ out.old.items ++ comment_text ask.now) }
-{
-    let words = [
-        Plain(b"random"),
-        Number(ask.seed),
-        Plain(b"--kind"),
-        Plain(ask.kind.name()),
-        Plain(b"--agents"),
-        Number(ask.agents),
-        Plain(b"--actions"),
-        Number(ask.actions),
-        Plain(b"version"),
-        Plain(b"3"),
-    ];
-    put_line(out, b"#", &words)
-}
-
-/// Appends the comment that says what was asked for.
-pub(crate) fn put_comment(out: &mut Vec<u8>, ask: &Ask) -> Result<(), AllocError>
-    ensures { OnOk result (out.new.items ≡ out.old.items ++ comment_text ask.now) }
-{
-    if ask.kind.is_rounds() {
-        put_rounds_comment(out, ask)
-    } else {
-        put_plain_comment(out, ask)
-    }
 }

@@ -1,9 +1,10 @@
 //! A whole schedule that keeps to Serf's own rules.
 
-ghost use Rattle.std.specs.Prelude.{◌≡◌, ◌≤◌, ◌++◌, IfOk, Ok, length};
+ghost use Rattle.std.specs.Prelude.{◌≡◌, ◌≤◌, ◌++◌, true, IfOk, Ok, length};
 ghost use Rattle.serf_schedule.specs.Schedule.{parsed_of, schedule_of};
 ghost use Rattle.serf_schedule.specs.ScheduleText.{schedule_text};
-ghost use Rattle.serf_random.specs.Common.{AreCommon, comment_text};
+ghost use Rattle.serf_random.specs.Comment.{comment_text};
+ghost use Rattle.serf_random.specs.Common.{AreCommon};
 
 use crate::agents::add_agents;
 use crate::ask::{Ask, know_numbers};
@@ -46,7 +47,7 @@ pub fn common_schedule(alloc: Global, ask: &Ask) -> Result<Made, AllocError>
     ensures common { IfOk result (λ made. AreCommon (parsed_of made.schedule)) }
     ensures reads_back { IfOk result (λ made. schedule_of made.text.items
         ≡ Ok (parsed_of made.schedule)) }
-    ensures text { IfOk result (λ made. made.text.items ≡ comment_text ask.now
+    ensures text { IfOk result (λ made. made.text.items ≡ comment_text true ask.now
         ++ schedule_text (parsed_of made.schedule)) }
     ensures few { IfOk result (λ made. length made.schedule.actions.items ≤ ask.now.actions) }
     ensures short { IfOk result (λ made. length made.text.items ≤ MAX_SCHEDULE_BYTES) }
@@ -55,7 +56,7 @@ pub fn common_schedule(alloc: Global, ask: &Ask) -> Result<Made, AllocError>
     let Made { schedule, .. } = made;
     let Schedule { agents, actions } = schedule;
     let mut text = Vec::new(alloc);
-    put_comment(&mut text, ask)?;
+    put_comment(&mut text, ask, true)?;
     let agents = add_agents(alloc, &mut text, without_kept(alloc, agents)?)?;
     let left = in_rounds(alloc, &agents, actions)?;
     let kept = add_common(alloc, agents.try_clone(alloc)?, left, &mut text)?;

@@ -1,13 +1,14 @@
 //! A whole random schedule.
 
-ghost use Rattle.std.specs.Prelude.{◌≡◌, ◌≤◌, ◌++◌, [], All, IfOk, Ok, length};
+ghost use Rattle.std.specs.Prelude.{◌≡◌, ◌≤◌, ◌++◌, [], All, IfOk, Ok, false, length};
 ghost use Rattle.std.specs.List.{flat_map};
 ghost use Rattle.serf_schedule.specs.Schedule.{parsed_of, schedule_of};
 ghost use Rattle.serf_random.specs.Comment.{comment_text};
 ghost use Rattle.serf_random.specs.Draft.{AddsActions};
 ghost use Rattle.serf_schedule.specs.ScheduleText.{schedule_text};
 
-use crate::ask::{Ask, know_numbers, put_comment};
+use crate::ask::{Ask, know_numbers};
+use crate::comment::put_comment;
 use crate::course::add_course;
 use crate::player::Player;
 use crate::settings::add_agents;
@@ -49,17 +50,18 @@ fn add_actions(
 ///
 /// The text begins with a comment that says what was asked for. It stands for just the settings and the actions that
 /// were made, so that it is never refused. It has at most so many actions as were asked for, and at most 16,777,216
-/// bytes: where the next action's line has no room, it ends. A schedule of rounds ends after its last round too. `AllocError` comes where memory runs out.
+/// bytes: where the next action's line has no room, it ends. A schedule of rounds ends after its last round too.
+/// `AllocError` comes where memory runs out.
 pub fn random_schedule(alloc: Global, ask: &Ask) -> Result<Made, AllocError>
     ensures reads_back { IfOk result (λ made. schedule_of made.text.items
         ≡ Ok (parsed_of made.schedule)) }
-    ensures text { IfOk result (λ made. made.text.items ≡ comment_text ask.now
+    ensures text { IfOk result (λ made. made.text.items ≡ comment_text false ask.now
         ++ schedule_text (parsed_of made.schedule)) }
     ensures few { IfOk result (λ made. length made.schedule.actions.items ≤ ask.now.actions) }
     ensures short { IfOk result (λ made. length made.text.items ≤ MAX_SCHEDULE_BYTES) }
 {
     let mut text = Vec::new(alloc);
-    put_comment(&mut text, ask)?;
+    put_comment(&mut text, ask, false)?;
     let agents = add_agents(alloc, ask, &mut text)?;
     let actions = add_actions(alloc, ask, agents.try_clone(alloc)?, &mut text)?;
     let schedule = Schedule { agents, actions };

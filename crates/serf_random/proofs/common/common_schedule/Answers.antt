@@ -1,24 +1,24 @@
-use Rattle.std.proofs.Common.{◌≡◌, ◌++◌, ◌∙◌, ap, append_assoc, subst, sym}
+use Rattle.std.proofs.Common.{◌≡◌, ◌++◌, ◌∙◌, true, ap, append_assoc, subst, sym}
 use Rattle.std.specs.List.{flat_map}
 use Rattle.serf_schedule.specs.Schedule.{schedule_of}
 use Rattle.serf_random.specs.Draft.{IsShort}
 use Rattle.serf_schedule.specs.ScheduleText.{action_text, agent_text}
-use Rattle.serf_random.specs.Common.{comment_text}
-use Rattle.serf_random.proofs.CommonBack.{behind-comment, comment-short}
+use Rattle.serf_random.specs.Comment.{comment_text}
+use Rattle.serf_random.proofs.CommentBack.{behind-comment, comment-short}
 use Rattle.serf_random.proofs.common.common_schedule.Goals as goal
 
 pub returns-clause-reads_back : goal.returns-clause-reads_back
 returns-clause-reads_back c =
-    let first : c.put_comment.new.out.items ≡ comment_text c.args.ask.now = rw c.new-text.ensures.items at c.in_ok-put_comment.ensures in
+    let first : c.put_comment.new.out.items ≡ comment_text true c.args.ask.now = rw c.new-text.ensures.items at c.in_ok-put_comment.ensures in
     let kept = c.in_ok-kept.ensures.kept in
-    let text : c.add_common.new.text.items ≡ comment_text c.args.ask.now ++ (flat_map agent_text c.in_ok-agents.agents ++ flat_map action_text c.in_ok-kept.kept.items) =
+    let text : c.add_common.new.text.items ≡ comment_text true c.args.ask.now ++ (flat_map agent_text c.in_ok-agents.agents ++ flat_map action_text c.in_ok-kept.kept.items) =
     kept.text_is
     ∙ ap (λ t. t ++ flat_map action_text c.in_ok-kept.kept.items) (c.in_ok-agents.ensures.text ∙ ap (λ t. t ++ flat_map agent_text c.in_ok-agents.agents) first)
-    ∙ append_assoc (comment_text c.args.ask.now) (flat_map agent_text c.in_ok-agents.agents) (flat_map action_text c.in_ok-kept.kept.items) in
+    ∙ append_assoc (comment_text true c.args.ask.now) (flat_map agent_text c.in_ok-agents.agents) (flat_map action_text c.in_ok-kept.kept.items) in
     ap schedule_of text
-    ∙ behind-comment c.comments_skipped.ensures.skipped c.comments_skipped.ensures.numbers c.args.ask.now _ _ c.know_numbers.ensures (c.know_read_back.ensures kept.sayable)
+    ∙ behind-comment c.comments_skipped.ensures.skipped c.comments_skipped.ensures.numbers true c.args.ask.now _ _ c.know_numbers.ensures (c.know_read_back.ensures kept.sayable)
 
 pub returns-clause-short : goal.returns-clause-short
 returns-clause-short c =
-    let first : c.put_comment.new.out.items ≡ comment_text c.args.ask.now = rw c.new-text.ensures.items at c.in_ok-put_comment.ensures in
-    c.in_ok-kept.ensures.kept.short (c.in_ok-agents.ensures.short (subst IsShort (sym first) (comment-short c.args.ask.now c.know_numbers.ensures)))
+    let first : c.put_comment.new.out.items ≡ comment_text true c.args.ask.now = rw c.new-text.ensures.items at c.in_ok-put_comment.ensures in
+    c.in_ok-kept.ensures.kept.short (c.in_ok-agents.ensures.short (subst IsShort (sym first) (comment-short c.comments_skipped.ensures.numbers true c.args.ask.now c.know_numbers.ensures)))
