@@ -4,7 +4,7 @@ use crate::ending::{COMMAND_LINE, bad_schedule_line, no_memory};
 use hex::FromHexError;
 use serf_agent::Config;
 use serf_schedule::{Schedule, ScheduleFault, parse_schedule};
-use std::alloc::Global;
+use std::alloc::{AllocError, Global};
 
 /// The number of the agent with this name.
 fn number_of(agents: &[Config], name: &[u8]) -> Option<u64> {
@@ -18,20 +18,24 @@ fn number_of(agents: &[Config], name: &[u8]) -> Option<u64> {
     None
 }
 
+/// The bytes that a word spells in hex; `None` where it spells none.
+fn hex_name(alloc: Global, word: &str) -> Result<Option<Vec<u8>>, AllocError> {
+    match hex::decode(alloc, word) {
+        Ok(name) => Ok(Some(name)),
+        Err(FromHexError::OutOfMemory) => Err(AllocError),
+        Err(_) => Ok(None),
+    }
+}
+
 /// The number of the agent whose name is this word, or else the bytes that it spells in hex.
-fn number_of_word(
-    alloc: Global,
-    agents: &[Config],
-    word: &str,
-) -> Result<Option<u64>, FromHexError> {
+fn number_of_word(alloc: Global, agents: &[Config], word: &str) -> Result<Option<u64>, AllocError> {
     let plain = number_of(agents, word.as_bytes());
     if plain.is_some() {
         return Ok(plain);
     }
-    match hex::decode(alloc, word) {
-        Ok(name) => Ok(number_of(agents, &name)),
-        Err(FromHexError::OutOfMemory) => Err(FromHexError::OutOfMemory),
-        Err(_) => Ok(None),
+    match hex_name(alloc, word)? {
+        Some(name) => Ok(number_of(agents, &name)),
+        None => Ok(None),
     }
 }
 
@@ -79,6 +83,22 @@ fn schedule_in<R: Eprint + AllocGlobal>(
     }
 }
 
+/// The numbers of the agents that words name; or the status of a refusal, which standard error says.
+fn numbers_of<R: Eprint + AllocGlobal>(
+    rt: &R,
+    agents: &[Config],
+    words: &[&str],
+) -> Result<Vec<u64>, u8> {
+    let mut numbers = Vec::new(rt.alloc());
+    for word in words {
+        let number = found(rt, agents, word)?;
+        if numbers.push(number).is_err() {
+            return Err(no_memory(rt));
+        }
+    }
+    Ok(numbers)
+}
+
 /// The numbers of the agents that words name, of the schedule in a text; or the status of a fault, or of a refusal, which
 /// standard error says.
 pub(crate) fn agents_of<R: Eprint + AllocGlobal>(
@@ -89,12 +109,5 @@ pub(crate) fn agents_of<R: Eprint + AllocGlobal>(
     words: &[&str],
 ) -> Result<Vec<u64>, u8> {
     let schedule = schedule_in(rt, is_terminal, file, text)?;
-    let mut numbers = Vec::new(rt.alloc());
-    for word in words {
-        let number = found(rt, schedule.agents.as_slice(), word)?;
-        if numbers.push(number).is_err() {
-            return Err(no_memory(rt));
-        }
-    }
-    Ok(numbers)
+    numbers_of(rt, schedule.agents.as_slice(), words)
 }

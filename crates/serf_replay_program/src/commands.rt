@@ -40,18 +40,43 @@ fn with_command<'a>(
     program?.subcommand(command?)
 }
 
-/// The whole program; help shows the commands in this order.
-fn program<'a>(alloc: Global) -> Result<Command<'a>, AllocError> {
-    let program = with_command(bare_program(alloc), replay::command(alloc));
+/// The commands that run schedules, show what came of them, or write them.
+fn with_runs<'a>(
+    alloc: Global,
+    program: Result<Command<'a>, AllocError>,
+) -> Result<Command<'a>, AllocError> {
+    let program = with_command(program, replay::command(alloc));
     let program = with_command(program, explain::command(alloc));
     let program = with_command(program, draw::command(alloc));
-    let program = with_command(program, write::command(alloc));
+    with_command(program, write::command(alloc))
+}
+
+/// The commands that look at agents of any make.
+fn with_agents<'a>(
+    alloc: Global,
+    program: Result<Command<'a>, AllocError>,
+) -> Result<Command<'a>, AllocError> {
     let program = with_command(program, judge::command(alloc));
     let program = with_command(program, conform::command(alloc));
-    let program = with_command(program, random::command(alloc));
+    with_command(program, random::command(alloc))
+}
+
+/// The commands that read and write bytes.
+fn with_bytes<'a>(
+    alloc: Global,
+    program: Result<Command<'a>, AllocError>,
+) -> Result<Command<'a>, AllocError> {
     let program = with_command(program, decode::command(alloc));
     let program = with_command(program, encode::command(alloc));
     with_command(program, clocks::command(alloc))
+}
+
+/// The whole program; help shows the commands in this order.
+fn program<'a>(alloc: Global) -> Result<Command<'a>, AllocError> {
+    with_bytes(
+        alloc,
+        with_agents(alloc, with_runs(alloc, bare_program(alloc))),
+    )
 }
 
 /// What clap finds in the words, of which the first is the program's name.

@@ -19,7 +19,7 @@ use clap::builder::ValueParser;
 use clap::{ArgMatches, Command};
 use holding::hold_file;
 use hunting::hold_seeds;
-use seeds::seeds_of;
+use seeds::{BadSeeds, seeds_of};
 use serf_conform::Rules;
 use shrinking::Shrinking;
 use std::alloc::{AllocError, Global};
@@ -145,6 +145,21 @@ fn asked_of<'a>(matches: &ArgMatches<'a>, is_terminal: bool) -> Result<Asked<'a>
     })
 }
 
+/// Holds an agent against the schedules of the seeds in a word.
+fn hold_random<F: Files, R: Clock + Input + Print + Eprint + AllocGlobal>(
+    files: &F,
+    rt: &R,
+    word: &str,
+    matches: &ArgMatches,
+    asked: &Asked,
+) -> u8 {
+    match seeds_of(word, matches) {
+        Ok(seeds) => hold_seeds(files, rt, &seeds, asked),
+        Err(BadSeeds::Kind) => bad_word(rt, "kind", KINDS_OR_ALL),
+        Err(BadSeeds::Option(name)) => bad_option(rt, name),
+    }
+}
+
 /// Holds agents against a schedule, or an agent against those of seeds.
 fn hold_asked<F: Files, R: Clock + Input + Print + Eprint + AllocGlobal>(
     files: &F,
@@ -155,11 +170,7 @@ fn hold_asked<F: Files, R: Clock + Input + Print + Eprint + AllocGlobal>(
     match (matches.get_str("FILE"), matches.get_str("random")) {
         (Some(file), None) => hold_file(files, rt, file, asked),
         (None, Some(_)) if asked.agent.is_some() => bad_option(rt, "agent"),
-        (None, Some(word)) => match seeds_of(word, matches) {
-            Ok(seeds) => hold_seeds(files, rt, &seeds, asked),
-            Err("kind") => bad_word(rt, "kind", KINDS_OR_ALL),
-            Err(name) => bad_option(rt, name),
-        },
+        (None, Some(word)) => hold_random(files, rt, word, matches, asked),
         (Some(_), Some(_)) => bad_words(rt, "a schedule and --random: give one of them"),
         (None, None) => bad_words(rt, "no calls: give a schedule, or seeds as --random A-B"),
     }

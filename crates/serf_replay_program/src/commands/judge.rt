@@ -122,6 +122,24 @@ fn judge_snapshot<F: Files, R: Eprint + AllocGlobal>(
         .map_err(|_| no_memory(rt))
 }
 
+/// Judges a log, and what the snapshots that are named leave open; or gives the status of a fault.
+fn judge_log<F: Files, R: Eprint + AllocGlobal>(
+    files: &F,
+    rt: &R,
+    matches: &ArgMatches,
+    verdicts: &mut Verdicts<'_>,
+    log: &Log,
+) -> Result<(), u8> {
+    verdicts
+        .judge(rt.alloc(), log, matches.get_flag("missed"))
+        .map_err(|_| no_memory(rt))?;
+    let kept = matches.get_strs("kept").unwrap_or(&[]);
+    for word in kept {
+        judge_snapshot(files, rt, verdicts, log, word)?;
+    }
+    Ok(())
+}
+
 fn verdicts_on<'a, F: Files, R: Input + Print + Eprint + AllocGlobal>(
     files: &F,
     rt: &R,
@@ -131,13 +149,7 @@ fn verdicts_on<'a, F: Files, R: Input + Print + Eprint + AllocGlobal>(
     let mut places = Places::new(rt.alloc());
     let log = logs_of(files, rt, names, &mut places)?;
     let mut verdicts = Verdicts::new(rt.alloc(), places);
-    verdicts
-        .judge(rt.alloc(), &log, matches.get_flag("missed"))
-        .map_err(|_| no_memory(rt))?;
-    let kept = matches.get_strs("kept").unwrap_or(&[]);
-    for word in kept {
-        judge_snapshot(files, rt, &mut verdicts, &log, word)?;
-    }
+    judge_log(files, rt, matches, &mut verdicts, &log)?;
     Ok(verdicts)
 }
 

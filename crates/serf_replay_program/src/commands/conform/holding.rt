@@ -2,7 +2,7 @@
 
 use super::Asked;
 use super::heard::{Heard, SILENT, is_silent};
-use super::report::{report, status_of};
+use super::report::{Held, report, status_of};
 use super::reporting::Reporting;
 use super::shrinking::{is_shrunk, shrink_found};
 use crate::ending::{DEVICE, DONE, REFUSED, bad_schedule_line, no_memory};
@@ -54,7 +54,14 @@ fn hold_agent<F: Files, R: Clock + Eprint + AllocGlobal, I: Read, O: Write>(
         Err(fault) => return Err(fault_told(rt, number, fault, reader.has_any)),
     };
     reporting.counts = with_verdict(reporting.counts, &verdict);
-    let status = report(rt, reporting, None, text, case, number, &verdict);
+    let held = Held {
+        seed: None,
+        text,
+        case,
+        agent: number,
+        verdict: &verdict,
+    };
+    let status = report(rt, reporting, &held);
     if is_shrunk(&asked.shrinking, &verdict) {
         return Err(shrink_found(files, rt, asked, case, number, &verdict, reader, writer));
     }

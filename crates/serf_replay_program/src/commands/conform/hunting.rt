@@ -2,7 +2,7 @@
 
 use super::Asked;
 use super::heard::{Heard, SILENT, is_silent};
-use super::report::{report, status_of};
+use super::report::{Held, report, status_of};
 use super::reporting::Reporting;
 use super::seeds::{KINDS, Seeds};
 use super::shrinking::{is_shrunk, shrink_found};
@@ -10,6 +10,7 @@ use crate::ending::{DEVICE, DONE, REFUSED, no_memory};
 use crate::progress::Progress;
 use serf_hunt::{Case, Found, HuntFault, Hunted, RandomSchedules, case_of, hunt, sum_of};
 use serf_random::{Ask, Kind, random_schedule};
+use serf_schedule::Watch;
 use std::alloc::{AllocError, Global};
 use std::io::{self, BufReader, Read, Write};
 use std::rt::Files;
@@ -99,7 +100,14 @@ fn tell_found<F: Files, R: Clock + Eprint + AllocGlobal, I: Read, O: Write>(
         return no_memory(rt);
     };
     let (agent, verdict) = (other.agent, &other.verdict);
-    let status = report(rt, reporting, Some(*seed), &text, &case, agent, verdict);
+    let held = Held {
+        seed: Some(*seed),
+        text: &text,
+        case: &case,
+        agent,
+        verdict,
+    };
+    let status = report(rt, reporting, &held);
     if !is_shrunk(&asked.shrinking, verdict) {
         return status;
     }
@@ -141,6 +149,31 @@ fn fault_told(rt: &impl Eprint, part: &Part, fault: &HuntFault, has_any: bool) -
     status_of(fault)
 }
 
+/// What a hunt over the seeds of a kind that are left comes to, which the sums then have; or the status of its fault.
+fn hunted_on<R: Eprint + AllocGlobal, W: Watch, I: Read, O: Write>(
+    rt: &R,
+    end: u64,
+    part: &Part,
+    asked: &Asked,
+    reporting: &mut Reporting,
+    progress: &mut W,
+    reader: &mut Heard<I>,
+    writer: &mut O,
+) -> Result<Hunted, u8> {
+    let maker = RandomSchedules(part.ask);
+    let (alloc, rules, first) = (rt.alloc(), asked.rules, part.next);
+    match hunt(alloc, &maker, reader, writer, rules, first, end, progress) {
+        Ok(hunted) => {
+            reporting.counts = sum_of(reporting.counts, hunted.counts);
+            Ok(hunted)
+        }
+        Err(fault) => {
+            reporting.has_fault = true;
+            Err(fault_told(rt, part, &fault, reader.has_any))
+        }
+    }
+}
+
 /// Holds an agent against the seeds of a kind that are left, up to the first that it does otherwise on, and reports what
 /// came of it.
 fn hold_on<F: Files, R: Clock + Eprint + AllocGlobal, I: Read, O: Write>(
@@ -154,25 +187,10 @@ fn hold_on<F: Files, R: Clock + Eprint + AllocGlobal, I: Read, O: Write>(
     reader: &mut Heard<I>,
     writer: &mut O,
 ) -> Came {
-    let maker = RandomSchedules(part.ask);
-    let (rules, first) = (asked.rules, part.next);
-    let hunted = match hunt(
-        rt.alloc(),
-        &maker,
-        reader,
-        writer,
-        rules,
-        first,
-        end,
-        progress,
-    ) {
+    let hunted = match hunted_on(rt, end, part, asked, reporting, progress, reader, writer) {
         Ok(hunted) => hunted,
-        Err(fault) => {
-            reporting.has_fault = true;
-            return Came::Ended(fault_told(rt, part, &fault, reader.has_any));
-        }
+        Err(status) => return Came::Ended(status),
     };
-    reporting.counts = sum_of(reporting.counts, hunted.counts);
     let Some(found) = &hunted.found else {
         part.held_to(end, &hunted);
         return Came::Held(tell_end(rt, part));

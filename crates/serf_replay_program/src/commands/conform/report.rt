@@ -9,7 +9,8 @@ use serf_conform::{
     put_call, put_open, put_reply_line, wanted,
 };
 use serf_hunt::Case;
-use serf_model::Line;
+use serf_model::{Action, Line};
+use serf_wire::Bytes;
 use std::alloc::{AllocError, Global};
 
 /// A byte as it is shown: one that is no printable ASCII as `?`.
@@ -108,34 +109,57 @@ fn sent_before(lines: &[Line], number: u64) -> usize {
     count
 }
 
-/// The text of the call at which a verdict stands, and the reply that is wanted of it.
-fn call_and_wanted(
+/// An agent that was held, and its verdict.
+#[derive(Clone, Copy)]
+pub(super) struct Held<'a> {
+    /// The seed of the schedule; `None` where it is of a file.
+    pub(super) seed: Option<u64>,
+    /// The schedule's text.
+    pub(super) text: &'a [u8],
+    pub(super) case: &'a Case,
+    pub(super) agent: u64,
+    pub(super) verdict: &'a Verdict,
+}
+
+impl Held<'_> {
+    /// The line of the action at which the verdict stands, counted from 1; 0 where it stands at the opening, or behind the
+    /// last action.
+    pub(super) fn line(&self) -> u64 {
+        let number = self.verdict.action;
+        if number == 0 || number > self.case.actions.len() as u64 {
+            return 0;
+        }
+        line_of_action(self.text, self.case.configs.len(), number)
+    }
+}
+
+/// The text of the call that opens an agent, and the reply that is wanted of it.
+fn opening_and_wanted(
     alloc: Global,
     case: &Case,
     agent: u64,
-    number: u64,
 ) -> Result<(Vec<u8>, Reply), AllocError> {
     let mut call = Vec::new(alloc);
-    let place = (number as usize).saturating_sub(1);
-    let lines = case.trace.lines.as_slice();
-    match (case.actions.get(place), lines.get(place)) {
-        (Some(action), Some(line)) if number > 0 => {
-            let sent = case.trace.sent.as_slice();
-            let count = sent_before(lines, number).min(sent.len());
-            let given = given_packet(action, &sent[..count]).unwrap_or(&[]);
-            put_call(&mut call, action, given)?;
-            let own = line.sent.as_slice().len().min(sent.len() - count);
-            let reply = wanted(alloc, line, given, &sent[count..count + own])?;
-            Ok((call, reply))
-        }
-        _ => {
-            if let Some(config) = case.configs.get(agent as usize) {
-                put_open(&mut call, config, &[])?;
-            }
-            let reply = opening(alloc)?;
-            Ok((call, reply))
-        }
+    if let Some(config) = case.configs.get(agent as usize) {
+        put_open(&mut call, config, &[])?;
     }
+    let reply = opening(alloc)?;
+    Ok((call, reply))
+}
+
+/// The text of the call of an action, behind which these lines and packets came, and the reply that is wanted of it.
+fn action_and_wanted(
+    alloc: Global,
+    action: &Action,
+    before: &[Bytes],
+    line: &Line,
+    own: &[Bytes],
+) -> Result<(Vec<u8>, Reply), AllocError> {
+    let mut call = Vec::new(alloc);
+    let given = given_packet(action, before).unwrap_or(&[]);
+    put_call(&mut call, action, given)?;
+    let reply = wanted(alloc, line, given, own)?;
+    Ok((call, reply))
 }
 
 /// The text of a look, and the reply that is wanted of it.
@@ -145,67 +169,102 @@ fn look_and_wanted(alloc: Global, look: &Look) -> Result<(Vec<u8>, Reply), Alloc
     Ok((call, reply))
 }
 
+/// The text of the call at which a verdict stands, and the reply that is wanted of it.
+fn call_and_wanted(alloc: Global, held: &Held) -> Result<(Vec<u8>, Reply), AllocError> {
+    let Held {
+        case,
+        agent,
+        verdict,
+        ..
+    } = *held;
+    if let Some(look) = &verdict.look {
+        return look_and_wanted(alloc, look);
+    }
+    let Some(place) = verdict.action.checked_sub(1) else {
+        return opening_and_wanted(alloc, case, agent);
+    };
+    let (lines, sent) = (case.trace.lines.as_slice(), case.trace.sent.as_slice());
+    let (Some(action), Some(line)) = (case.actions.get(place as usize), lines.get(place as usize))
+    else {
+        return opening_and_wanted(alloc, case, agent);
+    };
+    let count = sent_before(lines, verdict.action).min(sent.len());
+    let own = line.sent.as_slice().len().min(sent.len() - count);
+    action_and_wanted(
+        alloc,
+        action,
+        &sent[..count],
+        line,
+        &sent[count..count + own],
+    )
+}
+
 /// Where a call stands: its agent, and its action with the line of the schedule, or no action for the opening. A look
 /// stands after an action.
-fn place_text(
-    alloc: Global,
-    text: &[u8],
-    case: &Case,
-    agent: u64,
-    number: u64,
-    is_look: bool,
-) -> Result<String, AllocError> {
+fn place_text(alloc: Global, held: &Held) -> Result<String, AllocError> {
+    let (agent, number) = (held.agent, held.verdict.action);
     if number == 0 {
         return format!(in alloc; "agent {agent}: ");
     }
-    if number > case.actions.len() as u64 {
+    let line = held.line();
+    if line == 0 {
         return format!(in alloc; "agent {agent}: behind its last call: ");
     }
-    let behind = if is_look { "behind " } else { "" };
-    let line = line_of_action(text, case.configs.len(), number);
+    let behind = if held.verdict.look.is_some() {
+        "behind "
+    } else {
+        ""
+    };
     format!(in alloc; "agent {agent}: {behind}action {number}, line {line}: ")
 }
 
-/// The place of a call, and its words.
-fn head_of(alloc: Global, place: &str, call: &[u8]) -> Result<Vec<u8>, AllocError> {
-    let mut head = Vec::from_slice(alloc, place.as_bytes())?;
-    let words = call.len().saturating_sub(1);
-    head.extend_from_slice(&call[..words])?;
-    Ok(head)
+/// Prints the place of a call, and its words.
+fn say_head<R: Eprint + AllocGlobal>(rt: &R, held: &Held, words: &[u8]) -> Result<(), AllocError> {
+    let place = place_text(rt.alloc(), held)?;
+    let mut head = Vec::from_slice(rt.alloc(), place.as_bytes())?;
+    head.extend_from_slice(words)?;
+    say(rt, &head);
+    Ok(())
+}
+
+/// Prints what is wanted and what came, and how their packets differ.
+fn say_replies<R: Eprint + AllocGlobal>(
+    rt: &R,
+    wanted: &[u8],
+    got: &[u8],
+) -> Result<(), AllocError> {
+    say_lines(rt, b"  wanted: ", wanted)?;
+    say_reply(rt, got)?;
+    say_what_differs(rt, wanted, got)
 }
 
 /// Reports where an agent is told apart from the reference, and how, and adds it to the report.
 fn tell<R: Eprint + AllocGlobal>(
     rt: &R,
     reporting: &mut Reporting,
-    seed: Option<u64>,
-    text: &[u8],
-    case: &Case,
-    agent: u64,
-    verdict: &Verdict,
+    held: &Held,
     got: &[u8],
 ) -> Result<(), AllocError> {
-    let number = verdict.action;
-    let agents = case.configs.len();
-    let (call, reply) = match &verdict.look {
-        Some(look) => look_and_wanted(rt.alloc(), look)?,
-        None => call_and_wanted(rt.alloc(), case, agent, number)?,
-    };
-    let is_look = verdict.look.is_some();
-    let place = place_text(rt.alloc(), text, case, agent, number, is_look)?;
-    let head = head_of(rt.alloc(), &place, &call)?;
-    say(rt, &head);
-    let wanted = reply_text(rt.alloc(), &reply)?;
-    let line = if number == 0 || number > case.actions.len() as u64 {
-        0
-    } else {
-        line_of_action(text, agents, number)
-    };
+    let (call, reply) = call_and_wanted(rt.alloc(), held)?;
     let words = &call[..call.len().saturating_sub(1)];
-    reporting.add(seed, agent, line, words, &wanted, verdict);
-    say_lines(rt, b"  wanted: ", &wanted)?;
-    say_reply(rt, got)?;
-    say_what_differs(rt, &wanted, got)
+    say_head(rt, held, words)?;
+    let wanted = reply_text(rt.alloc(), &reply)?;
+    reporting.add(held, words, &wanted);
+    say_replies(rt, &wanted, got)
+}
+
+/// Reports an agent that did otherwise, and gives this status, or that of no memory.
+fn told<R: Eprint + AllocGlobal>(
+    rt: &R,
+    reporting: &mut Reporting,
+    held: &Held,
+    got: &[u8],
+    status: u8,
+) -> u8 {
+    match tell(rt, reporting, held, got) {
+        Ok(()) => status,
+        Err(_) => no_memory(rt),
+    }
 }
 
 /// What is printed in place of a reply, where the agent ended. The sums have its verdict already.
@@ -218,52 +277,31 @@ fn ended_words(reporting: &Reporting, verdict: &Verdict) -> &'static [u8] {
     }
 }
 
+/// Prints how many calls agree, and where it isn't all of them, why the others aren't compared.
+fn say_agreeing(rt: &impl Eprint, held: &Held, why: Option<&str>) -> u8 {
+    let agent = held.agent;
+    let Verdict { calls, action, .. } = held.verdict;
+    let _ = match why {
+        None => eprintln!(rt; "agent {agent}: {calls} calls agree"),
+        Some(why) => eprintln!(rt; "agent {agent}: {calls} calls agree; action {action} {why}"),
+    };
+    DONE
+}
+
 /// Prints a verdict, adds it to the report where the agent did otherwise, and gives its status.
 pub(super) fn report<R: Eprint + AllocGlobal>(
     rt: &R,
     reporting: &mut Reporting,
-    seed: Option<u64>,
-    text: &[u8],
-    case: &Case,
-    agent: u64,
-    verdict: &Verdict,
+    held: &Held,
 ) -> u8 {
-    let Verdict {
-        calls,
-        action,
-        end,
-        ..
-    } = verdict;
-    match end {
-        End::AllAgree => {
-            let _ = eprintln!(rt; "agent {agent}: {calls} calls agree");
-            DONE
-        }
-        End::OwnRule => {
-            let _ = eprintln!(rt;
-                "agent {agent}: {calls} calls agree; action {action} rests on an own rule"
-            );
-            DONE
-        }
-        End::Unsupported => {
-            let _ = eprintln!(rt;
-                "agent {agent}: {calls} calls agree; action {action} is unsupported"
-            );
-            DONE
-        }
-        End::Differs(got) => {
-            let got = got.as_slice();
-            match tell(rt, reporting, seed, text, case, agent, verdict, got) {
-                Ok(()) => REFUSED,
-                Err(_) => no_memory(rt),
-            }
-        }
+    match &held.verdict.end {
+        End::AllAgree => say_agreeing(rt, held, None),
+        End::OwnRule => say_agreeing(rt, held, Some("rests on an own rule")),
+        End::Unsupported => say_agreeing(rt, held, Some("is unsupported")),
+        End::Differs(got) => told(rt, reporting, held, got.as_slice(), REFUSED),
         End::Ended => {
-            let got = ended_words(reporting, verdict);
-            match tell(rt, reporting, seed, text, case, agent, verdict, got) {
-                Ok(()) => DEVICE,
-                Err(_) => no_memory(rt),
-            }
+            let got = ended_words(reporting, held.verdict);
+            told(rt, reporting, held, got, DEVICE)
         }
     }
 }

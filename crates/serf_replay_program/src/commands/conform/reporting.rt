@@ -1,7 +1,8 @@
 //! `conform --report`: what came of each agent, for machines, in a file.
 
+use super::report::Held;
 use crate::ending::{DEVICE, DONE, REFUSED, write_failed};
-use serf_conform::{End, Verdict};
+use serf_conform::End;
 use serf_hunt::{Counts, Disagreement, Sums, no_counts, put_disagreement, put_sums};
 use std::alloc::{AllocError, Global};
 use std::fs;
@@ -42,26 +43,19 @@ impl<'a> Reporting<'a> {
     }
 
     /// Adds where an agent did otherwise. Its reply stands in the verdict.
-    pub(super) fn add(
-        &mut self,
-        seed: Option<u64>,
-        agent: u64,
-        line: u64,
-        call: &[u8],
-        wanted: &[u8],
-        verdict: &Verdict,
-    ) {
+    pub(super) fn add(&mut self, held: &Held, call: &[u8], wanted: &[u8]) {
+        let verdict = held.verdict;
         let (got, has_ended): (&[u8], bool) = match &verdict.end {
             End::Differs(got) => (got.as_slice(), false),
             _ => (&[], true),
         };
         let told = Disagreement {
-            seed,
+            seed: held.seed,
             kind: self.kind,
-            agent,
+            agent: held.agent,
             agreed: verdict.calls,
             action: verdict.action,
-            line,
+            line: held.line(),
             call,
             wanted,
             got,

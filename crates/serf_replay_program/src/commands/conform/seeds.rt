@@ -62,19 +62,28 @@ fn ends_of(word: &str) -> Option<(u64, u64)> {
     Some((first, last.checked_add(1)?))
 }
 
-/// The seeds of this word, and what the words ask for of each; or the name of the option whose word is bad.
-pub(super) fn seeds_of(word: &str, matches: &ArgMatches) -> Result<Seeds, &'static str> {
-    let (first, end) = ends_of(word).ok_or("random")?;
+/// Why the words name no seeds.
+#[derive(Clone, Copy)]
+pub(super) enum BadSeeds {
+    /// The word of the kind is none of a kind.
+    Kind,
+    /// The word of the option with this name is bad.
+    Option(&'static str),
+}
+
+/// The seeds of this word, and what the words ask for of each.
+pub(super) fn seeds_of(word: &str, matches: &ArgMatches) -> Result<Seeds, BadSeeds> {
+    let (first, end) = ends_of(word).ok_or(BadSeeds::Option("random"))?;
     let are_of_all_kinds = matches.get_str("kind") == Some("all");
     let kind = if are_of_all_kinds {
         Kind::Mixed
     } else {
-        kind_of(matches).ok_or("kind")?
+        kind_of(matches).ok_or(BadSeeds::Kind)?
     };
     Ok(Seeds {
         first,
         end,
-        ask: ask_with(matches, first, kind)?,
+        ask: ask_with(matches, first, kind).map_err(BadSeeds::Option)?,
         are_of_all_kinds,
     })
 }

@@ -42,15 +42,22 @@ fn common_end(left: &[&str], right: &[&str]) -> usize {
     count
 }
 
+/// The first word of two lines and what is behind it in each, where both begin with the same word.
+fn behind_one_word<'a, 'b>(one: &'a str, other: &'b str) -> Option<(&'a str, &'a str, &'b str)> {
+    let (name, is) = one.split_once(' ')?;
+    let (second, was) = other.split_once(' ')?;
+    if name != second {
+        return None;
+    }
+    Some((name, is, was))
+}
+
 /// Prints a line that is another one than is wanted. Where both begin with one word, this word is said once.
 fn say_pair(rt: &impl Eprint, wanted: &str, got: &str) {
-    if let (Some((name, is)), Some((other, was))) = (wanted.split_once(' '), got.split_once(' '))
-        && name == other
-    {
-        let _ = eprintln!(rt; "  {name}: wanted {is}, got {was}");
-    } else {
-        let _ = eprintln!(rt; "  wanted {wanted}, got {got}");
-    }
+    let _ = match behind_one_word(wanted, got) {
+        Some((name, is, was)) => eprintln!(rt; "  {name}: wanted {is}, got {was}"),
+        None => eprintln!(rt; "  wanted {wanted}, got {got}"),
+    };
 }
 
 fn say_pairs(rt: &impl Eprint, wanted: &[&str], got: &[&str]) {
