@@ -19,6 +19,9 @@ BINDINGS_C = os.path.join(TOP, "bindings", "c")
 
 # What every host in C is compiled with.
 STRICT = ["-std=c11", "-Wall", "-Wextra", "-Werror", f"-I{INCLUDE}", f"-I{BINDINGS_C}"]
+# What Go's compilers are told, so that they take fewer processor seconds: one thread each, and to collect garbage seldom. What
+# they make is the same. No test runs with it.
+LEAN_GO = {"GOMAXPROCS": "1", "GOGC": "400"}
 # What every host is linked with, beside the library.
 STORE = os.path.join(BINDINGS_C, "serf_agent_store.c")
 HEAP = os.path.join(BINDINGS_C, "serf_agent_heap.c")
@@ -158,6 +161,12 @@ def go_flags(library):
     """What Go is told of a library's folder, as variables of the environment: nothing of that one which the module finds by
     itself. A flag for all packages has Go compile its own anew, for each folder."""
     return {} if os.path.realpath(library) == os.path.realpath(LIBRARY) else {"CGO_LDFLAGS": f"-L{os.path.dirname(library)}"}
+
+
+def put_beside(module, library):
+    """Has a copy of Go's module serfagent take another library: beside its sources it is found first. Unlike a flag with a
+    folder, that has Go compile none of its own packages anew."""
+    os.symlink(os.path.abspath(library), os.path.join(module, os.path.basename(LIBRARY)))
 
 
 def fault_of_shared(to, library=LIBRARY):

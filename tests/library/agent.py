@@ -51,7 +51,8 @@ def unbuilt(count, library, folder):
 def built(count, library, folder):
     """The program, by the script that README and AGENT.md show, and the package that has it."""
     program, package = os.path.join(folder, "kitchenrue-agent"), os.path.join(folder, "kitchenrue-agent.deb")
-    status, said = c_library.ran([os.path.join(TOP, "agent", "build"), program, library])
+    lean = {"env": {**os.environ, **c_library.LEAN_GO}}
+    status, said = c_library.ran([os.path.join(TOP, "agent", "build"), program, library], **lean)
     count.check("agent/build", status == 0, said[-2000:])
     status, said = c_library.ran([program, "-version"])
     count.check("-version", status == 0 and "kitchenrue-agent" in said.lower(), (status, said))
@@ -61,7 +62,7 @@ def built(count, library, folder):
     if shutil.which("dpkg-deb") is None:
         print("not run: the Debian package, since dpkg-deb is not on PATH")
         return
-    status, said = c_library.ran([os.path.join(TOP, "agent", "package", "deb"), package, library])
+    status, said = c_library.ran([os.path.join(TOP, "agent", "package", "deb"), package, library], **lean)
     count.check("agent/package/deb", status == 0, said[-2000:])
     status, said = c_library.ran(["dpkg-deb", "-c", package])
     count.check("the package has the program", "/usr/bin/kitchenrue-agent" in said, (status, said))

@@ -36,11 +36,12 @@ USES = [
     "serf_replay",
 ]
 
-# The allocation that is refused: REFUSED in tests/library/alloc_failures/lib.rattle.
-REFUSED = 4096
+# The allocation that is refused: REFUSED in tests/library/alloc_failures/lib.rattle. Each test takes what is left of so many
+# before its case begins, so it is no greater than the cases want: each has to end before it where nothing is refused.
+REFUSED = 1024
 
 # The number of a run in which nothing is refused.
-NOTHING = 4000
+NOTHING = 1000
 
 # How often the toolchain is asked: again for the cases that have more growths than were tried.
 ROUNDS = 4
@@ -105,7 +106,7 @@ GROWTHS = {
     "sink_with": 1,
     "step": 165,
     "summarize": 200,
-    "summarize_lines": 200,
+    "summarize_lines": 202,
     "take_due": 27,
     "take_line": 200,
 }

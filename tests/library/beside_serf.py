@@ -68,7 +68,7 @@ def build(folder, library):
     os.symlink(os.path.join(TOP, "bindings", "go"), os.path.join(own, "kitchenrue.example"))
     path = os.path.join(folder, "node")
     flags = c_library.go_flags(os.path.join(library, os.path.basename(c_library.LIBRARY)))
-    env = dict(os.environ, GO111MODULE="off", GOFLAGS="", GOPATH=f"{os.path.dirname(own)}:{kit.GOCODE}", **flags)
+    env = dict(os.environ, GO111MODULE="off", GOFLAGS="", GOPATH=f"{os.path.dirname(own)}:{kit.GOCODE}", **c_library.LEAN_GO, **flags)
     status, said = c_library.ran(["go", "build", "-o", path, "kitchenrue.example/beside_serf/node"], env=env)
     return path, said[-2000:] if status else None
 

@@ -62,8 +62,8 @@ class Places:
         self.shared = os.path.join(folder, "libserf_agent.so")
         self.starved = os.path.join(self.fresh("starved"), "libserf_agent_c.a")
 
-    def of(self, name):
-        return os.path.join(self.folder, name)
+    def of(self, *names):
+        return os.path.join(self.folder, *names)
 
     def fresh(self, name):
         """A new and empty folder that everybody may read."""
@@ -241,10 +241,13 @@ def in_go(count, places):
     # (with -trimpath, as agent/test: what one of them has compiled for the race detector, the other takes from Go's cache)
     env = dict(os.environ, GOFLAGS="-mod=mod -trimpath", GOPROXY="off", GO111MODULE="on", **c_library.go_flags(places.library))
     more = {"env": env, "cwd": os.path.join(BINDINGS, "go")}
+    starved_module(places)
     programs_in_go = {"store_driver": places.library, "example": places.library, "burst_driver": places.library}
     programs_in_go |= {"starved_driver": places.starved, "starved_bursts": places.starved}
     for name, library in programs_in_go.items():
-        own = {"env": {**env, **c_library.go_flags(library)}, "cwd": more["cwd"]}
+        own = {"env": {**env, **c_library.LEAN_GO}, "cwd": more["cwd"]}
+        if library == places.starved:
+            own = {"env": {**env_of_starved(env), **c_library.LEAN_GO}, "cwd": places.of("go_starved")}
         source = "burst_driver" if name == "starved_bursts" else name
         status, said = c_library.ran(["go", "build", "-o", places.of(f"go_{name}"), f"./{source}"], **own)
         count.check(f"Go: {name} builds", status == 0, said[-2000:])
@@ -258,23 +261,47 @@ def in_go(count, places):
     said = c_library.ran(["gofmt", "-l", "."], cwd=more["cwd"])
     count.check("Go is formatted", said == (0, ""), said)
     more["cwd"] = os.path.join(BINDINGS, "go", "serfagent")
-    tests_in_go(count, "serfagent", ".", more)
+    tests_in_go(count, places, "serfagent", ".", more)
     delegate_in_go(count, places, env)
 
 
-def tests_in_go(count, name, package, more):
-    """A package's tests, watched for races where the detector is there, and what `go vet` says of it."""
-    status, said = c_library.ran(["go", "vet", package], **more)
+def starved_module(places):
+    """A copy of the module in Go, over the library whose calls run out of memory."""
+    shutil.copytree(os.path.join(BINDINGS, "go"), places.of("go_starved"))
+    c_library.put_beside(places.of("go_starved", "serfagent"), places.starved)
+
+
+def env_of_starved(env):
+    """The environment of that copy, which finds its library by itself."""
+    return {name: value for name, value in env.items() if name != "CGO_LDFLAGS"}
+
+
+def tests_in_go(count, places, name, package, more):
+    """A package's tests, watched for races where the detector is there, and what `go vet` says of it. They are compiled once,
+    and run in the package's folder with the words that `go test` has for them."""
+    lean, path = {**more, "env": {**more["env"], **c_library.LEAN_GO}}, places.of(f"{name}.test")
+    status, said = c_library.ran(["go", "vet", package], **lean)
     count.check(f"Go: vet of {name}", status == 0, said[-2000:])
-    race = ["-race"] if c_library.ran(["go", "test", "-race", "-run", "NONE", package], **more)[0] == 0 else []
-    if not race:
+    compiled = ["go", "test", "-c", "-vet=off", "-o", path]
+    status, built = c_library.ran([*compiled, "-race", package], **lean)
+    if status or c_library.ran([path, "-test.run", "NONE"], **more)[0]:
         print(f"not run: {name} under Go's race detector, which isn't here")
+        status, built = c_library.ran([*compiled, package], **lean)
+        count.check(f"Go: the tests of {name} compile", status == 0, built[-2000:])
+        if status:
+            return
+
+    def ran(words, **own):
+        # (what the compilers and the linker said is looked at too)
+        status, said = races.ran(words, **own)
+        return status, built + said
+
     counted_tests(
         count,
         f"Go's tests of {name}",
         r"^--- (?P<end>PASS|FAIL): (?P<name>\S+)",
-        ["go", "test", "-v", "-count=1", *race, package],
-        races.ran,
+        [path, "-test.v", "-test.paniconexit0", "-test.timeout=10m0s"],
+        ran,
         **more,
     )
 
@@ -289,21 +316,24 @@ def delegate_in_go(count, places, env):
     os.symlink(os.path.join(BINDINGS, "go"), os.path.join(own, "src", "kitchenrue.example"))
     env = dict(env, GO111MODULE="off", GOFLAGS="-trimpath", GOPATH=f"{own}:{GO_CODE}")
     races.try_reports(count)
-    tests_in_go(count, "serfdelegate", "kitchenrue.example/serfdelegate", {"env": env})
+    folder = os.path.join(BINDINGS, "go", "serfdelegate")
+    tests_in_go(count, places, "serfdelegate", "kitchenrue.example/serfdelegate", {"env": env, "cwd": folder})
     starved_delegate(count, places, env)
     lines = os.path.join(own, "src", "lines")
     os.mkdir(lines)
     with open(os.path.join(lines, "main.go"), "w", encoding="utf-8") as file:
         file.write(host_lines.program("go"))
-    status, said = c_library.ran(["go", "vet", "lines"], env=env)
+    status, said = c_library.ran(["go", "vet", "lines"], env={**env, **c_library.LEAN_GO})
     count.check("Go: README's lines", status == 0, said[-2000:])
 
 
 def starved_delegate(count, places, env):
     """A delegate whose first burst, and whose first merge, run out of memory one request later each time."""
-    path = places.of("delegate.test")
-    env = dict(env, **c_library.go_flags(places.starved))
-    status, said = c_library.ran(["go", "test", "-c", "-o", path, "kitchenrue.example/serfdelegate"], env=env)
+    path, own = places.of("delegate.test"), places.fresh("go_starved_path")
+    os.mkdir(os.path.join(own, "src"))
+    os.symlink(places.of("go_starved"), os.path.join(own, "src", "kitchenrue.example"))
+    env = dict(env_of_starved(env), GOPATH=f"{own}:{GO_CODE}", **c_library.LEAN_GO)
+    status, said = c_library.ran(["go", "test", "-c", "-vet=off", "-o", path, "kitchenrue.example/serfdelegate"], env=env)
     count.check("Go: the starved delegate builds", status == 0, said[-2000:])
     granted, is_whole = 0, status != 0
     while not is_whole and granted < starved.MOST:

@@ -291,7 +291,7 @@ def in_go(count, archive):
     well(count, "it links from the vendor folder", by_user(own, "go", "build", "-mod=vendor", "-o", "vendored", ".", **more), "")
     vet = {**more, "GOFLAGS": "-mod=readonly"}
     for folder in (module, programs):
-        well(count, f"go vet of {os.path.basename(folder)}, without memberlist", by_user(folder, "go", "vet", "./...", **vet), "")
+        well(count, f"go vet of {os.path.basename(folder)}, without memberlist", by_user(folder, "go", "vet", "./...", **vet, **c_library.LEAN_GO), "")
     for shown in as_shown("go"):
         line = shown.text.replace("FOLDER", archive.home_of(home, "shown"))
         well(count, shown.name(), by_user(programs, "sh", "-ec", line, **vet), archive.example)

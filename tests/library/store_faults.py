@@ -96,13 +96,8 @@ def in_python(places):
 def in_go(places):
     module, path = places.copy("go", "go"), places.of("go_driver")
     faults.edit(module, languages.GO)
-    env = dict(
-        os.environ,
-        CGO_LDFLAGS=f"-L{os.path.dirname(places.library)}",
-        GOFLAGS="-mod=mod",
-        GOPROXY="off",
-        GO111MODULE="on",
-    )
+    c_library.put_beside(os.path.join(module, "serfagent"), places.library)
+    env = dict(os.environ, GOFLAGS="-mod=mod", GOPROXY="off", GO111MODULE="on", **c_library.LEAN_GO)
     built(["go", "build", "-o", path, "./store_driver"], cwd=module, env=env)
     return [path]
 

@@ -96,13 +96,8 @@ class InGo(Store):
         shutil.copytree(os.path.join(BINDINGS, "go"), module)
         os.mkdir(os.path.join(module, "power_cuts"))
         shutil.copyfile(os.path.join(OWN, "host.go"), os.path.join(module, "power_cuts", "main.go"))
-        env = dict(
-            os.environ,
-            CGO_LDFLAGS=f"-L{os.path.dirname(places.library)}",
-            GOFLAGS="-mod=mod",
-            GOPROXY="off",
-            GO111MODULE="on",
-        )
+        c_library.put_beside(os.path.join(module, "serfagent"), places.library)
+        env = dict(os.environ, GOFLAGS="-mod=mod", GOPROXY="off", GO111MODULE="on", **c_library.LEAN_GO)
         self.paths = {False: places.of("go_host"), True: places.of("go_planted")}
         for is_planted, path in self.paths.items():
             if is_planted:
