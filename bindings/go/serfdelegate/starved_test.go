@@ -53,7 +53,7 @@ func TestABurstOfMoreThanMemoryHas(t *testing.T) {
 			d.NotifyMsg(packet)
 		}
 		d.order.Unlock()
-		settled(t, d)
+		quiet(t, d)
 	}
 	comes()
 	stats := d.Stats()
@@ -63,7 +63,7 @@ func TestABurstOfMoreThanMemoryHas(t *testing.T) {
 	comes()
 	for i := 0; i < 2; i++ {
 		d.MergeRemoteState(state, false)
-		settled(t, d)
+		quiet(t, d)
 	}
 	found := ran.all()
 	sort.Strings(found)
@@ -84,4 +84,16 @@ func TestABurstOfMoreThanMemoryHas(t *testing.T) {
 	if len(faults) == 0 {
 		fmt.Println("nothing is wanting")
 	}
+}
+
+// quiet waits until nothing waits, and no handler runs.
+func quiet(t *testing.T, d *Delegate) {
+	t.Helper()
+	settled(t, d)
+	// (the last handler waits no more, and may still run: what is added now runs behind it)
+	soon(t, "no handler runs", func() {
+		ran := make(chan struct{})
+		d.work.add(func() { close(ran) })
+		<-ran
+	})
 }
