@@ -21,13 +21,7 @@ func TestFlushHoldsNobody(t *testing.T) {
 	f := &fake{flush: make(chan struct{})}
 	a := start(t, "a", "", withAgent(f))
 	a.NotifyMsg([]byte{3})
-	eventually(t, "the agent flushes", func() bool {
-		if f.mu.TryLock() {
-			f.mu.Unlock()
-			return false
-		}
-		return true
-	})
+	eventually(t, "the agent flushes", f.isBusy)
 	node := &memberlist.Node{Name: "b", Addr: []byte{127, 0, 0, 1}, Meta: []byte("\xff\x80")}
 	soon(t, "NotifyMsg", func() { a.NotifyMsg([]byte{3}) })
 	soon(t, "MergeRemoteState", func() { a.MergeRemoteState([]byte{2}, true) })
@@ -39,6 +33,21 @@ func TestFlushHoldsNobody(t *testing.T) {
 	soon(t, "NotifyConflict", func() { a.NotifyConflict(node, node) })
 	soon(t, "NotifyLeave", func() { a.NotifyLeave(node) })
 	close(f.flush)
+}
+
+// A flush of 200 milliseconds makes no state an old one, and what is made behind a longer one is of then.
+func TestAStateWaitsForAFlush(t *testing.T) {
+	f := &fake{flush: make(chan struct{})}
+	a := start(t, "a", "", withAgent(f))
+	a.NotifyMsg([]byte{3, 0})
+	eventually(t, "the agent flushes", f.isBusy)
+	began := time.Now()
+	state := a.LocalState(false)
+	if waited := time.Since(began); waited < 200*time.Millisecond || string(state) != "state 0" {
+		t.Errorf("%q, after %v", state, waited)
+	}
+	close(f.flush)
+	eventually(t, "the state behind the flush", func() bool { return string(a.LocalState(false)) == "state 1" })
 }
 
 // A flood of intents leaves room for queries and events.

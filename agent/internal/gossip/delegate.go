@@ -9,7 +9,7 @@ import (
 	"kitchenrue.example/agent/internal/wire"
 )
 
-// What memberlist calls. None of these waits for the disk, a handler or a client.
+// What memberlist calls. None of these waits for the disk, a handler or a client, but LocalState for a quarter of a second.
 
 var (
 	_ memberlist.Delegate         = &Node{}
@@ -17,8 +17,10 @@ var (
 	_ memberlist.ConflictDelegate = &Node{}
 )
 
-// stateWait is how long memberlist may wait for a state. One that isn't made by then is the last that was made.
-const stateWait = 10 * time.Millisecond
+// stateWait is how long memberlist may wait for a state: longer than a flush of most disks, and a quarter of the time that its
+// streams have at least (TCPTimeout, a second where all nodes are on one machine). A state that isn't made by then is the last
+// that was made. A node that joins by that one fires at times that may be too old for the others, until it hears newer ones.
+const stateWait = 250 * time.Millisecond
 
 // NodeMeta are the tags.
 func (n *Node) NodeMeta(int) []byte {
@@ -61,7 +63,7 @@ func (n *Node) GetBroadcasts(overhead, limit int) [][]byte {
 	return all
 }
 
-// LocalState is this node's state; where the agent is busy for longer than a moment, as it was when it was last made.
+// LocalState is this node's state; where none is made within a quarter of a second, as it was when one was last made.
 func (n *Node) LocalState(bool) []byte {
 	late := time.NewTimer(stateWait)
 	defer late.Stop()

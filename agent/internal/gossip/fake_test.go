@@ -1,6 +1,7 @@
 package gossip
 
 import (
+	"fmt"
 	"io"
 	"log"
 	"path/filepath"
@@ -245,10 +246,20 @@ func (f *fake) ReceiveAll(_ uint64, packets [][]byte) (outcomes []Outcome, err e
 
 func (f *fake) Merge([]byte, bool) ([]*serfagent.Event, error) { return nil, nil }
 
+// isBusy says whether a call holds the agent.
+func (f *fake) isBusy() bool {
+	if f.mu.TryLock() {
+		f.mu.Unlock()
+		return false
+	}
+	return true
+}
+
+// LocalState says of which time it is.
 func (f *fake) LocalState([]serfagent.Status, []string) ([]byte, error) {
 	f.mu.Lock()
 	defer f.mu.Unlock()
-	return []byte("state"), nil
+	return []byte(fmt.Sprint("state ", f.time)), nil
 }
 
 func (f *fake) Fire(name, _ []byte, _ bool) (*serfagent.Event, []byte, error) {

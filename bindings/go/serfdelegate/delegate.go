@@ -5,7 +5,7 @@
 // once at most, and perhaps not at all where the process ends.
 //
 // What memberlist calls takes no lock that is held while the file is flushed: packets and states wait in queues, and the state
-// that is sent is the agent's last where the agent is busy.
+// that is sent is the last that was made where the agent is busy for a quarter of a second.
 //
 // An agent whose settings have KeepEvents goes on after a restart with what its buffers held, and takes what the node missed from
 // the others' states. memberlist says of the states of each join that they are of a join, after a restart too. So with IgnoreOld
@@ -39,8 +39,10 @@ var (
 	ErrBurst = errors.New("serfdelegate: a burst can't be below 0")
 )
 
-// stateWait is how long memberlist may wait for a state. One that isn't made by then is the last that was made.
-const stateWait = 10 * time.Millisecond
+// stateWait is how long memberlist may wait for a state: longer than a flush of most disks, and a quarter of the time that its
+// streams have at least (TCPTimeout, a second where all nodes are on one machine). A state that isn't made by then is the last
+// that was made. A node that joins by that one fires at times that may be too old for the others, until it hears newer ones.
+const stateWait = 250 * time.Millisecond
 
 // Handlers are what the agent hands out to. Each may be nil.
 type Handlers struct {
@@ -307,7 +309,7 @@ func (d *Delegate) GetBroadcasts(overhead, limit int) [][]byte {
 	return append(all, d.queue.GetBroadcasts(overhead, limit)...)
 }
 
-// LocalState is the agent's whole state; where the agent is busy for longer than a moment, as it was when it was last made.
+// LocalState is the agent's whole state; where none is made within a quarter of a second, as it was when one was last made.
 func (d *Delegate) LocalState(bool) []byte {
 	late := time.NewTimer(stateWait)
 	defer late.Stop()

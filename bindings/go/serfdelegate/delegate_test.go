@@ -398,8 +398,8 @@ func TestMemberlistNeverWaitsForTheDisk(t *testing.T) {
 	soon(t, "NotifyMsg", func() { d.NotifyMsg([]byte("packet")) })
 	soon(t, "GetBroadcasts", func() { d.GetBroadcasts(2, 1400) })
 	soon(t, "LocalState", func() {
-		for i := 0; i < 20; i++ {
-			if state := d.LocalState(false); string(state) != "state" {
+		for i := 0; i < 3; i++ {
+			if state := d.LocalState(false); string(state) != "state 0" {
 				t.Errorf("the state is %q", state)
 			}
 		}
@@ -412,6 +412,22 @@ func TestMemberlistNeverWaitsForTheDisk(t *testing.T) {
 	flush()
 	eventually(t, "all handlers ran", func() bool { return len(ran.all()) == 5 })
 	<-fired
+}
+
+// A flush of 200 milliseconds makes no state an old one, and what is made behind a longer one is of then.
+func TestAStateWaitsForAFlush(t *testing.T) {
+	t.Parallel()
+	agent := &fake{flush: make(chan struct{})}
+	d := start(t, agent, Handlers{})
+	d.NotifyMsg([]byte("packet"))
+	eventually(t, "a flush", agent.isBusy)
+	began := time.Now()
+	state := d.LocalState(false)
+	if waited := time.Since(began); waited < 200*time.Millisecond || string(state) != "state 0" {
+		t.Errorf("%q, after %v", state, waited)
+	}
+	close(agent.flush)
+	eventually(t, "the state behind the flush", func() bool { return string(d.LocalState(false)) == "state 1" })
 }
 
 func TestAStateIsTheAgentsOwn(t *testing.T) {

@@ -1,6 +1,7 @@
 package serfdelegate
 
 import (
+	"fmt"
 	"io"
 	"sync"
 	"testing"
@@ -80,10 +81,11 @@ func (f *fake) Merge([]byte, bool) ([]*serfagent.Event, error) {
 	return []*serfagent.Event{f.called("merge"), f.called("merged")}, f.merge
 }
 
+// LocalState says of which time it is.
 func (f *fake) LocalState([]serfagent.Status, []string) ([]byte, error) {
 	f.mu.Lock()
 	defer f.mu.Unlock()
-	return []byte("state"), nil
+	return []byte(fmt.Sprint("state ", f.time)), nil
 }
 
 func (f *fake) Query(_ uint64, id uint32, _, _ []byte, _ serfagent.QueryParams) (*serfagent.Asked, error) {

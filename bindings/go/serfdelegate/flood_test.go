@@ -132,9 +132,18 @@ func (f *flooded) send(t *testing.T, packets, states [][]byte) {
 func (f *flooded) takesAnHonestEvent(t *testing.T, name string) {
 	t.Helper()
 	other := open(t)
-	if _, err := other.Merge(f.LocalState(false), true); err != nil {
+	own, err := f.agent.Clocks()
+	if err != nil {
 		t.Fatal(err)
 	}
+	eventually(t, "a state of now", func() bool {
+		// (on a busy machine it may be one of before)
+		if _, err := other.Merge(f.LocalState(false), true); err != nil {
+			t.Fatal(err)
+		}
+		heard, err := other.Clocks()
+		return err == nil && heard.Event >= own.Event
+	})
 	event, packet, err := other.Fire([]byte(name), nil, false)
 	if err != nil {
 		t.Fatal(err)
