@@ -211,7 +211,8 @@ def path_of(crate, file, head, name):
         return "::".join([*module, name])
     # a trait's argument that is the impl's own type is not in its name
     at_trait = head["with"] if head["with"] and head["with"] != head["type"] else ""
-    trait = head["trait"].split("::")[-1] + at_trait if head["trait"] else ""
+    # a drop that is written out is named as a function of the type's own
+    trait = head["trait"].split("::")[-1] + at_trait if head["trait"] not in (None, "Drop") else ""
     # an impl of a generic type at one type has that type in its name
     at_type = f"+{head['of']}" if head["of"] and not head["generic"] else ""
     if not trait and not at_type:

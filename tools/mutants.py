@@ -11,8 +11,8 @@ edits of its crate are. tools/edit_checks.py says how edits are tried, and what 
 edits: each function that an edit turns has to be proved there. --over-ci takes the libraries that `rt ci` left, as the
 gate does; without it they are built first. --anew tries all. --write writes what was found to tests/refused.
 
-Status 0 where each edit is refused, 1 where one isn't or an edit can't be read, 2 for an option that is none of these or
-a crate without edits, and 3 where the toolchain isn't there.
+Status 0 where each edit is refused, 1 where one isn't, or only by its shape, or an edit can't be read, 2 for an option
+that is none of these or a crate without edits, and 3 where the toolchain isn't there.
 """
 
 import os
@@ -47,16 +47,25 @@ class Counts:
 
     def __init__(self):
         self.lock = threading.Lock()
-        self.believed = self.tried = self.failed = 0
+        self.believed = self.tried = self.drawn = self.failed = 0
         self.kinds = {}
 
     def add(self, refusal, was_tried):
         with self.lock:
             self.tried += was_tried
             self.believed += not was_tried
-            self.failed += refusal is None
+            self.failed += refusal is None or refusal.kind == "open"
             if refusal:
                 self.kinds[refusal.kind] = self.kinds.get(refusal.kind, 0) + 1
+
+    def __str__(self):
+        kinds = ", ".join(f"{kind} {number}" for kind, number in sorted(self.kinds.items()))
+        return f"{self.tried} edits tried, {self.drawn} of them for the draw, {self.believed} believed; refused by kind: {kinds}"
+
+    def draw(self, number):
+        """So many edits are tried for the commit's draw alone, though their lines are believed."""
+        with self.lock:
+            self.drawn += number
 
     def fail(self):
         with self.lock:
@@ -96,6 +105,7 @@ class Run:
         for line in [*known.faults, *known.gone({edit.name for edit in own})]:
             say(line)
         todo, rest, drawn = self.planned(crate.name, own, known, sums)
+        self.counts.draw(len(drawn))
         found = self.tried(crate, todo)
         if any(found[name] is None for name in drawn):
             say(f"{crate.name}: a drawn edit is not refused any more: all its edits are tried")
@@ -103,6 +113,9 @@ class Run:
             rest = {}
         for refusal in rest.values():
             self.counts.add(refusal, False)
+        for name, refusal in sorted((rest | found).items()):
+            if refusal and refusal.kind == "open":
+                say(f"FAILED {crate.name}/{name}: {refusal}: it may be its change of shape alone that was refused")
         if self.writes and not self.is_control and sums == evidence_sums(crate.name, own):
             known.write(self.now, sums, {name: refusal for name, refusal in (rest | found).items() if refusal})
 
@@ -217,8 +230,7 @@ def main(words):
     with ThreadPoolExecutor(LANES) as pool:
         list(pool.map(run.try_whole, sorted(crates, key=lambda it: -len(listed[it.name]))))
     used, counts = resource.getrusage(resource.RUSAGE_CHILDREN), run.counts
-    kinds = ", ".join(f"{kind} {number}" for kind, number in sorted(counts.kinds.items()))
-    print(f"{counts.tried} edits tried, {counts.believed} believed; refused by kind: {kinds}")
+    print(counts)
     print(f"{used.ru_utime + used.ru_stime:.0f} processor seconds, {time.monotonic() - began:.0f} seconds")
     total = counts.tried + counts.believed
     print(f"{total - min(counts.failed, total)} passed, {counts.failed} failed")

@@ -1,4 +1,5 @@
-"""Evidence of refusals: what a sum of an edit covers, which lines are believed, and which edits a commit draws.
+"""Evidence of refusals: how an edit's functions are named, what a sum of an edit covers, which lines are believed, and
+which edits a commit draws.
 
 All is tried on a small repository that this makes; no edit is really checked here, but by a stand-in that knows which
 of them are harmless.
@@ -149,10 +150,12 @@ class Crate:
 
 
 class Run(mutants.Run):
-    """A run whose checks are a stand-in: the edits of `harmless` are not refused. It notes which are tried."""
+    """A run whose checks are a stand-in: the edits of `harmless` are not refused, and of the others those of `unshown` by
+    a goal that their shape may have opened. It notes which are tried."""
 
-    def __init__(self, harmless, commit, words=()):
+    def __init__(self, harmless, commit, words=(), unshown=()):
         self.rt, self.harmless, self.commit, self.tried_names = None, harmless, commit, []
+        self.unshown = unshown
         self.is_control, self.is_anew, self.writes = False, "--anew" in words, "--write" in words
         self.now, self.reach, self.counts = "toolchain a logic 0a\njudge 0", reach.Reach(edits.TOP), mutants.Counts()
 
@@ -160,15 +163,14 @@ class Run(mutants.Run):
         found = {}
         for edit in own:
             self.tried_names.append(edit.name)
-            found[edit.name] = (
-                None if edit.name in self.harmless else edit_checks.Refusal("shape", "double: returns-clause-double")
-            )
+            kind = "open" if edit.name in self.unshown else "shape"
+            found[edit.name] = None if edit.name in self.harmless else edit_checks.Refusal(kind, "double: returns-clause-double")
             self.counts.add(found[edit.name], True)
         return found
 
 
-def run(harmless, commit, *words):
-    it = Run(harmless, commit, words)
+def run(harmless, commit, *words, unshown=()):
+    it = Run(harmless, commit, words, unshown)
     it.try_crate(Crate)
     return it
 
@@ -197,6 +199,11 @@ def believed(count, top):
         drawn.counts.failed == 1 and sorted(drawn.tried_names) == names,
         drawn.tried_names,
     )
+    unshown = run([], none, "--anew", "--write", unshown=["adds_nothing"])
+    again = run([], none)
+    count.check("an edit that only its shape may have refused fails", unshown.counts.failed == 1, unshown.counts.kinds)
+    count.check("and so does its line", (again.counts.failed, again.tried_names) == (1, []), again.tried_names)
+    run([], none, "--anew", "--write")
     anew = run(["adds_nothing"], none, "--anew")
     count.check("and --anew finds it", anew.counts.failed == 1 and sorted(anew.tried_names) == names)
     path = evidence.path_of("serf_high")
@@ -282,6 +289,41 @@ def kinds(count):
     count.check("a twin's texts", twin.twin().pairs[0][2] == "if a == 0 { add(a, a) } else { add(a, a) }")
 
 
+# Functions of impls, and how the toolchain names each below its crate.
+IMPLS = """//! Held.
+
+pub struct Held<S: Sink> {
+    sink: S,
+}
+
+impl<S: Sink> Held<S> {
+    fn first(&self) {
+    }
+}
+
+impl<S: Sink + Drop> Drop for Held<S> {
+    fn drop(self) {
+        let Held { sink: _ } = self;
+    }
+}
+
+impl Clone for Held<Memory> {
+    fn clone(&self) -> Self {
+    }
+}
+"""
+NAMES = ["held::Held::first", "held::Held::drop", "held::Held+MemoryClone::clone"]
+
+
+def names(count, top):
+    """An edit is tried where each other function's proof is a hole, under the name that the toolchain has for it."""
+    path = "crates/serf_high/src/held.rt"
+    write(top, path, IMPLS)
+    found = [name for _, name, _ in edits.functions_in("serf_high", "src/held.rt")]
+    count.check("a method, a drop that is written out, and a trait's function at one type", found == NAMES, found)
+    os.remove(os.path.join(top, path))
+
+
 def words(count):
     """A word that tools/mutants.py doesn't know is told, and nothing is tried."""
     tool = os.path.join(checks.TOP, "tools", "mutants.py")
@@ -293,6 +335,7 @@ def words(count):
 def of_edits(count):
     with tempfile.TemporaryDirectory(prefix="evidence-") as room:
         repository(room)
+        names(count, room)
         sums(count, room)
         kinds(count)
         believed(count, room)
