@@ -7,6 +7,8 @@ A script begins with these lines, and ends with `run`, or with `over_program` wh
     import checks
 """
 
+import importlib.machinery
+import importlib.util
 import os
 import resource
 import subprocess
@@ -55,6 +57,14 @@ def text_of(*parts):
 def names_in(folder, ending=".schedule"):
     """The names of a folder's files with this ending, without it, sorted."""
     return sorted(name[: -len(ending)] for name in os.listdir(folder) if name.endswith(ending))
+
+
+def gate_script():
+    """./test, as a module."""
+    loader = importlib.machinery.SourceFileLoader("gate_script", os.path.join(TOP, "test"))
+    module = importlib.util.module_from_spec(importlib.util.spec_from_loader("gate_script", loader))
+    loader.exec_module(module)
+    return module
 
 
 def ran(words, given=b""):

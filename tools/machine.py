@@ -15,6 +15,14 @@ def processors():
     return len(os.sched_getaffinity(0))
 
 
+def lanes(room):
+    """How many checks may run side by side where each takes up to so many bytes of memory: at most five, and at most one a
+    processor."""
+    with open("/proc/meminfo", encoding="utf-8") as file:
+        free = next(int(line.split()[1]) << 10 for line in file if line.startswith("MemAvailable:"))
+    return max(1, min(processors(), 5, free // room))
+
+
 def write(folder, files):
     """Keeps copies of files in a folder, all of them or none."""
     forget_old()
@@ -35,19 +43,22 @@ def forget_old():
                 shutil.rmtree(entry.path, ignore_errors=True) if entry.is_dir() else os.remove(entry.path)
 
 
-def number(name):
-    """A number that an earlier run kept under a name, or None."""
+def numbers(name):
+    """The numbers that earlier runs kept under a name, each by a name of its own."""
     try:
         with open(os.path.join(FOLDER, name), encoding="utf-8") as file:
-            return float(file.read())
+            return {word: float(value) for word, value in (line.split() for line in file)}
     except (OSError, ValueError):
-        return None
+        return {}
 
 
-def keep_number(name, value):
+def keep_numbers(name, found):
+    """Keeps these numbers beside those that were kept under a name, and gives all of them."""
+    found = {**numbers(name), **found}
     try:
         os.makedirs(FOLDER, exist_ok=True)
         with open(os.path.join(FOLDER, name), "w", encoding="utf-8") as file:
-            file.write(f"{value}\n")
+            file.writelines(f"{word} {value}\n" for word, value in sorted(found.items()))
     except OSError:
         pass
+    return found

@@ -5,8 +5,6 @@ this fails. Some toolchains don't let an edit pass that a limit alone refused: t
 """
 
 import contextlib
-import importlib.machinery
-import importlib.util
 import io
 import os
 import sys
@@ -33,14 +31,6 @@ CHECKS = {
     "a_limit": (3, [LIMIT, "logic=unknown"], True),
     "a_limit_with_no_line": (3, ["the check outgrew the memory limit (2 GB)", "logic=unknown"], True),
 }
-
-
-def gate_script():
-    """./test, as a module."""
-    loader = importlib.machinery.SourceFileLoader("gate_script", os.path.join(checks.TOP, "test"))
-    module = importlib.util.module_from_spec(importlib.util.spec_from_loader("gate_script", loader))
-    loader.exec_module(module)
-    return module
 
 
 def said_of(rt, name):
@@ -92,7 +82,7 @@ def of_the_gate(count, script, said):
 
 
 def hollow_edits(count):
-    rt, script = toolchain.load(), gate_script()
+    rt, script = toolchain.load(), checks.gate_script()
     said = {name: said_of(rt, name) for name in CHECKS}
     named(count, script, said)
     of_the_gate(count, script, said)
