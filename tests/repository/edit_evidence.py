@@ -315,7 +315,7 @@ impl Clone for Held<Memory> {
 NAMES = ["held::Held::first", "held::Held::drop", "held::Held+MemoryClone::clone"]
 
 
-def names(count, top):
+def function_names(count, top):
     """An edit is tried where each other function's proof is a hole, under the name that the toolchain has for it."""
     path = "crates/serf_high/src/held.rt"
     write(top, path, IMPLS)
@@ -335,7 +335,7 @@ def words(count):
 def of_edits(count):
     with tempfile.TemporaryDirectory(prefix="evidence-") as room:
         repository(room)
-        names(count, room)
+        function_names(count, room)
         sums(count, room)
         kinds(count)
         believed(count, room)

@@ -35,7 +35,7 @@ func TestFlushHoldsNobody(t *testing.T) {
 	close(f.flush)
 }
 
-// A flush of 200 milliseconds makes no state an old one, and what is made behind a longer one is of then.
+// A state waits for a flush of 200 milliseconds. In a longer flush it is the last that was made, and after it the present one.
 func TestAStateWaitsForAFlush(t *testing.T) {
 	f := &fake{flush: make(chan struct{})}
 	a := start(t, "a", "", withAgent(f))
@@ -47,7 +47,7 @@ func TestAStateWaitsForAFlush(t *testing.T) {
 		t.Errorf("%q, after %v", state, waited)
 	}
 	close(f.flush)
-	eventually(t, "the state behind the flush", func() bool { return string(a.LocalState(false)) == "state 1" })
+	eventually(t, "the present state after the flush", func() bool { return string(a.LocalState(false)) == "state 1" })
 }
 
 // A flood of intents leaves room for queries and events.

@@ -17,9 +17,9 @@ var (
 	_ memberlist.ConflictDelegate = &Node{}
 )
 
-// stateWait is how long memberlist may wait for a state: longer than a flush of most disks, and a quarter of the time that its
-// streams have at least (TCPTimeout, a second where all nodes are on one machine). A state that isn't made by then is the last
-// that was made. A node that joins by that one fires at times that may be too old for the others, until it hears newer ones.
+// stateWait is how long memberlist may wait for a state: longer than a flush of most disks, and a quarter of the shortest
+// TCPTimeout of memberlist's own configurations. Where no state is made by then, the last one is sent. A node that joins by that
+// one fires at times that may be too old for the others, until it hears newer ones.
 const stateWait = 250 * time.Millisecond
 
 // NodeMeta are the tags.

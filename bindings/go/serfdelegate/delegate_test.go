@@ -414,7 +414,7 @@ func TestMemberlistNeverWaitsForTheDisk(t *testing.T) {
 	<-fired
 }
 
-// A flush of 200 milliseconds makes no state an old one, and what is made behind a longer one is of then.
+// A state waits for a flush of 200 milliseconds. In a longer flush it is the last that was made, and after it the present one.
 func TestAStateWaitsForAFlush(t *testing.T) {
 	t.Parallel()
 	agent := &fake{flush: make(chan struct{})}
@@ -427,7 +427,7 @@ func TestAStateWaitsForAFlush(t *testing.T) {
 		t.Errorf("%q, after %v", state, waited)
 	}
 	close(agent.flush)
-	eventually(t, "the state behind the flush", func() bool { return string(d.LocalState(false)) == "state 1" })
+	eventually(t, "the present state after the flush", func() bool { return string(d.LocalState(false)) == "state 1" })
 }
 
 func TestAStateIsTheAgentsOwn(t *testing.T) {

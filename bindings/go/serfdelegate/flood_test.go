@@ -136,7 +136,7 @@ func (f *flooded) takesAnHonestEvent(t *testing.T, name string) {
 	if err != nil {
 		t.Fatal(err)
 	}
-	eventually(t, "a state of now", func() bool {
+	eventually(t, "the present state", func() bool {
 		// (on a busy machine it may be one of before)
 		if _, err := other.Merge(f.LocalState(false), true); err != nil {
 			t.Fatal(err)
