@@ -1,0 +1,322 @@
+"""Programs on the agent's RPC, over two stock agents and over two of `kitchenrue-agent`: what they get is the same.
+
+    tests/library/rpc_client.py [--library FILE] [--over-ci] [--agent PROGRAM]
+
+- A program on Serf's own client in Go (`rpc_client/driver`) calls each method of it, and prints what came, with the types. The
+  two texts are compared line by line. What differs has a row in DIFFERENT, with the reason.
+- Serf's own tests of that client, as Debian's package has them, run over a process (`rpc_client/shim`, `rpc_client/testutil`).
+  What passes at a stock agent passes at ours.
+- A program in Python reads the protocol by the package msgpack, with its defaults (`rpc_client/reader.py`).
+
+Go, memberlist, Debian's package `serf`, the sources of Serf's client and the Python package have to be there, as
+`tools/packages` installs them; else it says so. Of Serf's sources nothing is kept here: they are linked into a folder of the
+run. --library takes another static library than that of crates/serf_agent_c, which else is built; --over-ci builds it over what
+`rt ci` left, as the gate does; --agent takes a built agent.
+"""
+
+import argparse
+import glob
+import json
+import os
+import re
+import subprocess
+import sys
+import tempfile
+from concurrent.futures import ThreadPoolExecutor
+
+sys.dont_write_bytecode = True
+sys.path.insert(0, os.path.dirname(os.path.dirname(os.path.abspath(__file__))))
+import checks
+import c_library
+from checks import TOP
+
+sys.path.insert(0, os.path.join(TOP, "tests", "by_hand"))
+import agent_cluster_kit as kit
+
+OWN = os.path.join(TOP, "tests", "library", "rpc_client")
+SERF = os.path.join("src", "github.com", "hashicorp", "serf")
+
+# The files of Serf's own that have the tests, and what these share.
+TESTS = ("rpc_client_test.go", "util_test.go")
+
+# The kinds of agents, and how far behind the others the addresses of each begin.
+STOCK, OURS = "stock", "ours"
+FIRST = {STOCK: 0, OURS: 100}
+
+# The last numbers of the addresses of the tests, of which each takes two, and of the agent that Python reads. The driver has those
+# before.
+TESTED, READ = range(30, 90), 95
+
+# How long one program may run, in seconds.
+LIMIT = 900
+
+# How many facts the driver prints at least.
+LEAST_FACTS = 600
+
+# What is false at a stock agent, as it has to be. All other facts that can hold do.
+FALSE = (
+    *("stopped stream has it", "coordinate of nobody is there", "client is closed before", "monitor of errors has others"),
+    "stats, serf encrypted",
+)
+
+# How long a pause of Serf's tests is, in seconds, try by try: they look once behind a pause, which may be too short for a process,
+# or too long for a query that it waits for.
+PAUSES = (0.1, 0.4, 1.6, 0.1, 0.4, 5, 0.2, 0.4, 15, 0.3)
+
+# The pauses that are tried first, where a test looks for what takes its time: a failure is seen, or a coalesced event comes.
+FIRST_PAUSE = {"TestRPCClientForceLeave": 5, "TestRPCClientForceLeave_prune": 5, "TestRPCClientStream_Member": 1.6}
+
+# The tests that have to be there.
+LEAST_TESTS = 19
+
+# The token that an agent asks of its clients, where a test is about that.
+TOKENS = {"TestRPCClientAuth": "foobar"}
+
+# The tests that can't pass over a process, and why.
+NOT_TRIED = {"TestRPCClientMonitor": "its first line of the log has to be of a client, and an agent that is a process has begun before"}
+
+# The tests that pass at a stock agent alone, and why.
+FAILING = {"TestRPCClientGetCoordinate": "ours has no coordinates"}
+
+
+class Row:
+    """Facts that differ: their names, what a stock agent gives and what ours gives, as expressions, and why. None is no such fact."""
+
+    def __init__(self, names, stock, ours, why):
+        self.names, self.stock, self.ours, self.why = names, stock, ours, why
+
+    def fits(self, name, stock, ours):
+        pairs = ((self.names, name), (self.stock, stock), (self.ours, ours))
+        return all(wanted is got or wanted and got is not None and re.fullmatch(wanted, got) for wanted, got in pairs)
+
+
+DIFFERENT = (
+    Row("coordinate of [ab] is there", "true", "false", "ours has no coordinates"),
+    Row("stats, agent (program|handlers_waiting|queries_waiting)|stats, serf dropped", None, ".+", "ours says more of itself"),
+    Row("members by a bad expression of a .*, error", "client closed", "Failed to compile regex: .*", "a stock agent ends the client"),
+    Row("answer that is too long, error", "failed to respond to key query: (response exceeds .*)", "response exceeds .*", "a stock agent calls each query one of keys"),
+    Row("second answer, error", ".*response already sent", "No pending queries matching ID", "ours forgets a query that was answered"),
+    Row("second monitor of a client, error", "Monitor already exists", "<nil>", "ours takes more than one"),
+    Row(r'stream of .*, (none|quiet|behind) "", Payload', "<nil> <nil>", r'\[\]uint8 ""', "what is fired without a payload has an empty one"),
+    Row("member-update comes again, behind what came of others", "true", "false", "a stock agent repeats a change of tags with each later event of a member"),
+    Row("what came of e, in order", r"\[member-join member-failed member-reap\]", r"\[member-join member-failed member-reap member-leave\]",
+        "a member that is forgotten isn't coalesced, so that it left comes behind it"),
+)
+
+
+def missing():
+    """What isn't there of what is needed, or None."""
+    found = [name for name in [kit.needed()] if name]
+    if not os.path.isfile(os.path.join(kit.GOCODE, SERF, "client", "rpc_client.go")):
+        found.append("sources of Serf's client")
+    return ", ".join(found) or None
+
+
+def built(folder):
+    """Builds the driver, and Serf's tests over the shim, in a folder of Go's of this run: where they are, or what went wrong."""
+    source = os.path.join(folder, "go", "src")
+    package, serf = os.path.join(source, "kitchenrue.example", "rpc_client"), os.path.join(folder, "go", SERF)
+    os.makedirs(os.path.join(package, "agent"))
+    os.makedirs(serf)
+    os.symlink(os.path.join(OWN, "driver"), os.path.join(package, "driver"))
+    os.symlink(os.path.join(OWN, "testutil"), os.path.join(serf, "testutil"))
+    theirs = os.path.join(kit.GOCODE, SERF, "cmd", "serf", "command", "agent")
+    for path in [*glob.glob(os.path.join(OWN, "shim", "*.go")), *(os.path.join(theirs, name) for name in TESTS)]:
+        os.symlink(path, os.path.join(package, "agent", os.path.basename(path)))
+    path = os.pathsep.join([os.path.dirname(source), kit.GOCODE])
+    env = {**os.environ, "GO111MODULE": "off", "GOFLAGS": "-trimpath", "GOPATH": path, **c_library.LEAN_GO}
+    programs = [os.path.join(folder, name) for name in ("driver", "tests")]
+    for words, program, of in ((["build"], programs[0], "driver"), (["test", "-c", "-vet=off"], programs[1], "agent")):
+        status, said = c_library.ran(["go", *words, "-p", "1", "-o", program, f"kitchenrue.example/rpc_client/{of}"], env=env)
+        if status:
+            return programs, said[-2000:]
+    return programs, None
+
+
+def agent_of(count, asked, folder):
+    """The agent: the one that was asked for, or one that is built as its page says."""
+    if asked.agent:
+        return os.path.abspath(asked.agent)
+    fault = None if asked.library else c_library.fault_of_library(asked.over_ci)
+    count.check("the library is built", fault is None, fault)
+    program = os.path.join(folder, "kitchenrue-agent")
+    library = os.path.dirname(os.path.abspath(asked.library or c_library.LIBRARY))
+    if fault is None:
+        status, said = c_library.ran([os.path.join(TOP, "agent", "build"), program, library], env={**os.environ, **c_library.LEAN_GO})
+        count.check("agent/build", status == 0, said[-2000:])
+    return program
+
+
+class Side:
+    """Agents of a kind: the words that start one, and their addresses, which are of this process."""
+
+    def __init__(self, kind, words, folder):
+        self.kind, self.words, self.first = kind, words, FIRST[kind]
+        self.net = f"127.{10 + os.getpid() % 240}.{os.getpid() // 240 % 250}"
+        self.folder = os.path.join(folder, kind)
+        os.makedirs(self.folder)
+
+    def address(self, number):
+        return f"{self.net}.{self.first + number}"
+
+
+def ended(words, **more):
+    """A program's status, its text and its faults, or that it took too long."""
+    try:
+        done = subprocess.run(words, stdin=subprocess.DEVNULL, capture_output=True, text=True, errors="replace", timeout=LIMIT, **more)
+    except subprocess.TimeoutExpired:
+        return "it took too long", "", ""
+    return done.returncode, done.stdout, done.stderr[-2000:]
+
+
+def driven(side, driver):
+    """What the driver says of a side."""
+    return ended([driver, side.net, str(side.first), side.folder, *side.words])
+
+
+def facts(text):
+    """The facts of a text, by their names."""
+    return dict(line.split(": ", 1) for line in text.splitlines() if ": " in line)
+
+
+def compare(count, stock, ours):
+    """Checks that each fact of both is the same, but for those that have a row."""
+    used = set()
+    for name in {**stock, **ours}:
+        theirs, own = stock.get(name), ours.get(name)
+        row = next((row for row in DIFFERENT if row.fits(name, theirs, own)), None) if theirs != own else None
+        used.add(row)
+        count.check(name, theirs == own or row, f"stock: {theirs}, ours: {own}")
+    for row in DIFFERENT:
+        count.check(f"a difference: {row.names}", row in used, f"it isn't there any more: {row.why}")
+
+
+def check_driven(count, said):
+    """Checks what the driver said of both sides, where it ended well on both."""
+    for kind, (status, text, fault) in said.items():
+        count.check(f"the driver ends well, {kind}", status == 0, f"{status}: {fault}")
+    if any(status != 0 for status, _, _ in said.values()):
+        return
+    for kind, (_, text, _) in said.items():
+        lines = text.splitlines()
+        count.check(f"each fact has a name of its own, {kind}", len(facts(text)) == len(lines), len(lines) - len(facts(text)))
+    stock = facts(said[STOCK][1])
+    count.check("there are as many facts as ever", len(stock) >= LEAST_FACTS, len(stock))
+    wrong = [name for name, value in stock.items() if "never came" in value or value == "false" and name not in FALSE]
+    count.check("all that is waited for comes at a stock agent", not wrong, wrong)
+    compare(count, stock, facts(said[OURS][1]))
+
+
+def names_of(tests):
+    """The names of Serf's tests."""
+    return sorted(line for line in ended([tests, "-test.list", "^TestRPCClient"])[1].splitlines() if line.startswith("Test"))
+
+
+def tried(side, tests, name, number, pauses):
+    """Runs a test of Serf's until it passes: whether it did, and what it said last."""
+    said = ""
+    for pause in pauses:
+        env = {
+            **os.environ, "RPC_CLIENT_PROGRAM": "\n".join(side.words), "RPC_CLIENT_YIELD": f"{pause}s", "RPC_CLIENT_AUTH": TOKENS.get(name, ""),
+            "RPC_CLIENT_ADDRESSES": " ".join(side.address(TESTED[2 * number + more]) for more in (0, 1)),
+        }
+        status, text, fault = ended([tests, "-test.v", "-test.timeout", f"{LIMIT}s", "-test.run", f"^{name}$"], env=env, cwd=side.folder)
+        said = text + fault
+        if status == 0 and f"--- PASS: {name}" in text:
+            return True, said
+    return False, said
+
+
+def tested(side, tests, names):
+    """How each of Serf's tests ends at a side. One that is known to fail is tried once."""
+    found = {}
+    for number, name in enumerate(names):
+        fails = side.kind == OURS and name in FAILING
+        if name not in NOT_TRIED:
+            found[name] = tried(side, tests, name, number, PAUSES[1:2] if fails else (FIRST_PAUSE.get(name, PAUSES[0]), *PAUSES))
+    return found
+
+
+def check_tested(count, names, ended_so):
+    """Checks how Serf's tests ended."""
+    count.check("Serf's tests are there", len(names) >= LEAST_TESTS, names)
+    for name, why in {**NOT_TRIED, **FAILING}.items():
+        count.check(f"{name} is there ({why})", name in names, names)
+    for kind, found in ended_so.items():
+        for name, (passed, said) in found.items():
+            fails = kind == OURS and name in FAILING
+            count.check(f"{name}, {kind}", passed != fails, said[-1500:] or f"it passes, and FAILING says: {FAILING.get(name)}")
+
+
+def reader():
+    """A Python that has msgpack, or None."""
+    for python in (sys.executable, "/usr/bin/python3"):
+        if os.path.exists(python) and c_library.ran([python, "-c", "import msgpack"])[0] == 0:
+            return python
+    return None
+
+
+def read(side, python):
+    """What Python reads of an agent."""
+    agent = kit.Agent(side.folder, side.words, "read", side.first + READ, net=side.net)
+    try:
+        agent.start()
+        return ended([python, os.path.join(OWN, "reader.py"), agent.addr, "7373"]), agent.addr
+    finally:
+        agent.end()
+
+
+def check_read(count, sides, said):
+    """Checks what Python read of both: bytes are bytes, and all else is the same."""
+    found = {}
+    for side in sides:
+        (status, text, fault), address = said[side.kind]
+        count.check(f"Python reads it, {side.kind}", status == 0, fault)
+        values = found[side.kind] = json.loads(text) if status == 0 else {"members": {"Members": [{}]}, "record": {}}
+        member = values["members"]["Members"][0]
+        addr = "".join(f"{int(part):02x}" for part in address.split("."))
+        count.check(f"an address is bytes, {side.kind}", member.pop("Addr", None) == f"bytes:{addr}", text)
+        count.check(f"a payload is bytes, {side.kind}", values["record"].get("Payload") == "bytes:fffe00", text)
+    count.check("all else that Python reads is the same", found[STOCK] == found[OURS], found)
+
+
+def run(count, asked, folder):
+    (driver, tests), fault = built(folder)
+    count.check("the driver and Serf's tests are compiled", fault is None, fault)
+    program = agent_of(count, asked, folder)
+    if fault or not os.path.isfile(program):
+        return
+    sides = [Side(STOCK, ["serf", "agent"], folder), Side(OURS, [program], folder)]
+    python, names = reader(), names_of(tests)
+    if python is None:
+        print("not run: a reader in Python, since no python3 here has msgpack")
+    with ThreadPoolExecutor(4) as pool:
+        drives = {side.kind: pool.submit(driven, side, driver) for side in sides}
+        runs = {side.kind: pool.submit(tested, side, tests, names) for side in sides}
+        reads = {side.kind: pool.submit(read, side, python) for side in sides} if python else {}
+    check_driven(count, {kind: one.result() for kind, one in drives.items()})
+    check_tested(count, names, {kind: one.result() for kind, one in runs.items()})
+    if python:
+        check_read(count, sides, {kind: one.result() for kind, one in reads.items()})
+
+
+def main():
+    words = argparse.ArgumentParser(description=__doc__, formatter_class=argparse.RawDescriptionHelpFormatter)
+    words.add_argument("--library")
+    words.add_argument("--over-ci", action="store_true")
+    words.add_argument("--agent")
+    asked = words.parse_args()
+    count = checks.Checks()
+    lacks = missing()
+    if lacks:
+        print(f"not run: programs on Serf's client, since there is no {lacks}")
+        return count.finish()
+    unformatted = c_library.ran(["gofmt", "-l", OWN])[1]
+    count.check("the programs in Go are formatted", not unformatted, unformatted)
+    with tempfile.TemporaryDirectory(prefix="rpc-client-", ignore_cleanup_errors=True) as folder:
+        run(count, asked, folder)
+    return count.finish()
+
+
+if __name__ == "__main__":
+    sys.exit(main())

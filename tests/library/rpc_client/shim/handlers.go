@@ -1,0 +1,41 @@
+package agent
+
+import (
+	"sync"
+
+	"github.com/hashicorp/serf/serf"
+)
+
+// EventHandler is told of events.
+type EventHandler interface{ HandleEvent(serf.Event) }
+
+// MockEventHandler keeps the events that it is told of.
+type MockEventHandler struct {
+	sync.Mutex
+	Events []serf.Event
+}
+
+// HandleEvent keeps an event.
+func (mock *MockEventHandler) HandleEvent(one serf.Event) {
+	mock.Lock()
+	defer mock.Unlock()
+	mock.Events = append(mock.Events, one)
+}
+
+// MockQueryHandler keeps the queries that it is told of. The agent's client answers them with Response.
+type MockQueryHandler struct {
+	sync.Mutex
+	Response []byte
+	Queries  []*serf.Query
+}
+
+// HandleEvent keeps a query.
+func (mock *MockQueryHandler) HandleEvent(one serf.Event) {
+	query, is := one.(*serf.Query)
+	if !is {
+		return
+	}
+	mock.Lock()
+	defer mock.Unlock()
+	mock.Queries = append(mock.Queries, query)
+}
