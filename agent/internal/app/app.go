@@ -42,6 +42,9 @@ type App struct {
 
 // Start starts an agent. It joins nobody yet.
 func Start(conf config.Config, out io.Writer) (*App, error) {
+	if err := conf.Resolve(); err != nil {
+		return nil, err
+	}
 	level, _ := logs.LevelOf(conf.LogLevel)
 	a := &App{config: conf, log: logs.New(out, level), ends: make(chan error, 1)}
 	scripts, err := handlers.ParseScripts(conf.EventHandlers)
@@ -68,6 +71,7 @@ func Start(conf config.Config, out io.Writer) (*App, error) {
 	})
 	a.coalescer = handlers.NewCoalescer(handlers.CoalescePeriod, handlers.QuietPeriod, a.out)
 	a.log.Print("[INFO] agent: Serf agent starting")
+	a.tellOfFarClocks(agent)
 	a.node, err = gossip.Create(gossip.Options{
 		Config: &a.config, Log: a.log.Logger, Agent: agent, Keys: keys, Tags: a.tags.all(), Snapshot: a.file, Previous: previous,
 		Out: a.coalescer.Add, HasRoom: a.runner.HasRoom, Room: a.runner.Room(), Fatal: a.end,
@@ -77,11 +81,7 @@ func Start(conf config.Config, out io.Writer) (*App, error) {
 		a.closeRest(0)
 		return nil, err
 	}
-	address, err := config.ParseAddress(conf.RPCAddr, config.RPCPort)
-	if err != nil {
-		return nil, err
-	}
-	server, err := rpc.Listen(address.String(), conf.RPCAuth, a, a.log)
+	server, err := rpc.Listen(conf.RPCAddr, conf.RPCAuth, a, a.log)
 	if err != nil {
 		_ = a.node.Shutdown()
 		a.closeRest(0)
@@ -89,6 +89,25 @@ func Start(conf config.Config, out io.Writer) (*App, error) {
 	}
 	a.server.Store(server)
 	return a, nil
+}
+
+// tellOfFarClocks says of each clock of the file that is far what the others don't take of this node.
+func (a *App) tellOfFarClocks(agent gossip.Agent) {
+	clocks, err := agent.Clocks()
+	if err != nil {
+		return
+	}
+	for _, one := range []struct {
+		line, what string
+		clock      uint64
+	}{
+		{"clock", "join and leave intents", clocks.Member}, {"event-clock", "events", clocks.Event}, {"query-clock", "queries", clocks.Query},
+	} {
+		if one.clock >= gossip.FarTime {
+			a.log.Printf("[WARN] agent: the file's %s stands at %d, which no honest clock reaches, so no other node takes this one's %s: "+
+				"see AGENT.md, \"A clock that is too far\"", one.line, one.clock, one.what)
+		}
+	}
 }
 
 // out gets what is to be handled: one at a time.

@@ -324,6 +324,45 @@ func TestJoining(t *testing.T) {
 	}
 }
 
+// A name is looked up once, at the start, and nothing listens at all of the machine's addresses: another one has its port left.
+func TestNamedAddresses(t *testing.T) {
+	free, err := net.Listen("tcp4", "127.0.0.1:0")
+	if err != nil {
+		t.Fatal(err)
+	}
+	port := free.Addr().(*net.TCPAddr).Port
+	free.Close()
+	a, _ := start(t, "-bind", fmt.Sprint("localhost:", port), "-rpc-addr", "localhost:0", "-advertise", "localhost:7999")
+	defer a.Close()
+	own := a.node.List().LocalNode()
+	if !own.Addr.IsLoopback() || own.Port != 7999 || !a.server.Load().Addr().(*net.TCPAddr).IP.IsLoopback() {
+		t.Error(own.Addr, own.Port, a.server.Load().Addr())
+	}
+	other, err := net.ListenPacket("udp4", fmt.Sprint("127.0.0.2:", port))
+	if err != nil {
+		t.Fatal(err)
+	}
+	other.Close()
+}
+
+// Files whose clocks are far are told at the start.
+func TestFarClocksAreTold(t *testing.T) {
+	path := filepath.Join(t.TempDir(), "snapshot")
+	if err := os.WriteFile(path, []byte("clock: 7\nevent-clock: 18446744073709551614\nquery-clock: 9223372036854775807\n"), 0o600); err != nil {
+		t.Fatal(err)
+	}
+	a, out := start(t, "-snapshot", path)
+	defer a.Close()
+	for _, says := range []string{"event-clock stands at 18446744073709551615", "query-clock stands at 9223372036854775808"} {
+		if !strings.Contains(out.String(), says) {
+			t.Errorf("%s: without %q", out, says)
+		}
+	}
+	if strings.Contains(out.String(), "file's clock stands") {
+		t.Error(out)
+	}
+}
+
 func TestMainsStatuses(t *testing.T) {
 	for _, one := range []struct {
 		words  string

@@ -68,7 +68,7 @@ func (a *App) Stats() map[string]map[string]string {
 	serf := map[string]string{
 		"members": number(members.Size()), "failed": number(members.Count(event.Failed)), "left": number(members.Count(event.Left)),
 		"health_score": number(a.node.List().GetHealthScore()), "encrypted": number(a.node.Keys != nil), "coordinate_resets": "0",
-		"dropped": number(a.node.Dropped()),
+		"dropped": number(a.node.Dropped()), "dropped_far": number(a.node.DroppedFar()),
 	}
 	intents, events, queries := a.node.Queued()
 	serf["intent_queue"], serf["event_queue"], serf["query_queue"] = number(intents), number(events), number(queries)

@@ -21,8 +21,11 @@ const (
 type Config struct {
 	// NodeName is the node's own name; the host's name where nothing is said.
 	NodeName string
-	// Bind is where gossip listens, and Advertise what the others are told, where it isn't Bind.
+	// Bind is where gossip listens, and Advertise what the others are told, where it isn't Bind. A name in them, or in RPCAddr, is
+	// looked up by Resolve.
 	Bind, Advertise string
+	// Interface is the interface of the machine whose address Bind has to be, or becomes where it is all addresses.
+	Interface string
 	// Tags are the node's tags. TagsFile keeps them between starts, and excludes Tags.
 	Tags     map[string]string
 	TagsFile string
@@ -135,16 +138,13 @@ func (c *Config) validate() error {
 }
 
 func (c *Config) validateAddresses() error {
-	if _, err := ParseAddress(c.Bind, BindPort); err != nil {
-		return fmt.Errorf("-bind: %w", err)
-	}
-	if c.Advertise != "" {
-		if _, err := ParseAddress(c.Advertise, BindPort); err != nil {
-			return fmt.Errorf("-advertise: %w", err)
+	for _, one := range []struct{ flag, text string }{{"-bind", c.Bind}, {"-advertise", c.Advertise}, {"-rpc-addr", c.RPCAddr}} {
+		if one.text == "" && one.flag == "-advertise" {
+			continue
 		}
-	}
-	if _, err := ParseAddress(c.RPCAddr, RPCPort); err != nil {
-		return fmt.Errorf("-rpc-addr: %w", err)
+		if _, err := parseNamed(one.text, BindPort); err != nil {
+			return fmt.Errorf("%s: %w", one.flag, err)
+		}
 	}
 	return nil
 }

@@ -21,13 +21,14 @@ func write(t *testing.T, path, text string) string {
 }
 
 func TestFlags(t *testing.T) {
-	words := strings.Fields("-node a -bind 127.0.0.1:1 -join x -join y -rejoin -snapshot s -tag k=v=w -role web -retry-max 3 " +
+	words := strings.Fields("-node a -iface eth0 -bind 127.0.0.1:1 -join x -join y -rejoin -snapshot s -tag k=v=w -role web -retry-max 3 " +
 		"-retry-interval 5s -log-level debug -profile wan -event-handler user:deploy=run -disable-compression -replay -keep-events")
 	found, err := Parse(words, io.Discard)
 	if err != nil {
 		t.Fatal(err)
 	}
 	want := Default()
+	want.Interface = "eth0"
 	want.NodeName, want.Bind, want.StartJoin, want.Rejoin, want.Snapshot = "a", "127.0.0.1:1", []string{"x", "y"}, true, "s"
 	want.Tags, want.RetryMax, want.RetryInterval = map[string]string{"k": "v=w", "role": "web"}, 3, 5*time.Second
 	want.LogLevel, want.Profile, want.EventHandlers = "DEBUG", "wan", []string{"user:deploy=run"}
@@ -40,7 +41,7 @@ func TestFlags(t *testing.T) {
 func TestFilesComeBeforeFlags(t *testing.T) {
 	folder := t.TempDir()
 	one := write(t, filepath.Join(folder, "one"), `{"node_name": "one", "start_join": ["x"], "tags": {"a": "1"}, "rejoin_after_leave": true,
-		"snapshot_path": "s", "retry_max_attempts": 7, "reconnect_timeout": "1h", "leave_on_terminate": true, "keep_events": true}`)
+		"interface": "eth0", "bind": "", "advertise": "", "rpc_addr": "", "snapshot_path": "s", "retry_max_attempts": 7, "reconnect_timeout": "1h", "leave_on_terminate": true, "keep_events": true}`)
 	write(t, filepath.Join(folder, "b.json"), `{"node_name": "b", "start_join": ["z"], "tags": null}`)
 	write(t, filepath.Join(folder, "a.json"), `{"node_name": "a", "start_join": ["y"], "rpc_auth": "token", "enable_compression": false}`)
 	write(t, filepath.Join(folder, "c.text"), `{`)
@@ -52,6 +53,9 @@ func TestFilesComeBeforeFlags(t *testing.T) {
 		t.Errorf("%+v", found)
 	}
 	if !reflect.DeepEqual(found.Tags, map[string]string{"a": "1", "b": "2"}) || found.RetryMax != 7 || found.ReconnectTimeout != time.Hour {
+		t.Errorf("%+v", found)
+	}
+	if found.Interface != "eth0" || found.Bind != Default().Bind || found.RPCAddr != Default().RPCAddr || found.Advertise != "" {
 		t.Errorf("%+v", found)
 	}
 	if !found.LeaveOnTerminate || found.Compression || !found.Rejoin || !found.KeepEvents {
@@ -96,7 +100,10 @@ func TestRefusals(t *testing.T) {
 		{"-handler-timeout -1s", "below 0"},
 		{"-replay=maybe", "neither true nor false"},
 		{"-discover x", "-join"},
-		{"-iface eth0", "-bind"},
+		{"-bind :7946", `-bind: ":7946" names no host; 0.0.0.0:7946 would be all`},
+		{"-bind []:1", "names no host"},
+		{"-rpc-addr :7373", `-rpc-addr: ":7373" names no host; 0.0.0.0:7373 would be all`},
+		{"-advertise :7946", "-advertise: \":7946\" names no host"},
 		{"-syslog", "standard output"},
 		{"-config-file /nowhere", "no such file"},
 		{"-config-file /", "is a directory"},

@@ -22,6 +22,16 @@ func text(at func(*Config) *string) func(*Config, string) error {
 	}
 }
 
+// unlessEmpty leaves what stands where the text is empty, as Serf does.
+func unlessEmpty(set func(*Config, string) error) func(*Config, string) error {
+	return func(c *Config, value string) error {
+		if value == "" {
+			return nil
+		}
+		return set(c, value)
+	}
+}
+
 func list(at func(*Config) *[]string) func(*Config, string) error {
 	return func(c *Config, value string) error {
 		*at(c) = append(*at(c), value)
@@ -100,8 +110,9 @@ func noCompression(c *Config, value string) error {
 // settings are all that is taken.
 var settings = []setting{
 	{"node", "node_name", "name of this node, its own in the cluster", false, text(func(c *Config) *string { return &c.NodeName })},
-	{"bind", "bind", "address of gossip, 0.0.0.0:7946", false, text(func(c *Config) *string { return &c.Bind })},
-	{"advertise", "advertise", "address that the others are told", false, text(func(c *Config) *string { return &c.Advertise })},
+	{"bind", "bind", "address or name at which gossip listens, 0.0.0.0:7946", false, unlessEmpty(text(func(c *Config) *string { return &c.Bind }))},
+	{"iface", "interface", "interface whose address that has to be, or is", false, text(func(c *Config) *string { return &c.Interface })},
+	{"advertise", "advertise", "address or name that the others are told", false, text(func(c *Config) *string { return &c.Advertise })},
 	{"join", "start_join", "agent to join at the start (repeatable)", false, list(func(c *Config) *[]string { return &c.StartJoin })},
 	{"retry-join", "retry_join", "agent to join, tried until it works (repeatable)", false, list(func(c *Config) *[]string { return &c.RetryJoin })},
 	{"retry-interval", "retry_interval", "time between two tries, 30s", false, length(func(c *Config) *time.Duration { return &c.RetryInterval })},
@@ -119,7 +130,7 @@ var settings = []setting{
 	{"tags-file", "tags_file", "file that keeps the tags", false, text(func(c *Config) *string { return &c.TagsFile })},
 	{"encrypt", "encrypt_key", "key of 16, 24 or 32 bytes in base64", false, text(func(c *Config) *string { return &c.EncryptKey })},
 	{"keyring-file", "keyring_file", "file that keeps the keys", false, text(func(c *Config) *string { return &c.KeyringFile })},
-	{"rpc-addr", "rpc_addr", "address of the command line's requests, 127.0.0.1:7373", false, text(func(c *Config) *string { return &c.RPCAddr })},
+	{"rpc-addr", "rpc_addr", "address or name of the command line's requests, 127.0.0.1:7373", false, unlessEmpty(text(func(c *Config) *string { return &c.RPCAddr }))},
 	{"rpc-auth", "rpc_auth", "token that the command line has to know", false, text(func(c *Config) *string { return &c.RPCAuth })},
 	{"log-level", "log_level", "trace, debug, info, warn or err", false, level},
 	{"profile", "profile", "lan, wan or local", false, text(func(c *Config) *string { return &c.Profile })},
@@ -142,8 +153,6 @@ var settings = []setting{
 var refused = map[string]string{
 	"discover":                        "peers aren't looked for by multicast; name some by -join or -retry-join",
 	"mdns":                            "peers aren't looked for by multicast; name some by -join or -retry-join",
-	"iface":                           "name the address by -bind",
-	"interface":                       "name the address by \"bind\"",
 	"syslog":                          "the log goes to standard output; let the service manager take it",
 	"enable_syslog":                   "the log goes to standard output; let the service manager take it",
 	"syslog_facility":                 "the log goes to standard output; let the service manager take it",

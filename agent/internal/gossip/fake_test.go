@@ -111,7 +111,8 @@ func at(address string) change { return func(o *Options) { o.Config.Bind = addre
 func start(t *testing.T, name, folder string, changes ...change) *one {
 	t.Helper()
 	conf := config.Default()
-	conf.NodeName, conf.Profile, conf.BroadcastTimeout, conf.Bind = name, "local", time.Second, "127.0.0.1:0"
+	// (a machine with much to do sends late)
+	conf.NodeName, conf.Profile, conf.BroadcastTimeout, conf.Bind = name, "local", 20*time.Second, "127.0.0.1:0"
 	o := &one{t: t}
 	options := Options{
 		Config: &conf, Log: log.New(io.Discard, "", 0), Tags: map[string]string{}, Out: o.out,

@@ -91,14 +91,13 @@ func (n *Node) previous() []string {
 	return addrs
 }
 
-// Leave tells the others that this node leaves, and goes.
+// Leave tells the others that this node leaves, and goes. Where it can't be said, the node goes on as before, and Leave may be called
+// again.
 func (n *Node) Leave(ctx context.Context) error {
 	if n.isLeaving.Swap(true) {
 		return errors.New("Leave already in progress")
 	}
-	n.saying.Lock()
-	sent, err := n.sayThat(serfagent.Intent{Node: []byte(n.Config.NodeName), Leave: true})
-	n.saying.Unlock()
+	sent, err := n.sayLeave()
 	if err != nil {
 		return err
 	}
@@ -113,6 +112,19 @@ func (n *Node) Leave(ctx context.Context) error {
 	n.lines.add("leave\n")
 	waited(ctx, nil, leaveTime)
 	return nil
+}
+
+// sayLeave tells the others that this node leaves. Where that fails it doesn't leave, and says that it is there: no such word was
+// said meanwhile.
+func (n *Node) sayLeave() (sent chan struct{}, err error) {
+	n.saying.Lock()
+	defer n.saying.Unlock()
+	sent, err = n.sayThat(serfagent.Intent{Node: []byte(n.Config.NodeName), Leave: true})
+	if err != nil {
+		n.isLeaving.Store(false)
+		tell(n.joined)
+	}
+	return sent, err
 }
 
 // waited waits for this, and says whether it came in time.

@@ -9,6 +9,7 @@ import (
 	"errors"
 	"fmt"
 	"log"
+	"net"
 	"sync"
 	"sync/atomic"
 	"time"
@@ -68,9 +69,9 @@ type Node struct {
 	open    map[asking]*opened
 	isEnded bool
 
-	// What came of the network and waits, and how much of it was dropped.
+	// What came of the network and waits; how much of it was dropped without room, and how much since its time is far.
 	packets, states *queue
-	dropped         atomic.Int64
+	dropped, far    atomic.Int64
 	// due has something where the time of a query may be over.
 	due chan struct{}
 	// internal are the queries of the agents among themselves, and conflicts another node that says it is this one.
@@ -159,16 +160,13 @@ func (n *Node) memberlistConfig() (*memberlist.Config, error) {
 	default:
 		conf = memberlist.DefaultLANConfig()
 	}
-	bind, err := config.ParseAddress(c.Bind, config.BindPort)
+	bind, err := ownAddress(c.Bind)
 	if err != nil {
 		return nil, err
 	}
 	conf.Name, conf.BindAddr, conf.BindPort, conf.AdvertisePort = c.NodeName, bind.Host, bind.Port, bind.Port
-	if conf.BindAddr == "" {
-		conf.BindAddr = "0.0.0.0"
-	}
 	if c.Advertise != "" {
-		advertise, err := config.ParseAddress(c.Advertise, bind.Port)
+		advertise, err := ownAddress(c.Advertise)
 		if err != nil {
 			return nil, err
 		}
@@ -182,6 +180,15 @@ func (n *Node) memberlistConfig() (*memberlist.Config, error) {
 	conf.Keyring = n.Keys.Ring()
 	conf.Logger = n.Log
 	return conf, withFaults(conf)
+}
+
+// ownAddress is an address whose names were looked up. memberlist takes a host that it can't read for all addresses, so it gets none.
+func ownAddress(text string) (config.Address, error) {
+	found, err := config.ParseAddress(text, config.BindPort)
+	if err == nil && net.ParseIP(found.Host) == nil {
+		return config.Address{}, fmt.Errorf("gossip: %q has no IP address", text)
+	}
+	return found, err
 }
 
 // List is memberlist's.
@@ -248,8 +255,11 @@ func (n *Node) Shutdown() error {
 	return err
 }
 
-// Dropped is how many packets, states and broadcasts were dropped, since too many waited.
-func (n *Node) Dropped() int64 { return n.dropped.Load() }
+// Dropped is how many packets, states and broadcasts were dropped: since too many waited, or since a time in them is far.
+func (n *Node) Dropped() int64 { return n.dropped.Load() + n.far.Load() }
+
+// DroppedFar is how many of these have a time that is far (FarTime).
+func (n *Node) DroppedFar() int64 { return n.far.Load() }
 
 // Clocks are the agent's.
 func (n *Node) Clocks() (serfagent.Clocks, error) { return n.Agent.Clocks() }

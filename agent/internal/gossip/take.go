@@ -18,7 +18,7 @@ import (
 func (n *Node) take() {
 	second := time.NewTicker(time.Second)
 	defer second.Stop()
-	told := int64(0)
+	var told told
 	for n.waitForRoom() {
 		var err error
 		select {
@@ -31,16 +31,28 @@ func (n *Node) take() {
 		case <-n.due:
 			err = n.closeDue()
 		case <-second.C:
-			if dropped := n.Dropped(); dropped > told {
-				n.Log.Printf("[WARN] serf: %d packets or states were dropped, since too many wait", dropped-told)
-				told = dropped
-			}
+			n.tellDropped(&told)
 			err = n.closeDue()
 		}
 		if errors.Is(err, ErrEnded) || isClosed(err) {
 			return
 		}
 	}
+}
+
+// told is how much of what was dropped was told.
+type told struct{ dropped, far int64 }
+
+// tellDropped tells of what was dropped since it was last told.
+func (n *Node) tellDropped(before *told) {
+	now := told{n.dropped.Load(), n.far.Load()}
+	if now.dropped > before.dropped {
+		n.Log.Printf("[WARN] serf: %d packets or states were dropped, since too many wait", now.dropped-before.dropped)
+	}
+	if now.far > before.far {
+		n.Log.Printf("[WARN] serf: %d packets or states were dropped, since a time in them is from 2^63 on, which no honest clock reaches", now.far-before.far)
+	}
+	*before = now
 }
 
 // waitForRoom waits while there is none for events; false at the end. Queries are closed meanwhile.
@@ -64,6 +76,10 @@ func (n *Node) waitForRoom() bool {
 func (n *Node) takeState() error {
 	state, is := n.states.next()
 	if !is {
+		return nil
+	}
+	if n.isFar(state.data) {
+		n.far.Add(1)
 		return nil
 	}
 	err := n.inOrder(func() error {
@@ -94,6 +110,10 @@ func (n *Node) takePackets() error {
 		packet, is := n.packets.next()
 		if !is {
 			break
+		}
+		if n.isFar(packet.data) {
+			n.far.Add(1)
+			continue
 		}
 		switch packet.data[0] {
 		case wire.LeaveType, wire.JoinType:

@@ -49,7 +49,7 @@ func (c *Coalescer) Add(e *event.Event) {
 	switch {
 	case e.Kind == event.User && e.Coalesce:
 		c.hold(&c.users, e, laterOf)
-	case e.Kind.IsOfMembers() && e.Kind != event.MemberReap:
+	case e.Kind.IsOfMembers():
 		for _, member := range e.Members {
 			one := *e
 			one.Members = []event.Member{member}

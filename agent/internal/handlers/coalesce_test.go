@@ -52,7 +52,8 @@ func TestCoalescing(t *testing.T) {
 		now  string
 		then string
 	}{
-		{"others pass", []*event.Event{at("a", 1, false), {Kind: event.Asked, Name: "q"}, of(event.MemberReap, "x")}, "a:1, q:0, member-reap x", ""},
+		{"others pass", []*event.Event{at("a", 1, false), {Kind: event.Asked, Name: "q"}}, "a:1, q:0", ""},
+		{"one that is forgotten", []*event.Event{of(event.MemberFailed, "x"), of(event.MemberLeave, "x"), of(event.MemberReap, "x")}, "", "member-reap x"},
 		{"the last of a name", []*event.Event{at("a", 1, true), at("b", 2, true), at("a", 3, true)}, "", "b:2, a:3"},
 		{"an earlier time is dropped", []*event.Event{at("a", 3, true), at("a", 1, true)}, "", "a:3"},
 		{"one time stays whole", []*event.Event{at("a", 3, true), at("a", 3, true)}, "", "a:3, a:3"},

@@ -14,11 +14,11 @@ import (
 	"kitchenrue.example/agent/internal/handlers"
 )
 
-// times are how long a client may take: to say who it is, to send the rest of a request, to take what is sent to it, and to
-// take what is sent at the end.
-type times struct{ greet, rest, send, last time.Duration }
+// times are how long a client may take: to say who it is, to send the rest of a request, to take what is sent to it, to take what is
+// sent at the end, and to read why it is ended. Serf's own client may take an end that comes right behind an answer for the answer.
+type times struct{ greet, rest, send, last, linger time.Duration }
 
-var defaultTimes = times{10 * time.Second, 10 * time.Second, 10 * time.Second, time.Second}
+var defaultTimes = times{10 * time.Second, 10 * time.Second, 10 * time.Second, time.Second, 200 * time.Millisecond}
 
 // maxWritten is how many bytes of frames are written by one call. A longer frame is written alone.
 const maxWritten = 32 << 10
@@ -75,10 +75,23 @@ func (c *client) read() {
 		if err == nil {
 			continue
 		}
+		if errors.Is(err, errLast) {
+			c.linger()
+		}
 		if !errors.Is(err, io.EOF) && !errors.Is(err, net.ErrClosed) && c.ctx.Err() == nil {
 			c.server.log.Printf("[WARN] agent.ipc: %v was ended: %v", c.conn.RemoteAddr(), err)
 		}
 		return
+	}
+}
+
+// linger waits until a client that is to be ended has read why, and takes nothing of it meanwhile.
+func (c *client) linger() {
+	late := time.NewTimer(c.times.linger)
+	defer late.Stop()
+	select {
+	case <-late.C:
+	case <-c.ctx.Done():
 	}
 }
 

@@ -86,7 +86,7 @@ func (f *fake) Stats() map[string]map[string]string {
 	return map[string]map[string]string{"agent": {"name": "alpha"}}
 }
 
-var quick = times{2 * time.Second, time.Second, time.Second, 200 * time.Millisecond}
+var quick = times{2 * time.Second, time.Second, time.Second, 200 * time.Millisecond, time.Millisecond}
 
 // start begins to listen.
 func start(t *testing.T, token string) (*Server, *fake, *logs.Log) {
@@ -124,13 +124,18 @@ func dial(t *testing.T, s *Server) *peer {
 	return &peer{t: t, conn: conn, in: &reader{in: bufio.NewReader(conn)}}
 }
 
-func (p *peer) write(values ...interface{}) {
-	p.t.Helper()
+func encoded(t *testing.T, values ...interface{}) []byte {
+	t.Helper()
 	data, err := encode(values...)
 	if err != nil {
-		p.t.Fatal(err)
+		t.Fatal(err)
 	}
-	if _, err := p.conn.Write(data); err != nil {
+	return data
+}
+
+func (p *peer) write(values ...interface{}) {
+	p.t.Helper()
+	if _, err := p.conn.Write(encoded(p.t, values...)); err != nil {
 		p.t.Fatal(err)
 	}
 }

@@ -2,6 +2,7 @@ package rpc
 
 import (
 	"bytes"
+	"net"
 	"reflect"
 	"sync"
 	"testing"
@@ -75,6 +76,28 @@ func TestAnEventOfManyStreams(t *testing.T) {
 			if len(found) != len(all) || !found[all[0]] {
 				t.Fatal(found, all)
 			}
+		}
+	}
+}
+
+// Text is written raw, and bytes as bin, as Serf's agents and clients have it; both are read as either.
+func TestBytesAreBin(t *testing.T) {
+	all := []event.Member{{Name: "a", Addr: net.IPv4(127, 0, 0, 1), Tags: map[string]string{"k": "v"}}}
+	for want, value := range map[string]interface{}{
+		"\xa7Payload\xc4\x03\xff\xfe\x00":  userRecord{Event: "user", Name: "x", Payload: []byte("\xff\xfe\x00")},
+		"\xa7Payload\xc4\x01\x80":          askedRecord{Event: "query", Name: "x", Payload: []byte("\x80")},
+		"\xa4Addr\xc4\x04\x7f\x00\x00\x01": membersAnswer{membersOf(all)},
+		"\xa1k\xa1v":                       membersAnswer{membersOf(all)},
+		"\xa3Log\xa4text":                  logRecord{"text"},
+	} {
+		if data := encoded(t, value); !bytes.Contains(data, []byte(want)) {
+			t.Errorf("%q, without %q", data, want)
+		}
+	}
+	for _, payload := range []string{"\xa2v1", "\xc4\x02v1"} {
+		var body eventBody
+		if err := decode([]byte("\x82\xa4Name\xa1x\xa7Payload"+payload), &body); err != nil || body.Name != "x" || string(body.Payload) != "v1" {
+			t.Errorf("%q: %+v %v", payload, body, err)
 		}
 	}
 }

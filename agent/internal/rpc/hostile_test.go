@@ -5,6 +5,7 @@ import (
 	"bytes"
 	"errors"
 	"io"
+	"net"
 	"strings"
 	"testing"
 	"time"
@@ -36,14 +37,43 @@ func TestBeforeTheGreeting(t *testing.T) {
 	p.isEnded()
 }
 
-func TestWhatEndsAClient(t *testing.T) {
-	header := func(command string) string {
-		data, err := encode(requestHeader{command, 1})
-		if err != nil {
-			t.Fatal(err)
-		}
-		return string(data)
+// Nothing but the whole token lets a client in, once, and behind the handshake.
+func TestTokens(t *testing.T) {
+	s, f, _ := start(t, "sesame")
+	for _, token := range []string{"", "s", "sesam", "sesame ", "sesame\x00", "sesamesesame", "Sesame"} {
+		p := dial(t, s).greet()
+		p.says(p.ask("auth", authBody{token}), "Invalid authentication token")
+		// (a second try, with the right one, comes too late)
+		_, _ = p.conn.Write(encoded(t, requestHeader{"auth", 2}, authBody{"sesame"}, requestHeader{"event", 3}, eventBody{Name: "x"}))
+		p.isEnded()
 	}
+	p := dial(t, s)
+	p.write(requestHeader{"auth", 1}, authBody{"sesame"}, requestHeader{"handshake", 2}, handshakeBody{1}, requestHeader{"event", 3}, eventBody{Name: "x"})
+	p.says(1, "Handshake required")
+	p.isEnded()
+	eventually(t, func() bool { return clients(s) == 0 })
+	if len(f.calls) > 0 {
+		t.Error(f.calls)
+	}
+}
+
+// Who is ended has time to read why, and is served no more meanwhile.
+func TestTheLastAnswerIsRead(t *testing.T) {
+	patient := quick
+	patient.linger = time.Hour
+	s, _, _ := startBy(t, "sesame", patient)
+	p := dial(t, s).greet()
+	p.says(p.ask("auth", authBody{"rice"}), "Invalid authentication token")
+	p.write(requestHeader{"auth", 3}, authBody{"sesame"})
+	_ = p.conn.SetReadDeadline(time.Now().Add(200 * time.Millisecond))
+	var late net.Error
+	if _, err := p.in.in.ReadByte(); !errors.As(err, &late) || !late.Timeout() {
+		t.Error(err)
+	}
+}
+
+func TestWhatEndsAClient(t *testing.T) {
+	header := func(command string) string { return string(encoded(t, requestHeader{command, 1})) }
 	for name, bytes := range map[string]string{
 		"half a header":          "\x82\xa7Comm",
 		"half a body":            header("event") + "\x83\xa4Name\xa1",

@@ -134,8 +134,13 @@ func (r *reader) values(count uint64, depth int) error {
 	return nil
 }
 
-// handle is how values are written and read: text is raw, as Serf has it.
-func handle() *codec.MsgpackHandle { return &codec.MsgpackHandle{} }
+// handle is how values are written and read, as Serf has it: text is raw, and bytes are bin. A client that reads a payload or an
+// address as bytes gets no text, then.
+func handle() *codec.MsgpackHandle {
+	handle := &codec.MsgpackHandle{WriteExt: true}
+	handle.RawToString = true
+	return handle
+}
 
 // decode reads a value whose bytes are all there.
 func decode(value []byte, to interface{}) error {

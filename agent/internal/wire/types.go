@@ -4,6 +4,8 @@ package wire
 const (
 	LeaveType       = 0
 	JoinType        = 1
+	StateType       = 2
+	EventType       = 3
 	QueryType       = 4
 	ConflictType    = 6
 	KeyAskedType    = 7

@@ -20,6 +20,10 @@ const (
 	keyAsked    = "0781a34b6579da0020b19e7fa4ded89f425da562d476d10541e89391c751bea65cd5ef861fb3ef0357"
 	keyAnswered = "0884a44b657973c0a74d657373616765da00294b657972696e6720697320656d7074792028656e6372797074696f6e206e6f7420656e61626c656429aa5072696d6172794b6579a0a6526573756c74c2"
 	memberOf    = "068ba441646472a47f000102ab44656c656761746543757205ab44656c65676174654d617805ab44656c65676174654d696e02a44e616d65a462657461a4506f7274cd1f0aab50726f746f636f6c43757202ab50726f746f636f6c4d617805ab50726f746f636f6c4d696e01a653746174757301a45461677380"
+	eventPacket = "0384a24343c2a54c54696d6507a44e616d65a66465706c6f79a75061796c6f6164a2763a"
+	joinPacket  = "0182a54c54696d6501a44e6f6465a567616d6d61"
+	leavePacket = "0083a54c54696d6502a44e6f6465a462657461a55072756e65c2"
+	statePacket = "0286aa4576656e744c54696d6501a64576656e747392c0c0a54c54696d6503ab4c6566744d656d6265727391a462657461aa51756572794c54696d6501ac5374617475734c54696d657382a5616c70686100a46265746102"
 	tagsData    = "ff82a4726f6c65a3776562a26463a178"
 )
 
@@ -201,6 +205,37 @@ func TestMembersAnswer(t *testing.T) {
 	}
 }
 
+func TestTimes(t *testing.T) {
+	for _, one := range []struct {
+		packet string
+		want   Times
+	}{
+		{string(unhex(t, joinPacket)), Times{Member: 1}},
+		{string(unhex(t, leavePacket)), Times{Member: 2}},
+		{string(unhex(t, eventPacket)), Times{Event: 7}},
+		{string(unhex(t, queryPacket)), Times{Query: 1}},
+		{string(unhex(t, statePacket)), Times{3, 1, 1}},
+		{string(unhex(t, relayPacket)), Times{}},
+		{"\x05\x81\xa5LTime\x09", Times{}},
+		{"\x03\x81\xa5LTime\xc0", Times{}},
+		{"\x02\x81\xacStatusLTimes\x82\xa1a\x07\xa1b\x05", Times{Member: 7}},
+		{"\x02\x82\xa6Events\x93\x81\xa5LTime\x08\xc0\x82\xa6Events\x90\xa5LTime\x06\xaaEventLTime\x02", Times{Event: 8}},
+		{"\x02\x81\xaaQueryLTime\xcf\x80\x00\x00\x00\x00\x00\x00\x00", Times{Query: 1 << 63}},
+	} {
+		if found, err := ReadTimes([]byte(one.packet)); err != nil || found != one.want {
+			t.Errorf("%q: %+v %v", one.packet, found, err)
+		}
+	}
+	if latest := (Times{5, 7, 6}).Latest(); latest != 7 {
+		t.Error(latest)
+	}
+	for _, packet := range []string{"", "\x03", "\x03\x81\xa5LTime\xff", "\x03\x81\xa5LTime\xa1x", "\x02\x81\xa6Events\xdd\xff\xff\xff\xff", "\x02\x81\xacStatusLTimes\x01"} {
+		if found, err := ReadTimes([]byte(packet)); err == nil {
+			t.Errorf("%q: %+v", packet, found)
+		}
+	}
+}
+
 // A count that the bytes can't bear out is refused before anything behind it is read.
 func TestCountsAreNotBelieved(t *testing.T) {
 	for _, text := range []string{"\xdf\x00\x00\x00\x06", "\xdd\x00\x00\x00\x0b", "\xde\x00\x06", "\xdc\x00\x0b", "\x86", "\x9b"} {
@@ -220,7 +255,7 @@ func TestCountsAreNotBelieved(t *testing.T) {
 
 // Whatever comes, nothing is read beyond the bytes, and nothing panics.
 func TestCutAndTurned(t *testing.T) {
-	for _, text := range []string{queryPacket, relayPacket, keyAsked, keyAnswered, memberOf, tagsData} {
+	for _, text := range []string{queryPacket, relayPacket, keyAsked, keyAnswered, memberOf, tagsData, eventPacket, statePacket, joinPacket} {
 		whole := unhex(t, text)
 		for i := range whole {
 			for _, value := range []byte{whole[i], 0x00, 0x7f, 0x80, 0x8f, 0x9f, 0xa0, 0xbf, 0xc0, 0xc1, 0xc6, 0xcf, 0xd3, 0xdb, 0xdd, 0xdf, 0xff} {
@@ -236,6 +271,7 @@ func TestCutAndTurned(t *testing.T) {
 					_, _ = ReadKeyAnswered(packet)
 					_, _, _ = ReadMember(packet)
 					_, _ = ReadTags(packet)
+					_, _ = ReadTimes(packet)
 				}
 			}
 		}
