@@ -3,6 +3,7 @@ package gossip
 import (
 	"context"
 	"encoding/binary"
+	"fmt"
 	"io"
 	"log"
 	"os"
@@ -112,7 +113,39 @@ func TestTimesJustBelowFar(t *testing.T) {
 		a.NotifyMsg(packet(1<<64 - 2))
 	}
 	eventually(t, "they are dropped", func() bool { return a.DroppedFar() == int64(len(farPackets)) })
+	// (a node that missed what came between takes what comes now)
+	a.NotifyMsg(farPackets["an event"](FarTime + 1000))
+	eventually(t, "what is near is taken", func() bool { clocks, err := a.Clocks(); return err == nil && clocks.Event == FarTime+1001 })
 	works(t, a, b)
+}
+
+// What is near to one clock is far from another.
+func TestTimesAreFarFromTheirOwnClock(t *testing.T) {
+	clockOf := map[string]string{"an event": "event", "an event whose time comes last": "event", "a query": "query", "a join": "member"}
+	for near, clock := range clockOf {
+		packet := farPackets[near]
+		a := start(t, "a", t.TempDir())
+		var before serfagent.Clocks
+		for _, time := range []uint64{FarTime - 1, FarTime + 5} {
+			a.NotifyMsg(packet(time))
+			eventually(t, near+" is taken", func() bool {
+				var err error
+				before, err = a.Clocks()
+				return err == nil && (before.Event == time+1 || before.Query == time+1 || before.Member == time+1)
+			})
+		}
+		dropped := int64(0)
+		for what, other := range clockOf {
+			a.NotifyMsg(farPackets[what](FarTime + 5))
+			if other != clock {
+				dropped++
+			}
+		}
+		eventually(t, fmt.Sprint("beside ", near), func() bool { return a.DroppedFar() == dropped && len(a.packets.came) == 0 })
+		if after, err := a.Clocks(); err != nil || after != before {
+			t.Errorf("%s: %+v, and then %+v %v", near, before, after, err)
+		}
+	}
 }
 
 // What the library reads is read here too, with the same times, however it is cut and turned.
@@ -200,6 +233,8 @@ func TestALeaveThatFails(t *testing.T) {
 	if err := b.Leave(context.Background()); err != serfagent.OutOfMemory {
 		t.Fatal(err)
 	}
+	// (others may have heard meanwhile that it left)
+	eventually(t, "b says that it is there", func() bool { intents, _, _ := b.Queued(); return intents == 1 })
 	b.join(a)
 	eventually(t, "a hears that b is there", func() bool { return a.timeOf("b") == f.wordTime() })
 	if err := b.Leave(context.Background()); err != nil {

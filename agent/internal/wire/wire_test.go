@@ -220,6 +220,7 @@ func TestTimes(t *testing.T) {
 		{"\x03\x81\xa5LTime\xc0", Times{}},
 		{"\x02\x81\xacStatusLTimes\x82\xa1a\x07\xa1b\x05", Times{Member: 7}},
 		{"\x02\x82\xa6Events\x93\x81\xa5LTime\x08\xc0\x82\xa6Events\x90\xa5LTime\x06\xaaEventLTime\x02", Times{Event: 8}},
+		{"\x02\x82\xacStatusLTimes\x82\xa1a\x05\xa1b\x07\xa6Events\x92\x81\xa5LTime\x06\x81\xa5LTime\x08", Times{Member: 7, Event: 8}},
 		{"\x02\x81\xaaQueryLTime\xcf\x80\x00\x00\x00\x00\x00\x00\x00", Times{Query: 1 << 63}},
 	} {
 		if found, err := ReadTimes([]byte(one.packet)); err != nil || found != one.want {
