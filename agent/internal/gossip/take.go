@@ -18,7 +18,7 @@ import (
 func (n *Node) take() {
 	second := time.NewTicker(time.Second)
 	defer second.Stop()
-	var told told
+	var before told
 	for n.waitForRoom() {
 		var err error
 		select {
@@ -31,7 +31,7 @@ func (n *Node) take() {
 		case <-n.due:
 			err = n.closeDue()
 		case <-second.C:
-			n.tellDropped(&told)
+			n.tellDropped(&before)
 			err = n.closeDue()
 		}
 		if errors.Is(err, ErrEnded) || isClosed(err) {
