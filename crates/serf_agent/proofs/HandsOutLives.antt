@@ -165,7 +165,7 @@ query-received laws t config handed stood tags i now q Kept None on c runs small
 query-received laws t config handed stood tags i now q (Failed durable) None on c runs small low may = stands-query_failed laws t config handed stood i q.time q.id durable on c.sound runs small low c.stands may
 
 query-fired : BelowHandsOut → (t : ℕ) (config : Config) (handed stood : List (TimedEntry EventBody)) (i : IdealAgent) (now id : ℕ) (name payload : List ℕ) (params : QueryParams) (w : Writing) (r : Option QueryFault) → config.keep_events ≡ true → Course t config handed stood i → id < 2 ^ 32 → query_fault i id name payload params ≡ r
-    → (let q = query_at i.queries.clock i.config.name id name payload params in MayEnd i (query_fired_as r i now q) w → TakesAt t config handed stood (ended i (query_fired_as r i now q) w).agent)
+    → (let q = query_at i.queries.clock i.config.name id name payload params in MayEnd i (query_fired_as params.tags_pass r i now q) w → TakesAt t config handed stood (ended i (query_fired_as params.tags_pass r i now q) w).agent)
 query-fired laws t config handed stood i now id name payload params w (Some fault) on c low is may = c.stands
 query-fired laws t config handed stood i now id name payload params w None on c low is may = by w may
   where
@@ -188,7 +188,7 @@ query-fired laws t config handed stood i now id name payload params w None on c 
         let d = none-if none asks_faults.ZeroTimeout (cond spent (Some asks_faults.Exhausted) None) b.1 in
         (a.0, leb-false (2 ^ 64 - 1) i.queries.clock (none-if spent asks_faults.Exhausted None d.1).0)
 
-    by : (w : Writing) → MayEnd i (query_fired_as None i now q) w → TakesAt t config handed stood (ended i (query_fired_as None i now q) w).agent
+    by : (w : Writing) → MayEnd i (query_fired_as params.tags_pass None i now q) w → TakesAt t config handed stood (ended i (query_fired_as params.tags_pass None i now q) w).agent
     by Kept m =
         let entered = stands-query laws t config handed stood i i.queries.clock id on c.sound runs.0 runs.1 low c.stands in
         record { settings = entered.settings; last = entered.last; known = entered.known; minimum = entered.minimum; least = entered.least }

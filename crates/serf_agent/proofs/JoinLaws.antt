@@ -123,10 +123,10 @@ query-received laws least tags i now q (Failed durable) None h may =
     let next = (ended i (query_received_as tags None i now q) (Failed durable)).agent in
     quietly least next (rises laws least i next refl (omega arith) (failed-grows kinds.Query q.time (told_query i.config q.time q.id) durable i.snapshot may) h)
 
-query-fired : BelowHandsOut → (least : ℕ) (i : IdealAgent) (now : ℕ) (q : Query) (w : Writing) (r : Option QueryFault) → Remembers least i → MayEnd i (query_fired_as r i now q) w → Remembers least (ended i (query_fired_as r i now q) w).agent
-query-fired laws least i now q w (Some fault) h may = h
-query-fired laws least i now q Kept None h may = rises laws least i (ended i (query_fired_as None i now q) Kept).agent refl (omega arith) (noted-grows kinds.Query q.time (told_query i.config q.time q.id) i.snapshot) h
-query-fired laws least i now q (Failed durable) None h may = rises laws least i (ended i (query_fired_as None i now q) (Failed durable)).agent refl (omega arith) (failed-grows kinds.Query q.time (told_query i.config q.time q.id) durable i.snapshot may) h
+query-fired : BelowHandsOut → (least : ℕ) (tags : Bool) (i : IdealAgent) (now : ℕ) (q : Query) (w : Writing) (r : Option QueryFault) → Remembers least i → MayEnd i (query_fired_as tags r i now q) w → Remembers least (ended i (query_fired_as tags r i now q) w).agent
+query-fired laws least tags i now q w (Some fault) h may = h
+query-fired laws least tags i now q Kept None h may = rises laws least i (ended i (query_fired_as tags None i now q) Kept).agent refl (omega arith) (noted-grows kinds.Query q.time (told_query i.config q.time q.id) i.snapshot) h
+query-fired laws least tags i now q (Failed durable) None h may = rises laws least i (ended i (query_fired_as tags None i now q) (Failed durable)).agent refl (omega arith) (failed-grows kinds.Query q.time (told_query i.config q.time q.id) durable i.snapshot may) h
 
 response : BelowHandsOut → (least : ℕ) (i : IdealAgent) (now : ℕ) (r : QueryResponse) (w : Writing) (o : Option OpenQuery) → Remembers least i
     → Holds least (ended i (response_received_at o i now r) w).agent (map event_entry (handed_by (ended i (response_received_at o i now r) w).answer))
@@ -224,7 +224,7 @@ opens laws least i text d keeps told = subst (λ (b : Bool). Remembers least (re
 
 remembered : BelowHandsOut → (least : ℕ) (i : IdealAgent) (a : Act) → IsSound i → IsDurable i → Remembers least i → MayGoOn i a → KeepsOn a → Holds least (after i a) (events_out i a)
 remembered laws least i (Fires what flag w) s d h go on = fired laws least i what flag w (fire_fault i what flag) s h go.0
-remembered laws least i (Asks now id name payload params w) s d h go on = quietly least (after i (Asks now id name payload params w)) (query-fired laws least i now (query_at i.queries.clock i.config.name id name payload params) w (query_fault i id name payload params) h go.0)
+remembered laws least i (Asks now id name payload params w) s d h go on = quietly least (after i (Asks now id name payload params w)) (query-fired laws least params.tags_pass i now (query_at i.queries.clock i.config.name id name payload params) w (query_fault i id name payload params) h go.0)
 remembered laws least i (Gets tags now packet w) s d h go on = got laws least tags i now packet w h go.0
 remembered laws least i (Hears m is_join w) s d h go on = quietly least (after i (Hears m is_join w)) (heard laws least i m is_join w h go.0)
 remembered laws least i (Takes e w) s d h go on = received laws least i e.time e.key false w (admission i e.time e.key) h refl go.0.2

@@ -104,7 +104,7 @@ query-received laws tags i now q Kept None s h runs small told is may = enters-q
 query-received laws tags i now q (Failed durable) None s h runs small told is may = fails laws kinds.Query q.time (told_query i.config q.time q.id) durable i h may
 
 query-fired : BelowDurable → (i : IdealAgent) (now id : ℕ) (name payload : List ℕ) (params : QueryParams) (w : Writing) (r : Option QueryFault) → IsSound i → IsDurable i → IsIdTold id → query_fault i id name payload params ≡ r
-    → (let q = query_at i.queries.clock i.config.name id name payload params in MayEnd i (query_fired_as r i now q) w → IsDurable (ended i (query_fired_as r i now q) w).agent)
+    → (let q = query_at i.queries.clock i.config.name id name payload params in MayEnd i (query_fired_as params.tags_pass r i now q) w → IsDurable (ended i (query_fired_as params.tags_pass r i now q) w).agent)
 query-fired laws i now id name payload params w (Some fault) s h told is may = h
 query-fired laws i now id name payload params Kept None s h told is may =
     let q = query_at i.queries.clock i.config.name id name payload params in

@@ -221,8 +221,8 @@ fired-at i what flag w (Some fault) f is = sym (ap (fired_time i.events.clock) i
 fired-at i what flag Kept None f is = sym (ap (fired_time i.events.clock) is)
 fired-at i what flag (Failed durable) None f is = sym (ap (fired_time i.events.clock) is)
 
-moves-query_fired : SnapshotLaws → (i : IdealAgent) (now id : ℕ) (name payload : List ℕ) (params : QueryParams) (w : Writing) (r : Option QueryFault) → IsSound i → query_fault i id name payload params ≡ r → (let q = query_at i.queries.clock i.config.name id name payload params in MayEnd i (query_fired_as r i now q) w
-    → Moves i (ended i (query_fired_as r i now q) w).agent [] (asked_entries (ended i (query_fired_as r i now q) w).answer))
+moves-query_fired : SnapshotLaws → (i : IdealAgent) (now id : ℕ) (name payload : List ℕ) (params : QueryParams) (w : Writing) (r : Option QueryFault) → IsSound i → query_fault i id name payload params ≡ r → (let q = query_at i.queries.clock i.config.name id name payload params in MayEnd i (query_fired_as params.tags_pass r i now q) w
+    → Moves i (ended i (query_fired_as params.tags_pass r i now q) w).agent [] (asked_entries (ended i (query_fired_as params.tags_pass r i now q) w).answer))
 moves-query_fired snapshots i now id name payload params w (Some fault) s is may = still i i s refl refl
 moves-query_fired snapshots i now id name payload params Kept None s is may =
     let q = query_at i.queries.clock i.config.name id name payload params in
@@ -236,7 +236,7 @@ moves-query_fired snapshots i now id name payload params Kept None s is may =
     record {
       sound = sound-query_asked snapshots now q i s a.0 refl (leb-false (2 ^ 64 - 1) i.queries.clock d.0);
       events_grow = stays refl refl;
-      queries_grow = passes-grow i.queries.history (record { life = i.life; entry = record { time = i.queries.clock; key = id } }) (handed_query i.config now q) (all_pass false q.filters i.config.name) refl (later-fresh i.queries.history i.queries.clock id s.queries.below_clock);
+      queries_grow = passes-grow i.queries.history (record { life = i.life; entry = record { time = i.queries.clock; key = id } }) (handed_query i.config now q) (all_pass params.tags_pass q.filters i.config.name) refl (later-fresh i.queries.history i.queries.clock id s.queries.below_clock);
     }
 moves-query_fired snapshots i now id name payload params (Failed durable) None s is may = still i _ (sound-note_failed snapshots kinds.Query i.queries.clock (told_query i.config i.queries.clock id) durable i s may) refl refl
 
@@ -244,7 +244,7 @@ abbrev asked_time : ℕ → Result FiredQuery QueryFault → ℕ
 asked_time t (Ok f) = f.time
 asked_time t (Err fault) = t
 
-asked-at-clock : (i : IdealAgent) (now id : ℕ) (name payload : List ℕ) (params : QueryParams) (w : Writing) (r : Option QueryFault) (f : FiredQuery) → (ended i (query_fired_as r i now (query_at i.queries.clock i.config.name id name payload params)) w).answer ≡ Ok f → f.time ≡ i.queries.clock
+asked-at-clock : (i : IdealAgent) (now id : ℕ) (name payload : List ℕ) (params : QueryParams) (w : Writing) (r : Option QueryFault) (f : FiredQuery) → (ended i (query_fired_as params.tags_pass r i now (query_at i.queries.clock i.config.name id name payload params)) w).answer ≡ Ok f → f.time ≡ i.queries.clock
 asked-at-clock i now id name payload params w (Some fault) f is = sym (ap (asked_time i.queries.clock) is)
 asked-at-clock i now id name payload params Kept None f is = sym (ap (asked_time i.queries.clock) is)
 asked-at-clock i now id name payload params (Failed durable) None f is = sym (ap (asked_time i.queries.clock) is)

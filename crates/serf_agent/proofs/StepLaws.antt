@@ -142,14 +142,14 @@ pub query-allowed : (i : IdealAgent) (id : ℕ) (name payload : List ℕ) (param
 query-allowed i id name payload params runs small some time = let low : nat_le (2 ^ 64 - 1) i.queries.clock ≡ false = lt-leb _ _ time in rw (runs, small, some, low) refl
 
 pub steps-query_asked : SnapshotLaws → (i : IdealAgent) (now id : ℕ) (name payload : List ℕ) (params : QueryParams) (result : Result FiredQuery QueryFault) (old : Device) (new : AgentState) → IsSound i → i.snapshot.stopped ≡ false → i.queries.clock < 2 ^ 64 - 1 → query_fault i id name payload params ≡ None → MayNote kinds.Query i.queries.clock (told_query i.config i.queries.clock id) i.snapshot Kept
-    → result ≡ Ok (fired_query i.config now (query_at i.queries.clock i.config.name id name payload params))
+    → result ≡ Ok (fired_query params.tags_pass i.config now (query_at i.queries.clock i.config.name id name payload params))
     → new.concrete ≡ view_of (with_snapshot (noted_with kinds.Query i.queries.clock (told_query i.config i.queries.clock id) i.snapshot Kept) (query_asked now (query_at i.queries.clock i.config.name id name payload params) i)) → new.device ≡ device_noted kinds.Query i.queries.clock (told_query i.config i.queries.clock id) i.snapshot old → Steps i (fire_query i now id name payload params) result old new
 steps-query_asked snapshots i now id name payload params result old new sound runs small says may answers state device =
     let q = query_at i.queries.clock i.config.name id name payload params in
-    subst (λ (r : Option QueryFault). Steps i (query_fired_as r i now q) result old new) (sym says) (steps-kept i kinds.Query i.queries.clock (told_query i.config i.queries.clock id) _ _ result old new may answers state (sound-query_asked snapshots now q i sound runs refl small) device)
+    subst (λ (r : Option QueryFault). Steps i (query_fired_as params.tags_pass r i now q) result old new) (sym says) (steps-kept i kinds.Query i.queries.clock (told_query i.config i.queries.clock id) _ _ result old new may answers state (sound-query_asked snapshots now q i sound runs refl small) device)
 
 pub steps-query_fire_failed : SnapshotLaws → (i : IdealAgent) (now id : ℕ) (name payload : List ℕ) (params : QueryParams) (durable : Option (List ℕ)) (result : Result FiredQuery QueryFault) (old : Device) (new : AgentState) → IsSound i → query_fault i id name payload params ≡ None → MayNote kinds.Query i.queries.clock (told_query i.config i.queries.clock id) i.snapshot (Failed durable) → result ≡ Err asks_faults.SinkFault
     → new.concrete ≡ view_of (with_snapshot (written kinds.Query i.queries.clock i.snapshot (Failed durable)) i) → FailsLine old new.device (bytes_with kinds.Query i.queries.clock (told_query i.config i.queries.clock id) i.snapshot) → Steps i (fire_query i now id name payload params) result old new
 steps-query_fire_failed snapshots i now id name payload params durable result old new sound says may answers state device =
     let q = query_at i.queries.clock i.config.name id name payload params in
-    subst (λ (r : Option QueryFault). Steps i (query_fired_as r i now q) result old new) (sym says) (steps-failed snapshots i kinds.Query i.queries.clock (told_query i.config i.queries.clock id) _ _ result old new durable sound may answers state device)
+    subst (λ (r : Option QueryFault). Steps i (query_fired_as params.tags_pass r i now q) result old new) (sym says) (steps-failed snapshots i kinds.Query i.queries.clock (told_query i.config i.queries.clock id) _ _ result old new durable sound may answers state device)

@@ -174,24 +174,24 @@ opened_query now q = record { id = q.id; deadline = deadline_of now q.timeout; w
 abbrev pub query_asked : ℕ → Query → IdealAgent → IdealAgent
 query_asked now q i = with_asked (i.asked ++ (q.time, opened_query now q) ∷ []) (query_entered q.time q.id i)
 
--- what a node answers that fires a query: of a query of its own its host says nothing
-abbrev pub fired_query : Config → ℕ → Query → FiredQuery
-fired_query config now q = record { time = q.time; packet = canonical (query q); handed = handed_if_passed false config now q; ack = ack_if_passed false config.name q }
+-- what a node answers that fires a query, whose host says whether its tag filters let this node pass
+abbrev pub fired_query : Bool → Config → ℕ → Query → FiredQuery
+fired_query tags config now q = record { time = q.time; packet = canonical (query q); handed = handed_if_passed tags config now q; ack = ack_if_passed tags config.name q }
 
-abbrev pub asks : IdealAgent → ℕ → Query → Call (Result FiredQuery QueryFault)
-asks i now q =
+abbrev pub asks : Bool → IdealAgent → ℕ → Query → Call (Result FiredQuery QueryFault)
+asks tags i now q =
     Notes kinds.Query q.time (told_query i.config q.time q.id) (record {
       agent = query_asked now q i;
-      answer = Ok (fired_query i.config now q);
+      answer = Ok (fired_query tags i.config now q);
     }) (Err faults.SinkFault)
 
-abbrev pub query_fired_as : Option QueryFault → IdealAgent → ℕ → Query → Call (Result FiredQuery QueryFault)
-query_fired_as (Some fault) i now q = answers i (Err fault)
-query_fired_as None i now q = asks i now q
+abbrev pub query_fired_as : Bool → Option QueryFault → IdealAgent → ℕ → Query → Call (Result FiredQuery QueryFault)
+query_fired_as tags (Some fault) i now q = answers i (Err fault)
+query_fired_as tags None i now q = asks tags i now q
 
 abbrev pub fire_query : IdealAgent → ℕ → ℕ → List ℕ → List ℕ → QueryParams → Call (Result FiredQuery QueryFault)
 fire_query i now id name payload params =
-    query_fired_as (query_fault i id name payload params) i now (query_at i.queries.clock i.config.name id name payload params)
+    query_fired_as params.tags_pass (query_fault i id name payload params) i now (query_at i.queries.clock i.config.name id name payload params)
 
 -- Responses and acks
 

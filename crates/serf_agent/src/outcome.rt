@@ -167,6 +167,9 @@ pub struct QueryParams {
     pub want_ack: bool,
     /// Whether nodes shall not send the query on.
     pub no_broadcast: bool,
+    /// Whether this node's tags pass each tag filter among the filters, so that it may be handed out here. Say true only
+    /// where each of them could be read and passes.
+    pub tags_pass: bool,
     /// How long answers are taken, in nanoseconds.
     pub timeout: i64,
     /// Where answers are to be sent.

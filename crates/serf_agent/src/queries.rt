@@ -46,7 +46,7 @@ pub fn is_tag_filter(filter: &[u8]) -> bool
 }
 
 /// Whether a filter lets a node pass, whose host says whether tag filters do.
-fn filter_passes(filter: &[u8], node: &[u8], tags_pass: bool) -> bool
+pub(crate) fn filter_passes(filter: &[u8], node: &[u8], tags_pass: bool) -> bool
     ensures { result ≡ (if tags_pass && is_tag_filter filter.now then true
         else passes_of filter.now node.now) }
 {

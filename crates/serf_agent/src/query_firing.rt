@@ -27,18 +27,20 @@ use crate::lists::{BytesList, Responses};
 use crate::noting::note_line;
 use crate::open_query::OpenQuery;
 use crate::outcome::{FiredQuery, QueryFault, QueryParams};
-use crate::queries::{Passed, pass};
+use crate::queries::{Passed, filter_passes, pass};
 use crate::telling::told_query;
 use serf_lamport::Time;
 use serf_snap::{ClockKind, NoteFault, Sink, Snapshot};
-use serf_wire::{Bytes, EncodeFault, Query, encode_query, passes, query_len};
+use serf_wire::{Bytes, EncodeFault, Query, encode_query, query_len};
 use std::alloc::{AllocError, Global};
 
-/// Whether every filter of a query that is fired lets a node pass; a tag filter lets none.
-fn filters_pass(filters: &[Bytes], node: &[u8]) -> bool
-    ensures { result ≡ all_pass false filters.now node.now }
+/// Whether every filter of a query that is fired lets a node pass, whose host says whether tag filters do.
+fn filters_pass(filters: &[Bytes], node: &[u8], tags_pass: bool) -> bool
+    ensures { result ≡ all_pass tags_pass filters.now node.now }
 {
-    filters.iter().all(|f| passes(f.as_slice(), node))
+    filters
+        .iter()
+        .all(|f| filter_passes(f.as_slice(), node, tags_pass))
 }
 
 /// The packet of a query that is small enough to be fired.
@@ -53,19 +55,21 @@ fn packet_of(alloc: Global, parts: &Query<&[Bytes]>) -> Result<Bytes, AllocError
     }
 }
 
-/// What a node answers that fires a query: the packet that is to be sent, and what it hands out and sends itself.
+/// What a node answers that fires a query, whose host says whether its tags pass the tag filters: the packet that is to be
+/// sent, and what it hands out and sends itself.
 fn fired_of(
     alloc: Global,
     parts: &Query<&[Bytes]>,
     now: u64,
     config: &Config,
+    tags_pass: bool,
 ) -> Result<FiredQuery, AllocError>
     requires sound { is_sound config.now ≡ true }
     requires short { length (canonical (query (query_of parts.now))) ≤ greatest_packet_limit }
-    ensures { IfOk result (λ fired. fired ≡ fired_query config.now now (query_of parts.now)) }
+    ensures { IfOk result (λ fired. fired ≡ fired_query tags_pass config.now now (query_of parts.now)) }
 {
     let packet = packet_of(alloc, parts)?;
-    let passed = filters_pass(parts.filters, config.name.as_slice());
+    let passed = filters_pass(parts.filters, config.name.as_slice(), tags_pass);
     let Passed { handed, ack } = pass(alloc, parts, now, config, passed)?;
     Ok(FiredQuery {
         time: parts.time,
@@ -161,7 +165,7 @@ impl<S: Sink> Agent<S> {
 
     /// Fires a query at the query clock's time (Serf's `serf.go`, `Query`): its clock line is durable, it enters the
     /// buffer and is open for answers, its packet is to be sent, and where its filters let this node pass it is handed
-    /// out here too.
+    /// out here too. The agent knows no tags: whether tag filters let this node pass is what `params` says.
     ///
     /// On Ok the sink was appended this one line and flushed, and nothing else, or was not called where its last line of
     /// queries already says this time or a later one. Where the settings keep events, the query's own line goes with it, in
@@ -237,7 +241,8 @@ impl<S: Sink> Agent<S> {
         requires short { length (canonical (query (query_at time self.old.concrete.config.name id
             name.now payload.now params.now))) ≤ greatest_packet_limit }
 
-        ensures fired { IfOk result (λ f. f ≡ fired_query self.old.concrete.config now
+        ensures fired { IfOk result (λ f. f ≡ fired_query params.now.tags_pass
+            self.old.concrete.config now
             (query_at time self.old.concrete.config.name id name.now payload.now params.now)) }
         ensures entered { OnOk result ((i : IdealAgent) → self.old.concrete ≡ view_of i
             → self.new.concrete ≡ view_of (with_snapshot
@@ -249,7 +254,7 @@ impl<S: Sink> Agent<S> {
     {
         let config = &self.config;
         let query = params.parts(time, config.name.as_slice(), id, name, payload);
-        let fired = fired_of(alloc, &query, now, config)?;
+        let fired = fired_of(alloc, &query, now, config, params.tags_pass)?;
         let open = opened(alloc, &query, now);
         self.enter_asked(alloc, time, open)?;
         Ok(fired)

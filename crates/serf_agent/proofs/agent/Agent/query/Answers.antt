@@ -28,7 +28,7 @@ returns-clause-step g c = λ i sound is _.
     let small : is_too_large_query i.config i.queries.clock c.args.id name payload params ≡ false = ap (λ (s : ConcreteState). is_too_large_query s.config s.queries.clock c.args.id name payload params) (sym is) ∙ (sym c.query_is_too_large.ensures ∙ c.if-query_is_too_large.false) in
     let some = sym c.has_no_time.ensures ∙ c.if-has_no_time.false in
     let may = subst (λ (t : ℕ). MayNote kinds.Query t (told_query i.config t c.args.id) i.snapshot Kept) at (subst (λ (s : ConcreteState). MayNote kinds.Query c.in-Some.time (told_query s.config c.in-Some.time c.args.id) s.snapshot Kept) is e.line.allowed) in
-    let fired = e.fired ∙ (λ k. fired_query (config k) c.args.now (query_at (at k) (config k).name c.args.id name payload params)) in
+    let fired = e.fired ∙ (λ k. fired_query params.tags_pass (config k) c.args.now (query_at (at k) (config k).name c.args.id name payload params)) in
     let device = e.line.device ∙ ap (λ (s : ConcreteState). device_noted kinds.Query c.in-Some.time (told_query s.config c.in-Some.time c.args.id) s.snapshot c.args.self.now.device) is ∙ ap (λ (t : ℕ). device_noted kinds.Query t (told_query i.config t c.args.id) i.snapshot c.args.self.now.device) at in
     steps-query_asked c.sound_snapshots.ensures i c.args.now c.args.id name payload params _ c.args.self.now.device c.ask.new.self sound runs time (query-allowed i c.args.id name payload params runs small some time) may
     (λ k. Ok (fired k))
