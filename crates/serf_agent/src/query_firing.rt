@@ -66,7 +66,8 @@ fn fired_of(
 ) -> Result<FiredQuery, AllocError>
     requires sound { is_sound config.now ≡ true }
     requires short { length (canonical (query (query_of parts.now))) ≤ greatest_packet_limit }
-    ensures { IfOk result (λ fired. fired ≡ fired_query tags_pass config.now now (query_of parts.now)) }
+    ensures { IfOk result (λ fired. fired
+        ≡ fired_query tags_pass config.now now (query_of parts.now)) }
 {
     let packet = packet_of(alloc, parts)?;
     let passed = filters_pass(parts.filters, config.name.as_slice(), tags_pass);
@@ -242,8 +243,8 @@ impl<S: Sink> Agent<S> {
             name.now payload.now params.now))) ≤ greatest_packet_limit }
 
         ensures fired { IfOk result (λ f. f ≡ fired_query params.now.tags_pass
-            self.old.concrete.config now
-            (query_at time self.old.concrete.config.name id name.now payload.now params.now)) }
+            self.old.concrete.config now (query_at time self.old.concrete.config.name id
+            name.now payload.now params.now)) }
         ensures entered { OnOk result ((i : IdealAgent) → self.old.concrete ≡ view_of i
             → self.new.concrete ≡ view_of (with_snapshot
             (noted_with kinds.Query time (told_query i.config time id) i.snapshot Kept)

@@ -204,11 +204,11 @@ may-ask i id name payload params is =
     let clock = none-if (nat_le (2 ^ 64 - 1) i.queries.clock) asks.Exhausted None timeout.1 in
     record { runs = runs.0; clock = leb-false _ _ clock.0 }
 
-pub ready-query_fired : Below → (i : IdealAgent) (now : ℕ) (q : Query) (r : Option QueryFault) → IsReady i → q.time ≡ i.queries.clock → (r ≡ None → MayAsk i) → IsReady (planned i (query_fired_as r i now q)).agent
-ready-query_fired lower i now q (Some fault) g at may = g
-ready-query_fired lower i now q None g at may =
+pub ready-query_fired : Below → (tags : Bool) (i : IdealAgent) (now : ℕ) (q : Query) (r : Option QueryFault) → IsReady i → q.time ≡ i.queries.clock → (r ≡ None → MayAsk i) → IsReady (planned i (query_fired_as tags r i now q)).agent
+ready-query_fired lower tags i now q (Some fault) g at may = g
+ready-query_fired lower tags i now q None g at may =
     let m = may refl in
-    ready-notes lower i kinds.Query q.time (told_query i.config q.time q.id) (record { agent = query_asked now q i; answer = Ok record { time = q.time; packet = canonical (query q); handed = handed_if_passed false i.config now q; ack = ack_if_passed false i.config.name q } }) (Err asks.SinkFault) g
+    ready-notes lower i kinds.Query q.time (told_query i.config q.time q.id) (record { agent = query_asked now q i; answer = Ok record { time = q.time; packet = canonical (query q); handed = handed_if_passed tags i.config now q; ack = ack_if_passed tags i.config.name q } }) (Err asks.SinkFault) g
     (λ observable. record {
       consistent = record { sound = lower.sound.asks_query now q i g.consistent.sound m.runs at (omega (arith, m.clock)); observable = observable };
       events = g.events;

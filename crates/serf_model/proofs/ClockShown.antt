@@ -192,11 +192,11 @@ query_gives-on : (r : Result FiredQuery QueryFault) → is_restarted (query_give
 query_gives-on (Ok f) = refl
 query_gives-on (Err fault) = refl
 
-query_fired-low : (i : IdealAgent) (now clock : ℕ) (q : Query) (r : Option QueryFault) → i.events.clock ≤ clock → (planned i (query_fired_as r i now q)).agent.events.clock ≤ clock
-query_fired-low i now clock q (Some fault) low = low
-query_fired-low i now clock q None low = by (will i (query_fired_as None i now q))
+query_fired-low : (tags : Bool) (i : IdealAgent) (now clock : ℕ) (q : Query) (r : Option QueryFault) → i.events.clock ≤ clock → (planned i (query_fired_as tags r i now q)).agent.events.clock ≤ clock
+query_fired-low tags i now clock q (Some fault) low = low
+query_fired-low tags i now clock q None low = by (will i (query_fired_as tags None i now q))
   where
-    by : (w : Writing) → (ended i (query_fired_as None i now q) w).agent.events.clock ≤ clock
+    by : (w : Writing) → (ended i (query_fired_as tags None i now q) w).agent.events.clock ≤ clock
     by Kept = low
     by (Failed durable) = low
 
@@ -247,8 +247,8 @@ clock-apply m sent a clock acts.State low = let r = send_state (view_of m.agent)
 clock-apply m sent a clock (acts.Merge number join) low = merges_given-low m a number join clock (slice_get sent number) low
 clock-apply m sent a clock (acts.Query q) low =
     let message : Query = query_at m.agent.queries.clock m.agent.config.name q.id q.name q.payload q.params in
-    let call : Call (Result FiredQuery QueryFault) = query_fired_as (query_fault m.agent q.id q.name q.payload q.params) m.agent q.moment message in
-    stays clock (Of a (acts.Query q)) None (query_gives (planned m.agent call).answer).answer (planned m.agent call).agent (query_fired-low m.agent q.moment clock message (query_fault m.agent q.id q.name q.payload q.params) low)
+    let call : Call (Result FiredQuery QueryFault) = query_fired_as q.params.tags_pass (query_fault m.agent q.id q.name q.payload q.params) m.agent q.moment message in
+    stays clock (Of a (acts.Query q)) None (query_gives (planned m.agent call).answer).answer (planned m.agent call).agent (query_fired-low q.params.tags_pass m.agent q.moment clock message (query_fault m.agent q.id q.name q.payload q.params) low)
     (query_gives-on (planned m.agent call).answer)
 clock-apply m sent a clock (acts.Respond number now payload) low = responds-low m (Of a (acts.Respond number now payload)) None clock number now payload (slice_get m.handed number) low
 clock-apply m sent a clock (acts.Restart tail) low = omega arith

@@ -68,7 +68,7 @@ pub data Effect (m : IdealNode) : Action → Option (List ℕ) → Applied → T
       → Effect m action (Some packet) (called m (ended m.agent (received_as None m.agent e.time (event_of e.name e.payload) e.coalesce) Kept) (receive_gives packet))
   -- a query is fired
   asks : {given : Option (List ℕ)} (agent : ℕ) (q : NewQuery) → query_fault m.agent q.id q.name q.payload q.params ≡ None
-      → Effect m (Of agent (acts.Query q)) given (called m (ended m.agent (query_fired_as None m.agent q.moment (as_message m q)) Kept) query_gives)
+      → Effect m (Of agent (acts.Query q)) given (called m (ended m.agent (query_fired_as q.params.tags_pass None m.agent q.moment (as_message m q)) Kept) query_gives)
   -- a query is new
   is_asked : (to number : ℕ) (packet : List ℕ) (now : ℕ) (q : Query) → decoded packet ≡ Ok (query q) → query_admission m.agent q.time q.id ≡ None
       → Effect m (Of to (acts.Deliver number now)) (Some packet) (called m (ended m.agent (query_received_as false None m.agent now q) Kept) (receive_gives packet))
@@ -194,11 +194,11 @@ acts-response m to number now packet r (Some q) is at = by (answer_ignore_reason
     by None none = by-room (is_full m.agent.config.responders r q) (is_ack r) none refl
 
 acts-asks : Below → (m : IdealNode) (given : Option (List ℕ)) (agent : ℕ) (q : NewQuery) (r : Option QueryFault) → query_fault m.agent q.id q.name q.payload q.params ≡ r
-    → Acts m (Of agent (acts.Query q)) given (called m (planned m.agent (query_fired_as r m.agent q.moment (as_message m q))) query_gives)
+    → Acts m (Of agent (acts.Query q)) given (called m (planned m.agent (query_fired_as q.params.tags_pass r m.agent q.moment (as_message m q))) query_gives)
 acts-asks lower m given agent q (Some fault) is = stays m tt
 acts-asks lower m given agent q None is = record {
-  effect = kept-or-failed (λ o. Effect m (Of agent (acts.Query q)) given (called m o query_gives)) m.agent (query_fired_as None m.agent q.moment (as_message m q)) (asks agent q is) (λ d. snaps m tt);
-  sound = λ g. ready-query_fired lower m.agent q.moment (as_message m q) None (ready m.agent g) refl (λ e. may-ask m.agent q.id q.name q.payload q.params is);
+  effect = kept-or-failed (λ o. Effect m (Of agent (acts.Query q)) given (called m o query_gives)) m.agent (query_fired_as q.params.tags_pass None m.agent q.moment (as_message m q)) (asks agent q is) (λ d. snaps m tt);
+  sound = λ g. ready-query_fired lower q.params.tags_pass m.agent q.moment (as_message m q) None (ready m.agent g) refl (λ e. may-ask m.agent q.id q.name q.payload q.params is);
 }
 
 acts-responds : (m : IdealNode) (given : Option (List ℕ)) (agent number now : ℕ) (payload : List ℕ) (q : Option (Option Handed)) → slice_get m.handed number ≡ q

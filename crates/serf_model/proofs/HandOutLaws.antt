@@ -108,8 +108,8 @@ new-out lower before c action =
 
 -- ---- which queries
 
-pub passed-on : (config : Config) (now : ℕ) (q : Query) (h : Handed) → handed_if_passed false config now q ≡ Some h → handed_query config now q ≡ h
-passed-on config now q h e = by (all_pass false q.filters config.name) e
+pub passed-on : (tags : Bool) (config : Config) (now : ℕ) (q : Query) (h : Handed) → handed_if_passed tags config now q ≡ Some h → handed_query config now q ≡ h
+passed-on tags config now q h e = by (all_pass tags q.filters config.name) e
   where
     by : (b : Bool) → cond b (Some (handed_query config now q)) None ≡ Some h → handed_query config now q ≡ h
     by true e = cc e
@@ -128,9 +128,9 @@ hands-effect configs m _ given _ b actor settings (asks agent q is) = λ a n h e
     let me : agent ≡ b = cc actor in (
       as_message m q,
       ap (λ (c : Option Config). map (λ c. query_at m.agent.queries.clock c.name q.id q.name q.payload q.params) (option_to_list c)) (ap (slice_get configs) me ∙ settings),
-      handed-of a n m.agent.config q.moment (as_message m q) h (passed-on m.agent.config q.moment (as_message m q) h e),
+      handed-of a n m.agent.config q.moment (as_message m q) h (passed-on q.params.tags_pass m.agent.config q.moment (as_message m q) h e),
     )
-hands-effect configs m action _ _ b actor settings (is_asked to number packet now q is new) = λ a n h e. (q, ap query_message is, handed-of a n m.agent.config now q h (passed-on m.agent.config now q h e))
+hands-effect configs m action _ _ b actor settings (is_asked to number packet now q is new) = λ a n h e. (q, ap query_message is, handed-of a n m.agent.config now q h (passed-on false m.agent.config now q h e))
 hands-effect configs m action given _ b actor settings _ = λ a n h e. absurd (cc e)
 
 abbrev EnteredAt : List Config → List Turn → Turn → Type 0

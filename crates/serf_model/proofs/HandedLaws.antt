@@ -21,16 +21,16 @@ only_query t id = record { time = t; key = id } ∷ []
 abbrev pub Hands : Action → Option (List ℕ) → Done → Type 0
 Hands action given done = (q : Handed) → done.handed ≡ Some q → entered_by action given done.answer ≡ only_query q.time q.id
 
-passed : (config : Config) (now : ℕ) (q : Query) (h : Handed) → handed_if_passed false config now q ≡ Some h → only_query q.time q.id ≡ only_query h.time h.id
-passed config now q h e = by (all_pass false q.filters config.name) e
+passed : (tags : Bool) (config : Config) (now : ℕ) (q : Query) (h : Handed) → handed_if_passed tags config now q ≡ Some h → only_query q.time q.id ≡ only_query h.time h.id
+passed tags config now q h e = by (all_pass tags q.filters config.name) e
   where
     by : (b : Bool) → cond b (Some (handed_query config now q)) None ≡ Some h → only_query q.time q.id ≡ only_query h.time h.id
     by true e = let same : handed_query config now q ≡ h = cc e in ap (λ (x : Handed). only_query x.time x.id) same
     by false e = absurd (cc e)
 
 hands-effect : (m : IdealNode) (action : Action) (given : Option (List ℕ)) (o : Applied) → Effect m action given o → Hands action given o.done
-hands-effect m action given o (asks agent q may) = λ h e. passed m.agent.config q.moment (as_message m q) h e
-hands-effect m action given o (is_asked to number packet now q is new) = λ h e. ap query_brought is ∙ passed m.agent.config now q h e
+hands-effect m action given o (asks agent q may) = λ h e. passed q.params.tags_pass m.agent.config q.moment (as_message m q) h e
+hands-effect m action given o (is_asked to number packet now q is new) = λ h e. ap query_brought is ∙ passed false m.agent.config now q h e
 hands-effect m action given o _ = λ h e. absurd (cc e)
 
 pub hands-apply : Below → (m : IdealNode) (sent : List (List ℕ)) (a : ℕ) (act : Act) → Hands (Of a act) (given_by sent act) (apply m sent act).done

@@ -89,9 +89,9 @@ shown-more a ts t number h on s = record {
 deadline-effect : (m : IdealNode) (action : Action) (given : Option (List ℕ)) (o : Applied) → Effect m action given o → (h : Handed) → o.done.handed ≡ Some h
     → reply_deadline (record { action = action; line = record { answer = o.done.answer; sent = []; events = []; handed = None }; given = given; packets = [] }) ≡ h.deadline ∷ []
 deadline-effect m action given o (asks agent q may) h is =
-    ap (λ (x : Handed). x.deadline ∷ []) (passed-on m.agent.config q.moment (as_message m q) h is)
+    ap (λ (x : Handed). x.deadline ∷ []) (passed-on q.params.tags_pass m.agent.config q.moment (as_message m q) h is)
 deadline-effect m action given o (is_asked to number packet now q reads new) h is =
-    ap (λ r. map (λ (q : Query). deadline_of now q.timeout) (query_message r)) reads ∙ ap (λ (x : Handed). x.deadline ∷ []) (passed-on m.agent.config now q h is)
+    ap (λ r. map (λ (q : Query). deadline_of now q.timeout) (query_message r)) reads ∙ ap (λ (x : Handed). x.deadline ∷ []) (passed-on false m.agent.config now q h is)
 deadline-effect m action given o _ h is = absurd (cc is)
 
 -- the queries that an agent acked

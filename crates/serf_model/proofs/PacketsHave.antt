@@ -28,8 +28,8 @@ none : (P : TimedEntry EventBody → Type 0) (packet : List ℕ) → events_in_p
 none P packet is = subst (All P) (sym is) (All-nil P)
 
 -- what a query's ack has, if there is one
-pub ack-has : (Q : List ℕ → Type 0) (node : List ℕ) (q : Query) → Q (ack_packet node q) → All Q (option_to_list (ack_if_passed false node q))
-ack-has Q node q has = by (all_pass false q.filters node) (has_flag ack_flag q.flags)
+pub ack-has : (Q : List ℕ → Type 0) (tags : Bool) (node : List ℕ) (q : Query) → Q (ack_packet node q) → All Q (option_to_list (ack_if_passed tags node q))
+ack-has Q tags node q has = by (all_pass tags q.filters node) (has_flag ack_flag q.flags)
   where
     by : (passes wants : Bool) → All Q (option_to_list (cond passes (cond wants (Some (ack_packet node q)) None) None))
     by true true = one Q (ack_packet node q) has
@@ -38,8 +38,8 @@ ack-has Q node q has = by (all_pass false q.filters node) (has_flag ack_flag q.f
 
 -- what is sent of a query that is new
 pub entered-has : (Q : List ℕ → Type 0) (node packet : List ℕ) (q : Query) (b : Bool) → Q packet → Q (ack_packet node q) → All Q (cond b (packet ∷ []) [] ++ option_to_list (ack_if_passed false node q))
-entered-has Q node packet q true here has = All-cons Q packet (option_to_list (ack_if_passed false node q)) here (ack-has Q node q has)
-entered-has Q node packet q false here has = ack-has Q node q has
+entered-has Q node packet q true here has = All-cons Q packet (option_to_list (ack_if_passed false node q)) here (ack-has Q false node q has)
+entered-has Q node packet q false here has = ack-has Q false node q has
 
 no-event-ack : (P : TimedEntry EventBody → Type 0) (node : List ℕ) (q : Query) → Carries P (ack_packet node q)
 no-event-ack P node q = none P (ack_packet node q) (events_in_packet-response q.time q.id node ack_flag [])
@@ -67,9 +67,9 @@ packets-have lower P m action given o (passes_on packet e is new) g all carries 
   events = subst (λ (r : Result Message WireFault). All P (events_brought r)) is (carries packet refl);
   packets = one (Carries P) packet (carries packet refl);
 }
-packets-have lower P m action given o (asks agent q may) g all carries fired =
-    let q : Query = as_message m q in
-    record { events = All-nil P; packets = All-cons (Carries P) (canonical (query q)) (option_to_list (ack_if_passed false m.agent.config.name q)) (none P (canonical (query q)) (events_in_packet-query q)) (ack-has (Carries P) m.agent.config.name q (no-event-ack P m.agent.config.name q)) }
+packets-have lower P m action given o (asks agent new may) g all carries fired =
+    let q : Query = as_message m new in
+    record { events = All-nil P; packets = All-cons (Carries P) (canonical (query q)) (option_to_list (ack_if_passed new.params.tags_pass m.agent.config.name q)) (none P (canonical (query q)) (events_in_packet-query q)) (ack-has (Carries P) new.params.tags_pass m.agent.config.name q (no-event-ack P m.agent.config.name q)) }
 packets-have lower P m action given o (is_asked to number packet now q is new) g all carries fired =
     record { events = All-nil P; packets = entered-has (Carries P) m.agent.config.name packet q (not (has_flag no_broadcast_flag q.flags)) (carries packet refl) (no-event-ack P m.agent.config.name q) }
 packets-have lower P m action given o (tells short) g all carries fired =

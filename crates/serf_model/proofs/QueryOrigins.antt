@@ -1,5 +1,5 @@
 -- Where the queries come from that enter as packets.
-use Rattle.serf_model.proofs.Names.{◌≡◌, ℕ, ◌⊎◌, inl, inr, true, false, List, [], ◌∷◌, ◌++◌, Option, Some, None, refl, sym, ap, subst, ◌∙◌, All, Contains, not, option_to_list, append-nil, All-nil, All-cons, All-head, All-append, All-weaker, All-contains_itself, Contains-append_left, Contains-append_right, canonical, decoded, PushPull, Query, query, push_pull, event_of, Config, event_packet, ack_if_passed, ack_packet, ack_flag, has_flag, no_broadcast_flag, response_packet, state_of, view_of}
+use Rattle.serf_model.proofs.Names.{◌≡◌, ℕ, ◌⊎◌, inl, inr, true, List, [], ◌∷◌, ◌++◌, Option, Some, None, refl, sym, ap, subst, ◌∙◌, All, Contains, not, option_to_list, append-nil, All-nil, All-cons, All-head, All-append, All-weaker, All-contains_itself, Contains-append_left, Contains-append_right, canonical, decoded, PushPull, Query, query, push_pull, event_of, Config, event_packet, ack_if_passed, ack_packet, ack_flag, has_flag, no_broadcast_flag, response_packet, state_of, view_of}
 use Rattle.serf_model.specs.Below.{Below}
 use Rattle.serf_model.specs.declared.action.Action.{Action}
 use Rattle.serf_model.specs.declared.action.Act.{Act}
@@ -38,9 +38,9 @@ sends-effect W m action given o (fires agent name payload coalesce may) all w = 
   brings = λ p g e n. cc;
 }
 sends-effect W m action given o (passes_on packet e is new) all w = record { packets = one (IsOf W) packet (all packet refl); brings = λ p g e n. cc }
-sends-effect W m action given o (asks agent q may) all w =
-    let q : Query = as_message m q in
-    record { packets = All-cons (IsOf W) (canonical (query q)) (option_to_list (ack_if_passed false m.agent.config.name q)) (inr (All-head W (canonical (query q)) [] w)) (ack-has (IsOf W) m.agent.config.name q (no-query-ack W m.agent.config.name q)); brings = λ p g e n. cc }
+sends-effect W m action given o (asks agent new may) all w =
+    let q : Query = as_message m new in
+    record { packets = All-cons (IsOf W) (canonical (query q)) (option_to_list (ack_if_passed new.params.tags_pass m.agent.config.name q)) (inr (All-head W (canonical (query q)) [] w)) (ack-has (IsOf W) new.params.tags_pass m.agent.config.name q (no-query-ack W m.agent.config.name q)); brings = λ p g e n. cc }
 sends-effect W m action given o (is_asked to number packet now q is new) all w = record {
   packets = entered-has (IsOf W) m.agent.config.name packet q (not (has_flag no_broadcast_flag q.flags)) (all packet refl) (no-query-ack W m.agent.config.name q);
   brings = λ p g e n.

@@ -96,10 +96,10 @@ says-query_received lower P i now q None g old =
     let call : Call (Result Outcome ReceiveFault) = query_received_as false None i now q in
     says-ended lower P i call (will i call) g.consistent.observable (may-end i call g.consistent.observable) (λ kept. query-says lower P i.config q.time q.id) old
 
-says-query_fired : Below → (P : TimedEntry EventBody → Type 0) (i : IdealAgent) (now : ℕ) (q : Query) (r : Option QueryFault) → IsReady i → DurableSays P i.snapshot → DurableSays P (planned i (query_fired_as r i now q)).agent.snapshot
-says-query_fired lower P i now q (Some fault) g old = old
-says-query_fired lower P i now q None g old =
-    let call = query_fired_as None i now q in
+says-query_fired : Below → (P : TimedEntry EventBody → Type 0) (tags : Bool) (i : IdealAgent) (now : ℕ) (q : Query) (r : Option QueryFault) → IsReady i → DurableSays P i.snapshot → DurableSays P (planned i (query_fired_as tags r i now q)).agent.snapshot
+says-query_fired lower P tags i now q (Some fault) g old = old
+says-query_fired lower P tags i now q None g old =
+    let call = query_fired_as tags None i now q in
     says-ended lower P i call (will i call) g.consistent.observable (may-end i call g.consistent.observable) (λ kept. query-says lower P i.config q.time q.id) old
 
 says-response : (P : TimedEntry EventBody → Type 0) (i : IdealAgent) (now : ℕ) (r : QueryResponse) (o : Option OpenQuery) → DurableSays P i.snapshot → DurableSays P (planned i (response_received_at o i now r)).agent.snapshot
@@ -284,7 +284,7 @@ says-apply lower P m sent a acts.State g tells keeps all old outs tailed = old
 says-apply lower P m sent a (acts.Merge number join) g tells keeps all old outs tailed =
     says-merges_given lower P m join (slice_get sent number) (ready m.agent g) (g.durable keeps) (given-told (slice_get sent number) (tells keeps).1) old outs
 says-apply lower P m sent a (acts.Query q) g tells keeps all old outs tailed =
-    says-query_fired lower P m.agent q.moment (query_at m.agent.queries.clock m.agent.config.name q.id q.name q.payload q.params) (query_fault m.agent q.id q.name q.payload q.params) (ready m.agent g) old
+    says-query_fired lower P q.params.tags_pass m.agent q.moment (query_at m.agent.queries.clock m.agent.config.name q.id q.name q.payload q.params) (query_fault m.agent q.id q.name q.payload q.params) (ready m.agent g) old
 says-apply lower P m sent a (acts.Respond number now payload) g tells keeps all old outs tailed = says-responds P m number now payload (slice_get m.handed number) old
 says-apply lower P m sent a (acts.Restart tail) g tells keeps all old outs tailed =
     says-reopened lower P m.agent (text_after m.agent tail) (says-after lower P m.agent tail g.consistent.observable.durable old tailed)

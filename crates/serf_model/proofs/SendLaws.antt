@@ -134,7 +134,7 @@ sends-effect lower m action given o (fires agent name payload coalesce may) repr
 sends-effect lower m action given o (passes_on packet e is new) representable slots ranged = hands-nothing m action _ refl (ap (λ (d : Result Message WireFault). answer_brought d ++ []) is)
 sends-effect lower m action given o (asks agent q may) representable slots ranged =
     let a : Query = as_message m q in
-    sends-entered lower m _ (lines.Queried a.time) q.moment a (canonical (query a) ∷ []) (all_pass false a.filters m.agent.config.name) (has_flag ack_flag a.flags) representable (none-in-query a) (may-ask m.agent q.id q.name q.payload q.params may).clock ranged.id_fits
+    sends-entered lower m _ (lines.Queried a.time) q.moment a (canonical (query a) ∷ []) (all_pass q.params.tags_pass a.filters m.agent.config.name) (has_flag ack_flag a.flags) representable (none-in-query a) (may-ask m.agent q.id q.name q.payload q.params may).clock ranged.id_fits
 sends-effect lower m action given o (is_asked to number packet now q is new) representable slots ranged =
     let has = lower.in_range packet (query q) is in
     sends-entered lower m action lines.Query now q (cond (not (has_flag no_broadcast_flag q.flags)) (packet ∷ []) []) (all_pass false q.filters m.agent.config.name) (has_flag ack_flag q.flags) representable (front (not (has_flag no_broadcast_flag q.flags))) has.time has.id

@@ -49,6 +49,7 @@ fn copy_params(alloc: Global, params: &QueryParams) -> Result<QueryParams, Alloc
         filters: copy_lists(alloc, params.filters.as_slice())?,
         want_ack: params.want_ack,
         no_broadcast: params.no_broadcast,
+        tags_pass: params.tags_pass,
         timeout: params.timeout,
         addr: Bytes::copy_of(alloc, params.addr.as_slice())?,
         port: params.port,
