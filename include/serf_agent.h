@@ -160,6 +160,7 @@ struct serf_agent_params {
     uint8_t relay_factor;
     bool want_ack;
     bool no_broadcast; /* whether nodes shall not send the query on */
+    bool tags_pass;    /* whether this node's tags pass each tag filter, so that it may be handed out here */
 };
 
 /* A query that was handed out and not yet answered. */

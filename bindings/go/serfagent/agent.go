@@ -390,7 +390,7 @@ func (a *Agent) Query(now uint64, id uint32, name, payload []byte, params QueryP
 func (params *QueryParams) inC() C.struct_serf_agent_params {
 	return C.struct_serf_agent_params{
 		timeout: C.int64_t(params.Timeout), port: C.uint16_t(params.Port), relay_factor: C.uint8_t(params.RelayFactor),
-		want_ack: C.bool(params.WantAck), no_broadcast: C.bool(params.NoBroadcast),
+		want_ack: C.bool(params.WantAck), no_broadcast: C.bool(params.NoBroadcast), tags_pass: C.bool(params.TagsPass),
 	}
 }
 

@@ -44,6 +44,17 @@ func TestWhatTheHostSaysOfTags(t *testing.T) {
 			if err != nil || (outcomes[0].Received.Query != nil) != one.handed[i] {
 				t.Errorf("%q, %v, in a burst: %v %v", one.filters, passes, outcomes, err)
 			}
+			params := QueryParams{Timeout: 1000, WantAck: true, TagsPass: passes, Filters: filters}
+			own, err := agent.Query(1, 8, []byte("who"), nil, params)
+			if err != nil || (own.Query != nil) != one.handed[i] || (own.Ack != nil) != one.handed[i] {
+				t.Errorf("its own of %q, %v: %v %v", one.filters, passes, own, err)
+			}
+			burst.Reset()
+			burst.Query(1, 8, []byte("who"), nil, params)
+			outcomes, err = agent.Burst(&burst)
+			if err != nil || (outcomes[0].Asked.Query != nil) != one.handed[i] {
+				t.Errorf("its own of %q, %v, in a burst: %v %v", one.filters, passes, outcomes, err)
+			}
 		}
 		received, err := agent.Receive(1, packet())
 		if err != nil || (received.Query != nil) != one.handed[0] {

@@ -97,7 +97,9 @@ type QueryParams struct {
 	Port                 uint16
 	RelayFactor          uint8
 	WantAck, NoBroadcast bool
-	Filters              [][]byte
+	// TagsPass says that this node's tags pass each tag filter among the filters, so that it may be handed out here.
+	TagsPass bool
+	Filters  [][]byte
 }
 
 // Asked is a query's packet to send, and what this node is handed out and sends as its own ack; and the query's time, which

@@ -382,11 +382,15 @@ class Agent:
         relay_factor: int = 0,
         want_ack: bool = False,
         no_broadcast: bool = False,
+        tags_pass: bool = False,
     ) -> Asked:
-        """Fires a query whose answers are taken for ``timeout`` nanoseconds: ``Asked``. ``id`` is a random number of 32 bits."""
+        """Fires a query whose answers are taken for ``timeout`` nanoseconds: ``Asked``. ``id`` is a random number of 32 bits.
+
+        ``tags_pass`` says that this node's tags pass each tag filter among the filters, so that it may be handed out here.
+        """
         with self._alone():
             words, given = texts(name, payload, addr), [texts(one) for one in filters]
-            how = c_params(timeout, port, relay_factor, want_ack, no_broadcast)
+            how = c_params(timeout, port, relay_factor, want_ack, no_broadcast, tags_pass)
             moment, id = self._moment(now), integer("id", id, 32)
             self._forget_filters()
             self._stale_filters = bool(given)

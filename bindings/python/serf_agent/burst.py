@@ -11,7 +11,7 @@ from .checks import Buffer, flag, integer, texts
 from .library import AgentError, Code, CParams
 
 
-def c_params(timeout: int, port: int, relay_factor: int, want_ack: bool, no_broadcast: bool) -> CParams:
+def c_params(timeout: int, port: int, relay_factor: int, want_ack: bool, no_broadcast: bool, tags_pass: bool) -> CParams:
     """How a query is fired, in C."""
     return CParams(
         integer("timeout", timeout, signed=True),
@@ -19,6 +19,7 @@ def c_params(timeout: int, port: int, relay_factor: int, want_ack: bool, no_broa
         integer("relay_factor", relay_factor, 8),
         flag("want_ack", want_ack),
         flag("no_broadcast", no_broadcast),
+        flag("tags_pass", tags_pass),
     )
 
 
@@ -85,10 +86,11 @@ class Burst:
         relay_factor: int = 0,
         want_ack: bool = False,
         no_broadcast: bool = False,
+        tags_pass: bool = False,
     ) -> None:
         """Fires a query, as ``Agent.query`` does."""
         words, given = texts(name, payload, addr), tuple(tuple(texts(one)) for one in filters)
-        how = c_params(timeout, port, relay_factor, want_ack, no_broadcast)
+        how = c_params(timeout, port, relay_factor, want_ack, no_broadcast, tags_pass)
         moment, id = self._agent._moment(now), integer("id", id, 32)
         self._calls.append(Call("burst_query", (moment, id, *words, how), lambda agent: agent._asked(), given))
 

@@ -134,7 +134,9 @@ class CEvent(Structure):
 
 
 class CParams(Structure):
-    _fields_ = [("timeout", c_int64), ("port", c_uint16), ("relay_factor", c_uint8), ("want_ack", c_bool), ("no_broadcast", c_bool)]
+    _fields_ = [("timeout", c_int64), ("port", c_uint16), ("relay_factor", c_uint8)] + [
+        (name, c_bool) for name in ("want_ack", "no_broadcast", "tags_pass")
+    ]
 
 
 class CHanded(Structure):

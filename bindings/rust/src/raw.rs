@@ -61,6 +61,7 @@ pub struct Params {
     pub relay_factor: u8,
     pub want_ack: bool,
     pub no_broadcast: bool,
+    pub tags_pass: bool,
 }
 
 #[repr(C)]

@@ -56,6 +56,8 @@ pub struct QueryParams {
     pub want_ack: bool,
     /// Whether nodes shall not send the query on.
     pub no_broadcast: bool,
+    /// Whether this node's tags pass each tag filter among the filters, so that it may be handed out here.
+    pub tags_pass: bool,
     /// The filters that a node has to pass, as Serf writes them.
     pub filters: Vec<Vec<u8>>,
 }
@@ -69,6 +71,7 @@ impl QueryParams {
             relay_factor: self.relay_factor,
             want_ack: self.want_ack,
             no_broadcast: self.no_broadcast,
+            tags_pass: self.tags_pass,
         }
     }
 }

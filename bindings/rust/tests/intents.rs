@@ -146,6 +146,14 @@ fn what_the_host_says_of_tags() {
             let outcomes: Vec<_> = agent.burst([Call::ReceiveTagged { now: 1, packet: &packet, tags_pass }]).unwrap().collect();
             let [Ok(CallOutcome::Received(received))] = &outcomes[..] else { panic!("{outcomes:?}") };
             assert_eq!(is_handed(received), wanted, "{filters:?} in a burst");
+            let own = filters.iter().map(|filter| filter.to_vec()).collect();
+            let params = QueryParams { timeout: 1000, want_ack: true, tags_pass, filters: own, ..QueryParams::default() };
+            let asked = agent.query(1, 8, b"who", b"", &params).unwrap();
+            assert_eq!((asked.handed.is_some(), asked.ack.is_some()), (wanted, wanted), "its own of {filters:?}");
+            let call = Call::Query { now: 1, id: 8, name: b"who", payload: b"", params: &params };
+            let outcomes: Vec<_> = agent.burst([call]).unwrap().collect();
+            let [Ok(CallOutcome::Asked(asked))] = &outcomes[..] else { panic!("{outcomes:?}") };
+            assert_eq!(asked.handed.is_some(), wanted, "its own of {filters:?} in a burst");
         }
     }
     assert!(!is_handed(&agent.receive(1, &packet_of(&[TAG])).unwrap()));

@@ -103,12 +103,12 @@ fired-plain None i what coalesce = tt
 pub fire-plain : (what : EventBody) (coalesce : Bool) (i : IdealAgent) → IsPlain i (fire i what coalesce)
 fire-plain what coalesce i = fired-plain (fire_fault i what coalesce) i what coalesce
 
-asked-plain : (fault : Option QueryFault) (i : IdealAgent) (now : ℕ) (q : Query) → IsPlain i (query_fired_as fault i now q)
-asked-plain (Some fault) i now q = refl
-asked-plain None i now q = tt
+asked-plain : (tags : Bool) (fault : Option QueryFault) (i : IdealAgent) (now : ℕ) (q : Query) → IsPlain i (query_fired_as tags fault i now q)
+asked-plain tags (Some fault) i now q = refl
+asked-plain tags None i now q = tt
 
 pub query-fire-plain : (now id : ℕ) (name payload : List ℕ) (params : QueryParams) (i : IdealAgent) → IsPlain i (fire_query i now id name payload params)
-query-fire-plain now id name payload params i = asked-plain (query_fault i id name payload params) i now (query_at i.queries.clock i.config.name id name payload params)
+query-fire-plain now id name payload params i = asked-plain params.tags_pass (query_fault i id name payload params) i now (query_at i.queries.clock i.config.name id name payload params)
 
 -- A sink that is planned to fail nowhere fails nowhere, and its plan stays
 

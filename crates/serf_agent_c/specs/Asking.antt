@@ -22,7 +22,7 @@ use Rattle.serf_agent_c.specs.Sessions.{Appends, KeepsBurst, KeepsFilters, Keeps
 -- how a query is fired
 abbrev pub params_of : List (List ℕ) → List ℕ → Params → QueryParams
 params_of filters addr p =
-    record { filters = filters; want_ack = p.want_ack; no_broadcast = p.no_broadcast; timeout = p.timeout; addr = addr; port = p.port; relay_factor = p.relay_factor }
+    record { filters = filters; want_ack = p.want_ack; no_broadcast = p.no_broadcast; tags_pass = p.tags_pass; timeout = p.timeout; addr = addr; port = p.port; relay_factor = p.relay_factor }
 
 -- the query of a number, among those that wait for an answer
 abbrev pub flat : {A : Type 0} → Option (Option A) → Option A

@@ -48,6 +48,7 @@ pub(crate) fn params_with(filters: BytesList, addr: Bytes, params: &Params) -> Q
         filters,
         want_ack: params.want_ack,
         no_broadcast: params.no_broadcast,
+        tags_pass: params.tags_pass,
         timeout: params.timeout,
         addr,
         port: params.port,

@@ -59,6 +59,7 @@ said_params params nanoseconds = record {
   filters = params.filters;
   want_ack = flags_of params % 2 == 1;
   no_broadcast = nat_le 2 (flags_of params);
+  tags_pass = false;
   timeout = pos nanoseconds;
   addr = [];
   port = 0;
@@ -70,6 +71,7 @@ all-said params h = λ k. record {
   filters = params.filters;
   want_ack = flags-least params.want_ack params.no_broadcast k;
   no_broadcast = flags-most params.want_ack params.no_broadcast k;
+  tags_pass = sym h.tags_pass k;
   timeout = sym h.timeout k;
   addr = sym h.addr k;
   port = sym h.port k;

@@ -168,13 +168,13 @@ filters_from before place [] = Ok before
 filters_from before place (word ∷ words) = or_bad place (bytes_of word) >>= (λ filter. filters_from (before ++ filter ∷ []) (place + 1) words)
 
 -- How a query is fired, by eight words and the filters after them. Of the flags 1 asks for acks, and 2 for no
--- broadcast. A schedule says nothing of where answers go.
+-- broadcast. A schedule says nothing of tags or of where answers go.
 unfoldable pub params_of : List (List ℕ) → List (List ℕ) → Result QueryParams Cause
 params_of words filters = do
   timeout ← number_between 0 9223372036854775807 7 words
   flags ← number_between 0 3 8 words
   filters ← filters_from [] 9 filters
-  Ok (record { filters = filters; want_ack = flags % 2 == 1; no_broadcast = nat_le 2 flags; timeout = pos timeout; addr = []; port = 0; relay_factor = 0 })
+  Ok (record { filters = filters; want_ack = flags % 2 == 1; no_broadcast = nat_le 2 flags; tags_pass = false; timeout = pos timeout; addr = []; port = 0; relay_factor = 0 })
 
 unfoldable pub query_of : List (List ℕ) → List (List ℕ) → Result Deed Cause
 query_of words filters = do

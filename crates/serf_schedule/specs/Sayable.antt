@@ -1,5 +1,5 @@
 -- What the lines of a schedule can say.
-use Rattle.std.specs.Prelude.{◌≡◌, ℕ, pos, ◌<◌, ◌≤◌, ◌^◌, [], All}
+use Rattle.std.specs.Prelude.{◌≡◌, ℕ, pos, ◌<◌, ◌≤◌, ◌^◌, false, [], All}
 use Rattle.hex.specs.Hex.{IsBytes}
 use Rattle.serf_agent.specs.declared.config.Config.{Config}
 use Rattle.serf_agent.specs.declared.outcome.QueryParams.{QueryParams}
@@ -9,12 +9,13 @@ use Rattle.serf_model.specs.declared.action.Action.{Action}
 use Rattle.serf_model.specs.declared.action.Action.TheVariants as actions
 use Rattle.serf_model.specs.declared.query.NewQuery.{NewQuery}
 
--- Of how a query is fired: a timeout that isn't negative, filters, and nothing of where answers go.
+-- Of how a query is fired: a timeout that isn't negative, filters, and nothing of tags or of where answers go.
 pub record AreSayable (params : QueryParams) : Type 0 where
   pub nanoseconds : ℕ
   pub timeout : params.timeout ≡ pos nanoseconds
   pub timeout_fits : nanoseconds < 2 ^ 63
   pub filters : All IsBytes params.filters
+  pub tags_pass : params.tags_pass ≡ false
   pub addr : params.addr ≡ []
   pub port : params.port ≡ 0
   pub relay_factor : params.relay_factor ≡ 0

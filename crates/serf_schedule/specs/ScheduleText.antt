@@ -36,7 +36,7 @@ sink_call_word ReplaceNew = codes "replace-new"
 abbrev pub flags_of : QueryParams → ℕ
 flags_of params = (if params.want_ack then 1 else 0) + (if params.no_broadcast then 2 else 0)
 
--- The words of an agent's settings, and of what it does. A query says nothing of where answers go.
+-- The words of an agent's settings, and of what it does. A query says nothing of tags or of where answers go.
 
 -- the limits of packets are left out where both are the default
 abbrev pub limit_words : Config → List (List ℕ)

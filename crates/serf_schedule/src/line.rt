@@ -237,6 +237,7 @@ fn params(alloc: Global, words: &[&[u8]], rest: &[u8]) -> Result<QueryParams, Li
         filters,
         want_ack: flags % 2 == 1,
         no_broadcast: flags >= 2,
+        tags_pass: false,
         timeout: timeout as i64,
         addr: Bytes::from_vec(Vec::new(alloc)),
         port: 0,

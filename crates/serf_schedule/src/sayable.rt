@@ -44,6 +44,7 @@ fn are_sayable(params: &QueryParams) -> bool
 {
     know_all_bytes(params.filters.as_slice());
     params.timeout >= 0
+        && !params.tags_pass
         && params.addr.as_slice().is_empty()
         && params.port == 0
         && params.relay_factor == 0
@@ -104,8 +105,8 @@ fn is_act_sayable(act: &Act) -> bool
     }
 }
 
-/// Whether a line of a schedule can say an action. It can't say a sink's calls counted from 0, a negative timeout, or
-/// where a query's answers go. Takes no memory.
+/// Whether a line of a schedule can say an action. It can't say a sink's calls counted from 0, a negative timeout, that
+/// tags pass, or where a query's answers go. Takes no memory.
 pub fn is_sayable(action: &Action) -> bool
     ensures { IsTrue result ↔ IsSayable action.now }
 {

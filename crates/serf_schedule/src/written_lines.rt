@@ -87,7 +87,7 @@ fn put_query_words(out: &mut Vec<u8>, query: &NewQuery) -> Result<(), AllocError
 /// stands there by these bytes, or by its number where there are none. Where memory runs out, a part of the words may
 /// stand there.
 ///
-/// Of a query they say nothing of where answers go ([`crate::is_sayable`]).
+/// Of a query they say nothing of tags or of where answers go ([`crate::is_sayable`]).
 pub fn put_act_words(out: &mut Vec<u8>, act: &Act, given: Option<&[u8]>) -> Result<(), AllocError>
     ensures { OnOk result (out.new.items ≡ out.old.items
         ++ spaced (act_words (option_copied given.entry) act.now)) }
@@ -133,7 +133,7 @@ pub fn put_act_words(out: &mut Vec<u8>, act: &Act, given: Option<&[u8]>) -> Resu
 
 /// Appends the line of an action. Where memory runs out, a part of the line may stand there.
 ///
-/// Of a query it says nothing of where answers go, since no line can ([`crate::is_sayable`]).
+/// Of a query it says nothing of tags or of where answers go, since no line can ([`crate::is_sayable`]).
 #[tactic(auto, unfolding(crate::specs::ScheduleText::action_text))]
 pub fn put_action_line(out: &mut Vec<u8>, action: &Action) -> Result<(), AllocError>
     ensures { OnOk result (out.new.items ≡ out.old.items ++ action_text action.now) }

@@ -333,6 +333,43 @@ static void hands_out(const char *what, const char *filters, bool tags_pass, boo
     }
 }
 
+/* Whether agent b hands out a query of its own with these filters, whose host says this of its tags: alone and within a
+   burst. */
+static void hands_out_its_own(const char *what, const char *filters, bool tags_pass, bool wanted) {
+    struct serf_agent_params params = {.timeout = 1000, .want_ack = true, .tags_pass = tags_pass};
+    for (int is_burst = 0; is_burst < 2; is_burst++) {
+        struct serf_agent agent = {0};
+        struct serf_agent_gave gave = {0};
+        uint32_t answered = 0;
+        size_t ack = 0;
+        is("open", serf_agent_open(&agent, BYTES("b"), &settings, NULL, 0), SERF_AGENT_OK);
+        for (const char *filter = filters; *filter; filter += 1 + *filter) {
+            is("a filter", serf_agent_add_filter(&agent, (const uint8_t *)filter + 1, (size_t)*filter), SERF_AGENT_OK);
+        }
+        if (is_burst) {
+            is(what, serf_agent_burst_query(&agent, 5, 7, BYTES("who"), NULL, 0, NULL, 0, &params), SERF_AGENT_OK);
+            is_written(&agent);
+            is("its outcome", serf_agent_next(&agent, &answered), SERF_AGENT_OK);
+        } else {
+            is(what, serf_agent_query(&agent, 5, 7, BYTES("who"), NULL, 0, NULL, 0, &params), SERF_AGENT_OK);
+            is_written(&agent);
+        }
+        is("what came of it", serf_agent_gave(&agent, &gave), SERF_AGENT_OK);
+        holds(what, gave.kind == SERF_AGENT_GAVE_ASKED && (gave.handed != 0) == wanted);
+        is("its ack", serf_agent_ack(&agent, &ack, room, 0), wanted ? SERF_AGENT_OK : SERF_AGENT_NOTHING);
+        is("close", serf_agent_close(&agent), SERF_AGENT_OK);
+    }
+}
+
+static void verdicts_of_its_own(void) {
+    hands_out_its_own("its own of no filter", "", false, true);
+    hands_out_its_own("its own of a tag", TAG, false, false);
+    hands_out_its_own("its own of a tag that passes", TAG, true, true);
+    hands_out_its_own("its own of its name and tags that pass", NODE TAG TAG, true, true);
+    hands_out_its_own("its own of another name and a tag that passes", TAG OTHER, true, false);
+    hands_out_its_own("its own of an unknown filter and a tag that passes", TAG UNKNOWN, true, false);
+}
+
 static void verdicts(void) {
     hands_out("no filter", "", false, true);
     hands_out("no filter, and tags that pass", "", true, true);
@@ -353,6 +390,7 @@ static void verdicts(void) {
 int main(void) {
     filters();
     verdicts();
+    verdicts_of_its_own();
     times_of_members();
     intents();
     written_intents();

@@ -131,6 +131,11 @@ def verdicts():
                 with agent.burst() as burst:
                     burst.receive(1, packet, passes)
                 check(f"{filters}, {passes}, in a burst", (burst.outcomes[0].query is not None) == handed, burst.outcomes)
+                asked = agent.query(1, 8, b"who", timeout=1000, filters=filters, tags_pass=passes, want_ack=True)
+                check(f"its own of {filters}, {passes}", (asked.query is not None, asked.ack is not None) == (handed, handed), asked)
+                with agent.burst() as burst:
+                    burst.query(1, 8, b"who", timeout=1000, filters=filters, tags_pass=passes)
+                check(f"its own of {filters}, {passes}, in a burst", (burst.outcomes[0].query is not None) == handed, burst.outcomes)
         packet = asks.query(1, 7, b"who", timeout=1000, filters=[TAG]).packet
         check("where nothing is said", agent.receive(1, packet).query is None)
         refused("a verdict that is no bool", TypeError, agent.receive, 1, packet, 1)

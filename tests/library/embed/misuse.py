@@ -90,7 +90,7 @@ def flags_and_bytes():
         for value in ("no", 1, 0, None, b""):
             refused(f"coalesce of {value!r}", TypeError, agent.fire, b"x", coalesce=value)
             refused(f"join of {value!r}", TypeError, agent.merge, state, join=value)
-            for name in ("want_ack", "no_broadcast"):
+            for name in ("want_ack", "no_broadcast", "tags_pass"):
                 refused(f"{name} of {value!r}", TypeError, agent.query, 1, 7, b"q", timeout=9, **{name: value})
         # (bytes would make five zeros of the first)
         for value in (5, "x", [120], None):

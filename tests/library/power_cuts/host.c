@@ -104,14 +104,14 @@ static enum serf_agent_store_fault open_store(const char *path) {
 }
 
 static uint32_t query(const uint8_t *name, size_t len) {
-    static const struct serf_agent_params params = {1000, 0, 0, true, false};
+    static const struct serf_agent_params params = {1000, 0, 0, true, false, false};
     uint8_t none = 0;
     return serf_agent_query(&agent, 0, 7, name, len, &none, 0, &none, 0, &params);
 }
 
 /* A burst of packets, events and queries, each a word. */
 static enum serf_agent_store_fault burst(const char *words) {
-    static const struct serf_agent_params params = {1000, 0, 0, true, false};
+    static const struct serf_agent_params params = {1000, 0, 0, true, false, false};
     static uint8_t bytes[ROOM];
     uint32_t answered;
     for (; words[0] != '\0'; words += strcspn(words, " "), words += words[0] == ' ') {
