@@ -13,7 +13,7 @@ use Rattle.serf_write.specs.Values.{bytes_in, time_in, time_of, word_at, word_of
 
 -- a query of whose line nothing but its texts is said: answers are taken for a second
 abbrev pub plain_query : Asked
-plain_query = record { id = 0; params = record { filters = []; want_ack = false; no_broadcast = false; timeout = pos 1000000000; addr = []; port = 0; relay_factor = 0 } }
+plain_query = record { id = 0; params = record { filters = []; want_ack = false; no_broadcast = false; tags_pass = false; timeout = pos 1000000000; addr = []; port = 0; relay_factor = 0 } }
 
 -- the value of a key; there may be any number of filters, and of the others the last one counts
 abbrev pub option_value : ℕ → Asked → List ℕ → List ℕ → Result Asked Fault

@@ -32,6 +32,7 @@ fn plain(alloc: Global) -> Asked
             filters: BytesList::new(alloc),
             want_ack: false,
             no_broadcast: false,
+            tags_pass: false,
             timeout: 1_000_000_000,
             addr: Bytes::from_vec(Vec::new(alloc)),
             port: 0,
