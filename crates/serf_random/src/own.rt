@@ -109,6 +109,7 @@ fn ask(alloc: Global, player: &mut Player, world: &World) -> Result<Action, Allo
         filters: filters(alloc, &mut player.dice, player.kind)?,
         want_ack: player.dice.one_in(2),
         no_broadcast: player.dice.one_in(4),
+        tags_pass: false,
         timeout,
         addr: Bytes::from_vec(Vec::new(alloc)),
         port: 0,
