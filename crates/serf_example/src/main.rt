@@ -122,6 +122,7 @@ fn of_every_node<R: AllocGlobal>(rt: &R) -> Result<QueryParams> {
         filters: BytesList::new(rt.alloc()),
         want_ack: true,
         no_broadcast: false,
+        tags_pass: false,
         timeout: 1_000,
         addr: Bytes::copy_of(rt.alloc(), b"")?,
         port: 0,
