@@ -1,6 +1,6 @@
 //! The picture of a schedule's run.
 
-ghost use Rattle.std.specs.Prelude.{◌≡◌, ◌++◌, ◌∷◌, ◌+◌, [], false, filter, IfOk, OnOk, Ok};
+ghost use Rattle.std.specs.Prelude.{◌≡◌, ◌++◌, ◌∷◌, ◌+◌, [], filter, IfOk, OnOk, Ok};
 ghost use Rattle.serf_schedule.specs.Schedule.{parsed_of, schedule_of};
 ghost use Rattle.serf_draw.specs.Asked.{is_chosen};
 ghost use Rattle.serf_draw.specs.Drawing.{Drawing, Draws, IsDrawn, drawing_of, IsPicture, drawn, lost_in, row_with, shown_lanes, shown_row};
@@ -15,7 +15,7 @@ use serf_agent::Config;
 use serf_model::{Action, Line};
 use serf_schedule::{Schedule, ScheduleFault, parse_schedule};
 use serf_wire::Bytes;
-use serf_world::{Roster, StepFault, World};
+use serf_world::{Roster, World};
 use std::alloc::{AllocError, Global};
 
 /// The row of an action that began with these words, from its line, where what it sends has this sender.
@@ -67,12 +67,10 @@ fn draw_action(
     number: u64,
     action: &Action,
 ) -> Result<(), AllocError>
-    requires { world.old.poisoned ≡ false }
-    ensures drawn { (d : Drawing) → IsDrawn d world.old packets.old.items rows.old.items
+    ensures { (d : Drawing) → IsDrawn d world.old packets.old.items rows.old.items
         → number ≡ d.count + 1
         → OnOk result (IsDrawn (drawn asked.now d action.now)
         world.new packets.new.items rows.new.items) }
-    ensures unpoisoned { OnOk result (world.new.poisoned ≡ false) }
 {
     let agent = action.actor();
     let given = action.given(world.sent());
@@ -80,11 +78,7 @@ fn draw_action(
     let is_named = asked.names(action, given);
     let before = event_clock(world, agent);
     let arrow = arrow(packets, action);
-    let line = match world.step(alloc, action) {
-        Ok(line) => line,
-        Err(StepFault::OutOfMemory) => return Err(AllocError),
-        Err(StepFault::Poisoned) => unreachable!(),
-    };
+    let line = world.step(alloc, action)?;
     let clock = changed_clock(before, event_clock(world, agent));
     let is_shown = asked.draws(number, action, is_named, &line);
     let sender = Sender {

@@ -22,7 +22,7 @@ use serf_schedule::{
     ReplayFault, Schedule, ScheduleFault, Watch, lines_stay, parse_schedule, put_action,
 };
 use serf_text::{Cause, InputFault, MAX_SCHEDULE_BYTES, read_input, write_output};
-use serf_world::{StepFault, World, look_at};
+use serf_world::{World, look_at};
 use std::alloc::{AllocError, Global};
 use std::io::{Read, Write};
 
@@ -62,11 +62,7 @@ pub(crate) fn add_turn(
     run_promises();
     look_at(action);
     lines_before(alloc, world, history, number, action, lines)?;
-    let line = match world.step(alloc, action) {
-        Ok(line) => line,
-        // (a world in which memory ran out before is poisoned)
-        Err(StepFault::OutOfMemory | StepFault::Poisoned) => return Err(AllocError),
-    };
+    let line = world.step(alloc, action)?;
     let told = Told {
         number,
         world,

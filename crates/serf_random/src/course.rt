@@ -1,10 +1,9 @@
 //! What is done in a cluster, action by action, and its lines.
 
-ghost use Rattle.std.specs.Prelude.{◌≡◌, [], false, IfOk, OnOk};
+ghost use Rattle.std.specs.Prelude.{[], IfOk, OnOk};
 ghost use Rattle.serf_random.specs.Draft.{AddsActions};
 
 use crate::draft::add_action;
-use crate::stepping::stepped;
 use serf_model::{Action, Line};
 use serf_world::{Roster, World};
 use std::alloc::{AllocError, Global};
@@ -26,15 +25,13 @@ fn add_next<C: Course>(
     text: &mut Vec<u8>,
     actions: &mut Vec<Action>,
 ) -> Result<bool, AllocError>
-    requires { world.old.poisoned ≡ false }
-    ensures adds { OnOk result
+    ensures { OnOk result
         (AddsActions 1 text.old.items text.new.items actions.old.items actions.new.items) }
-    ensures unpoisoned { OnOk result (world.new.poisoned ≡ false) }
 {
     let Some(action) = course.next_action(alloc, world)? else {
         return Ok(false);
     };
-    let line = stepped(alloc, world, &action)?;
+    let line = world.step(alloc, &action)?;
     course.note(&action, &line)?;
     add_action(text, actions, action)
 }

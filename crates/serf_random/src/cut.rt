@@ -1,10 +1,9 @@
 //! Actions up to the first whose turn isn't common.
 
-ghost use Rattle.std.specs.Prelude.{◌≡◌, ◌+◌, ◌≤◌, ℕ, false, IfOk, List, OnOk, length};
+ghost use Rattle.std.specs.Prelude.{◌+◌, ◌≤◌, ℕ, IfOk, List, OnOk, length};
 ghost use Rattle.serf_agent.specs.declared.config.Config.{Config};
 ghost use Rattle.serf_random.specs.Cut.{AreKept, GoesOn, IsAlong, MayAdd};
 
-use crate::stepping::stepped;
 use serf_model::{Action, is_common_turn};
 use serf_schedule::{is_sayable, put_action_line};
 use serf_text::MAX_SCHEDULE_BYTES;
@@ -35,17 +34,15 @@ fn add_turn(
     kept: &mut Vec<Action>,
     action: Action,
 ) -> Result<bool, AllocError>
-    requires { world.old.poisoned ≡ false }
     ensures along { (configs : List Config) (first : List ℕ)
         → IsAlong configs first text.old.items kept.old.items world.old
         → IfOk result (λ more. GoesOn more configs first text.new.items kept.new.items world.new) }
     ensures few { OnOk result (length kept.new.items ≤ length kept.old.items + 1) }
-    ensures unpoisoned { OnOk result (world.new.poisoned ≡ false) }
 {
     if !is_sayable(&action) {
         return Ok(false);
     }
-    let line = stepped(alloc, world, &action)?;
+    let line = world.step(alloc, &action)?;
     if !is_common_turn(&action, &line) {
         return Ok(false);
     }

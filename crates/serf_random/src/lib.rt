@@ -32,7 +32,6 @@ mod rounds;
 mod settings;
 mod sizes;
 mod spelled;
-mod stepping;
 mod strangers;
 mod tails;
 mod times;

@@ -1,8 +1,7 @@
 //! Actions whose turns aren't common, left out in rounds.
 
-ghost use Rattle.std.specs.Prelude.{◌≡◌, ◌+◌, ◌≤◌, false, IfOk, OnOk, length};
+ghost use Rattle.std.specs.Prelude.{◌+◌, ◌≤◌, IfOk, OnOk, length};
 
-use crate::stepping::stepped;
 use serf_model::{Action, is_common_turn};
 use serf_world::{Roster, World};
 use std::alloc::{AllocError, Global};
@@ -18,11 +17,9 @@ fn keep_common(
     kept: &mut Vec<Action>,
     action: Action,
 ) -> Result<(), AllocError>
-    requires { world.old.poisoned ≡ false }
     ensures few { OnOk result (length kept.new.items ≤ length kept.old.items + 1) }
-    ensures unpoisoned { OnOk result (world.new.poisoned ≡ false) }
 {
-    let line = stepped(alloc, world, &action)?;
+    let line = world.step(alloc, &action)?;
     if is_common_turn(&action, &line) {
         kept.push(action)?;
     }

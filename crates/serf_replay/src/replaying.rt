@@ -34,10 +34,7 @@ fn act(alloc: Global, world: &mut World, action: &Action) -> Result<Line, AllocE
     ensures { (r : Run) → StandsAt r world.old
         → IfOk result (Acts r action.now world.new) }
 {
-    match world.step(alloc, action) {
-        Ok(line) => Ok(line),
-        Err(_) => Err(AllocError),
-    }
+    world.step(alloc, action)
 }
 
 /// The cluster that begins with the first action of a schedule, and what came of it; `None` where the schedule has none

@@ -1,6 +1,6 @@
 //! The summary of a run.
 
-ghost use Rattle.std.specs.Prelude.{◌≡◌, false, IfErr, IfOk, List, OnOk, length, map, ℕ};
+ghost use Rattle.std.specs.Prelude.{◌≡◌, IfErr, IfOk, List, OnOk, length, map, ℕ};
 ghost use Rattle.std.specs.Io.KnownBytes.{Consumes, IsAtEnd};
 ghost use Rattle.serf_model.specs.Cluster.{Run, after, run_of};
 ghost use Rattle.serf_replay.specs.Stopped.{IsHaltedAt};
@@ -13,7 +13,7 @@ use crate::summing::Summing;
 use serf_model::Action;
 use serf_schedule::{Schedule, Watch};
 use serf_text::{Cause, StreamFault, answer_lines};
-use serf_world::{StepFault, World};
+use serf_world::World;
 use std::alloc::{AllocError, Global};
 use std::io::{self, Read};
 
@@ -24,16 +24,11 @@ fn add_action(
     summary: &mut Summary,
     action: &Action,
 ) -> Result<(), AllocError>
-    requires { world.old.poisoned ≡ false }
-    ensures stands { (r : Run) → Stands r world.old summary.old
+    ensures { (r : Run) → Stands r world.old summary.old
         → OnOk result (Stands (after r action.now) world.new summary.new) }
-    ensures unpoisoned { OnOk result (world.new.poisoned ≡ false) }
 {
-    match world.step(alloc, action) {
-        Ok(line) => summary.add(alloc, &line),
-        Err(StepFault::OutOfMemory) => Err(AllocError),
-        Err(StepFault::Poisoned) => unreachable!(),
-    }
+    let line = world.step(alloc, action)?;
+    summary.add(alloc, &line)
 }
 
 /// The summary of the run of a schedule. Its actions are done one after another, and each line of the trace is dropped

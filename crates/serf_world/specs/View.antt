@@ -1,5 +1,5 @@
 -- What a world stores of a cluster.
-use Rattle.std.specs.Prelude.{◌≡◌, ℕ, Bool, List, [], ◌∷◌, ◌++◌, map, Option, Some, All, slice_get}
+use Rattle.std.specs.Prelude.{◌≡◌, ℕ, List, [], ◌∷◌, ◌++◌, map, Option, Some, All, slice_get}
 use Rattle.std.specs.Option.{option_map}
 use Rattle.serf_agent.specs.Handed.{Handed}
 use Rattle.serf_agent.specs.View.{ConcreteState, view_of}
@@ -21,11 +21,10 @@ pub record NodeState : Type 0 where
   pub concrete : ConcreteState
   pub handed : List (Option Handed)
 
--- the agents, all packets that were sent, and whether memory has run out
+-- the agents, and all packets that were sent
 pub record WorldState : Type 0 where
   pub nodes : List NodeState
   pub sent : List (List ℕ)
-  pub poisoned : Bool
 
 -- the concrete state of an agent of a cluster
 abbrev pub node_of : IdealNode → NodeState

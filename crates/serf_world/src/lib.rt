@@ -4,7 +4,6 @@
 
 mod calls;
 mod delivery;
-mod fault;
 mod line;
 mod merging;
 mod node;
@@ -17,7 +16,6 @@ mod told;
 mod turn;
 mod world;
 
-pub use fault::StepFault;
 pub use roster::{Roster, RosterFault};
 pub use running::run;
 pub use told::look_at;

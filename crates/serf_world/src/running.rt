@@ -1,6 +1,6 @@
 //! A whole run.
 
-ghost use Rattle.std.specs.Prelude.{◌≡◌, ◌<◌, ◌++◌, ◌∷◌, ℕ, [], false, IfErr, IfOk, OnErr, OnOk, length, take};
+ghost use Rattle.std.specs.Prelude.{◌≡◌, ◌<◌, ◌++◌, ◌∷◌, ℕ, [], IfErr, IfOk, OnErr, OnOk, length, take};
 ghost use Rattle.std.specs.List.{fold};
 ghost use Rattle.serf_model.specs.Cluster.{Cluster, Run, after, run_of, step, trace_of};
 ghost use Rattle.serf_model.specs.Ready.{AreRepresentable};
@@ -8,7 +8,6 @@ ghost use Rattle.serf_model.specs.Runs.{IsRun, ShowsKept};
 ghost use Rattle.serf_model.specs.Trace.{outcome_of};
 ghost use Rattle.serf_world.specs.View.{AddsLine, IsViewed};
 
-use crate::fault::StepFault;
 use crate::roster::Roster;
 use crate::sizes::read_all_numbers;
 use crate::told::look_at_all;
@@ -24,19 +23,13 @@ fn step_to(
     lines: &mut Vec<Line>,
     action: &Action,
 ) -> Result<(), AllocError>
-    requires { world.old.poisoned ≡ false }
     ensures step { (c : Cluster) → IsViewed c world.old → AreRepresentable c
         → OnOk result (AddsLine (step c action.now) world.new lines.old.items lines.new.items) }
-    ensures unpoisoned { OnOk result (world.new.poisoned ≡ false) }
     ensures err_lines { OnErr result (lines.new.items ≡ lines.old.items) }
     ensures err_sent { OnErr result (world.new.sent ≡ world.old.sent) }
 {
     lines.reserve(1)?;
-    let line = match world.step(alloc, action) {
-        Ok(line) => line,
-        Err(StepFault::OutOfMemory) => return Err(AllocError),
-        Err(StepFault::Poisoned) => unreachable!(),
-    };
+    let line = world.step(alloc, action)?;
     match lines.push(line) {
         Ok(()) => Ok(()),
         Err(_) => unreachable!(),
@@ -45,7 +38,6 @@ fn step_to(
 
 /// Does all actions in a cluster. Where memory runs out, gives the trace of those done before.
 fn run_in(alloc: Global, world: World, actions: &[Action]) -> Result<Trace, Trace>
-    requires { world.poisoned ≡ false }
     ensures done { (r : Run) → IsViewed r.cluster world → AreRepresentable r.cluster → r.turns ≡ []
         → IfOk result (λ trace. outcome_of trace ≡ trace_of (fold after r actions.now)) }
     ensures memory { (r : Run) → IsViewed r.cluster world

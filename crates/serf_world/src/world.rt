@@ -1,6 +1,6 @@
 //! A cluster that does one action after another.
 
-ghost use Rattle.std.specs.Prelude.{◌≡◌, ◌↔◌, ◌++◌, ◌∷◌, ℕ, List, [], false, true, map, slice_get, IfOk, IsErrOf, IsTrue, OnErr, OnOk};
+ghost use Rattle.std.specs.Prelude.{◌≡◌, ◌++◌, ◌∷◌, ℕ, List, [], true, map, slice_get, IfOk, OnErr, OnOk};
 ghost use Rattle.std.specs.List.{AllByRecursion};
 ghost use Rattle.std.specs.Option.{option_map};
 ghost use Rattle.serf_agent.specs.Config.{is_sound};
@@ -13,7 +13,6 @@ ghost use Rattle.serf_model.specs.Runs.{AreConfigs};
 ghost use Rattle.serf_world.specs.View.{HasDone, IsViewed, TakesStep, agent_at, node_of};
 
 use crate::calls::open_on;
-use crate::fault::StepFault;
 use crate::line::{line_with_packet, refused};
 use crate::node::Node;
 use crate::roster::Roster;
@@ -35,17 +34,12 @@ use std::marker::Model;
 pub struct World {
     nodes: Vec<Node>,
     sent: Vec<Bytes>,
-    poisoned: bool,
 }
 
 /// Written out, so that a crate above need not prove anew that each part can be let go.
 impl Drop for World {
     fn drop(self) {
-        let World {
-            nodes: _,
-            sent: _,
-            poisoned: _,
-        } = self;
+        let World { nodes: _, sent: _ } = self;
     }
 }
 
@@ -54,8 +48,7 @@ impl Model for World {
 
     ghost Value = { WorldState };
 
-    ghost view = { λ w.
-        record { nodes = w.nodes.items; sent = w.sent.items; poisoned = w.poisoned } };
+    ghost view = { λ w. record { nodes = w.nodes.items; sent = w.sent.items } };
 }
 
 /// Agents of these settings that have done nothing.
@@ -78,7 +71,6 @@ impl World {
     /// A cluster of these agents, which are numbered from 0 in their order and have done nothing.
     pub fn new(alloc: Global, roster: Roster) -> Result<World, AllocError>
         ensures start { IfOk result (IsViewed (start roster).cluster) }
-        ensures fresh { IfOk result (λ world. world.poisoned ≡ false) }
         ensures configs { OnOk result (AreConfigs roster) }
         ensures representable { OnOk result (AreRepresentable (start roster).cluster) }
         ensures done { IfOk result (λ world. HasDone roster [] [] world) }
@@ -89,27 +81,21 @@ impl World {
         Ok(World {
             nodes: open_all(alloc, roster.into_vec())?,
             sent: Vec::new(alloc),
-            poisoned: false,
         })
     }
 
     /// Does an action. A refused action is a line too.
     ///
-    /// `OutOfMemory` where it found no memory: the cluster is poisoned then, and answers `Poisoned` from then on, which
-    /// changes nothing. The agent may have done the action, without a line. So what [`World::agent`] lends of a poisoned
-    /// cluster belongs to no run.
+    /// An `AllocError` where it found no memory. The agent may have done the action then, without a line: so what the
+    /// cluster does from then on belongs to no run.
     ///
     /// Where each step so far answered a line, these lines are those of a run that keeps all promises, and the agents
     /// that are stored hold of their open queries what was counted (`done`).
     #[inline(always)]
-    pub fn step(&mut self, alloc: Global, action: &Action) -> Result<Line, StepFault>
+    pub fn step(&mut self, alloc: Global, action: &Action) -> Result<Line, AllocError>
         ensures step { (c : Cluster) → IsViewed c self.old → AreRepresentable c
             → IfOk result (TakesStep (step c action.now) self.new) }
-        ensures poisoned { IsErrOf result StepFault.Poisoned ↔ IsTrue self.old.poisoned }
-        ensures poisoned_same { IsErrOf result StepFault.Poisoned → self.new ≡ self.old }
-        ensures ok { OnOk result (self.new.poisoned ≡ false) }
-        ensures err { OnErr result (self.new.poisoned ≡ true) }
-        ensures kept { OnErr result (self.new.sent ≡ self.old.sent) }
+        ensures err { OnErr result (self.new.sent ≡ self.old.sent) }
         ensures done { (configs : List Config) (actions : List Action) (lines : List Line)
             → HasDone configs actions lines self.old
             → IfOk result (λ line.
@@ -119,15 +105,9 @@ impl World {
         turns_shown();
         read_numbers(action);
         look_at(action);
-        if self.poisoned {
-            return Err(StepFault::Poisoned);
-        }
         match self.try_step(alloc, action) {
             Ok(line) => Ok(line),
-            Err(_) => {
-                self.poisoned = true;
-                Err(StepFault::OutOfMemory)
-            }
+            Err(_) => Err(AllocError),
         }
     }
 
@@ -135,7 +115,6 @@ impl World {
     fn try_step(&mut self, alloc: Global, action: &Action) -> Result<Line, AllocError>
         ensures step { (c : Cluster) → IsViewed c self.old → AreRepresentable c
             → IfOk result (TakesStep (step c action.now) self.new) }
-        ensures poisoned { self.new.poisoned ≡ self.old.poisoned }
         ensures err { OnErr result (self.new.sent ≡ self.old.sent) }
     {
         match action {
@@ -153,7 +132,6 @@ impl World {
         ensures step { (c : Cluster) → IsViewed c self.old → AreRepresentable c
             → IfOk result (TakesStep
             (on_agent c agent act.now (slice_get c.nodes agent)) self.new) }
-        ensures poisoned { self.new.poisoned ≡ self.old.poisoned }
         ensures err { OnErr result (self.new.sent ≡ self.old.sent) }
     {
         representable_agents();
@@ -187,11 +165,7 @@ impl World {
     pub(crate) fn into_sent(self) -> BytesList
         ensures { result ≡ self.sent }
     {
-        let World {
-            nodes: _,
-            sent,
-            poisoned: _,
-        } = self;
+        let World { nodes: _, sent } = self;
         BytesList::from_vec(sent)
     }
 }

@@ -1,13 +1,13 @@
 -- A cluster that is stepped along as its actions are read: private to the crate.
-use Rattle.std.specs.Prelude.{◌≡◌, false, List, Option, Some, None}
+use Rattle.std.specs.Prelude.{List, Option, Some, None}
 use Rattle.serf_agent.specs.declared.config.Config.{Config}
 use Rattle.serf_model.specs.declared.action.Action.{Action}
 use Rattle.serf_model.specs.declared.line.Line.{Line}
 use Rattle.serf_world.specs.View.{HasDone, WorldState}
 
--- the world has done just these actions, and isn't poisoned
+-- the world has done just these actions
 abbrev pub HasWorld : List Config → List Action → WorldState → Type 0
-HasWorld configs actions world = (lines : List Line) × HasDone configs actions lines world × (world.poisoned ≡ false)
+HasWorld configs actions world = (lines : List Line) × HasDone configs actions lines world
 
 -- there is such a world; there is none before the first action, and where memory ran out
 abbrev pub HasRun : List Config → List Action → Option WorldState → Type 0

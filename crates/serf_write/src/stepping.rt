@@ -4,7 +4,7 @@ ghost use Rattle.std.specs.Prelude.{◌≡◌, ◌++◌, ◌∷◌, [], IfOk};
 ghost use Rattle.serf_write.specs.Running.{HasRun, HasWorld};
 
 use serf_model::Action;
-use serf_world::{Roster, StepFault, World};
+use serf_world::{Roster, World};
 use std::alloc::{AllocError, Global};
 
 /// The world of these actions: the one that is there, or a fresh one before the first action. `AllocError` where memory
@@ -41,9 +41,6 @@ pub(crate) fn world_behind(
     ensures { IfOk result (λ w. HasWorld agents.now (actions.now ++ action.now ∷ []) w) }
 {
     let mut world = world;
-    match world.step(alloc, action) {
-        Ok(_) => Ok(world),
-        Err(StepFault::OutOfMemory) => Err(AllocError),
-        Err(StepFault::Poisoned) => unreachable!(),
-    }
+    world.step(alloc, action)?;
+    Ok(world)
 }

@@ -16,7 +16,6 @@ loop-action-init c = (
   refl,
   refl,
   refl,
-  c.in_ok-world.ensures.fresh,
 )
 
 pub loop-action-preserved : goal.loop-action-preserved
@@ -26,9 +25,8 @@ loop-action-preserved c =
     let next : drop c.loop-action.action-index c.args.actions.now ≡ c.action-item.result ∷ drop (c.loop-action.action-index + 1) c.args.actions.now = grind (arith, common_steps, c.action-item.is) in
     let one : c.loop-action.number + 1 ≡ d.count + 1 = ap (λ n. n + 1) inv.2 in (
       drawn c.args.asked.now d c.action-item.result,
-      c.in_ok-draw_action.ensures.drawn d inv.1 one,
+      c.in_ok-draw_action.ensures d inv.1 one,
       one,
       ap (λ n. n + 1) inv.3,
       ap (fold (drawn c.args.asked.now) d) (sym next) ∙ inv.4,
-      c.in_ok-draw_action.ensures.unpoisoned,
     )

@@ -5,12 +5,9 @@ use Rattle.serf_random.proofs.course.add_course.Goals as goal
 pub returns-then-not-branch : goal.returns-then-not-branch
 returns-then-not-branch g c =
     let few : c.loop-action._action + 1 ≤ c.args.most = omega arith in
-    more_actions c.loop-action._action 1 c.args.most _ _ _ _ _ _ few c.loop-action.invariant.adds c.in_ok-add_next.ensures.adds
+    more_actions c.loop-action._action 1 c.args.most _ _ _ _ _ _ few c.loop-action.invariant c.in_ok-add_next.ensures
 
 pub loop-action-preserved : goal.loop-action-preserved
 loop-action-preserved g c =
     let few : c.loop-action._action + 1 ≤ c.loop-action._action + 1 = omega arith in
-    record {
-      unpoisoned = c.in_ok-add_next.ensures.unpoisoned;
-      adds = more_actions c.loop-action._action 1 (c.loop-action._action + 1) _ _ _ _ _ _ few c.loop-action.invariant.adds c.in_ok-add_next.ensures.adds;
-    }
+    more_actions c.loop-action._action 1 (c.loop-action._action + 1) _ _ _ _ _ _ few c.loop-action.invariant c.in_ok-add_next.ensures

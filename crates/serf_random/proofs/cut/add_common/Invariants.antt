@@ -1,12 +1,11 @@
-use Rattle.std.proofs.Common.{◌≡◌, ◌+◌, ◌≤◌, false, length}
+use Rattle.std.proofs.Common.{◌+◌, ◌≤◌, length}
 use Rattle.std.specs.Vec.Iter.{into_iter_items}
 use Rattle.serf_random.specs.Cut.{IsAlong}
 use Rattle.serf_random.proofs.cut.add_common.Given as goal
 
--- the world isn't poisoned and goes along with what is kept, and no more is kept than was done
+-- the world goes along with what is kept, and no more is kept than was done
 abbrev pub invariant-loop-action : goal.invariant-loop-action
 invariant-loop-action l = record {
-  unpoisoned : l.world.poisoned ≡ false;
   along : IsAlong l.fn.agents l.fn.text.items l.text.items l.kept.items l.world;
   few : length l.kept.items + length (into_iter_items l.action-iterator) ≤ length l.fn.actions.items;
 }

@@ -14,6 +14,6 @@ returns-clause-along c = λ configs first h.
     let took = c.in_ok-line.ensures.step (run_of configs c.args.kept.now.items).cluster h.view h.representable in
     IfOk-weaker c.add_line.result
     (λ added. MayAdd added c.args.action c.args.text.now.items c.add_line.new.text.items c.args.kept.now.items c.add_line.new.kept.items)
-    (λ more. GoesOn more configs first c.add_line.new.text.items c.add_line.new.kept.items c.stepped.new.world)
-    (λ added adds. may-keep configs first c.args.text.now.items c.add_line.new.text.items c.args.kept.now.items c.add_line.new.kept.items c.args.action c.in_ok-line.line c.args.world.now c.stepped.new.world h sayable common took added adds)
+    (λ more. GoesOn more configs first c.add_line.new.text.items c.add_line.new.kept.items c.step.new.self)
+    (λ added adds. may-keep configs first c.args.text.now.items c.add_line.new.text.items c.args.kept.now.items c.add_line.new.kept.items c.args.action c.in_ok-line.line c.args.world.now c.step.new.self h sayable common took added adds)
     c.add_line.ensures

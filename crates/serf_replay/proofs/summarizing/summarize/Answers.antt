@@ -13,7 +13,6 @@ loop-action-init g c =
       record { view = c.in_ok-world.ensures.start; representable = c.in_ok-world.ensures.representable; summary_is = c.new-summary.ensures },
       omega (arith, ap length all),
       ap (fold after (start c.args.schedule.agents)) all,
-      c.in_ok-world.ensures.fresh,
     )
 
 pub loop-action-preserved : goal.loop-action-preserved
@@ -22,10 +21,9 @@ loop-action-preserved g c =
     let r : Run = inv.0 in
     let next : into_iter_items c.loop-action.action-iterator ≡ c.in-Some.action ∷ into_iter_items c.next.new.self = grind (arith, common_steps) in (
       after r c.in-Some.action,
-      c.in_ok-add_action.ensures.stands r inv.1,
+      c.in_ok-add_action.ensures r inv.1,
       omega (arith, ap length next, inv.2),
       ap (fold after r) (sym next) ∙ inv.3,
-      c.in_ok-add_action.ensures.unpoisoned,
     )
 
 pub returns-clause-run : goal.returns-clause-run

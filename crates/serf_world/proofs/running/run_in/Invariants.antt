@@ -1,8 +1,7 @@
-use Rattle.serf_world.proofs.Names.{◌≡◌, [], false, take, fold, Run, after, AreRepresentable}
+use Rattle.serf_world.proofs.Names.{◌≡◌, [], take, fold, Run, after, AreRepresentable}
 use Rattle.serf_world.specs.View.{IsAt, IsViewed}
 use Rattle.serf_world.proofs.running.run_in.Given as goal
 
--- the world isn't poisoned, and it and the lines are those of the actions so far
+-- the world and the lines are those of the actions so far
 abbrev pub invariant-loop-action : goal.invariant-loop-action
-invariant-loop-action l = (l.world.poisoned ≡ false)
-    × ((r : Run) → IsViewed r.cluster l.initial.world → AreRepresentable r.cluster → r.turns ≡ [] → IsAt (fold after r (take l.action-index l.actions)) l.world l.lines.items)
+invariant-loop-action l = (r : Run) → IsViewed r.cluster l.initial.world → AreRepresentable r.cluster → r.turns ≡ [] → IsAt (fold after r (take l.action-index l.actions)) l.world l.lines.items
