@@ -1,3 +1,4 @@
+pub mod Acts
 pub mod View
 pub mod Turns
 pub mod Roster

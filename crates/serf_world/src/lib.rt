@@ -14,9 +14,11 @@ mod running;
 mod sizes;
 mod told;
 mod turn;
+mod turns;
 mod world;
 
 pub use roster::{Roster, RosterFault};
 pub use running::run;
 pub use told::look_at;
+pub use turns::{Turns, act};
 pub use world::World;
