@@ -8,3 +8,4 @@ pub mod Streams
 pub mod TextParts
 pub mod WireText
 pub mod Words
+pub mod Whole

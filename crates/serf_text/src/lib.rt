@@ -1,5 +1,5 @@
 //! Texts: the words of a line and what they stand for, numbers, bytes in hex, the texts of packets' messages, of faults
-//! and of a snapshot's clocks, whole inputs and outputs, and answers to the lines of a stream.
+//! and of a snapshot's clocks, whole inputs and outputs, and answers to the lines of a text or of a stream.
 //!
 //! Nothing here knows of agents or of what is done in a cluster.
 #![tactic(auto)]
@@ -14,6 +14,7 @@ mod output;
 mod put;
 mod stream;
 mod stream_fault;
+mod whole;
 mod wire_words;
 mod words;
 
@@ -29,6 +30,7 @@ pub use put::{
 };
 pub use stream::{answer_lines, tell_lines};
 pub use stream_fault::{StreamFault, StreamLineFault};
+pub use whole::tell_text;
 pub use wire_words::{WireWords, put_wire_fault};
 pub use words::{
     FIXED_WORDS, bytes_at, choice, choice_at, cut, hex_bytes, is_word, number, number_at,

@@ -1,0 +1,13 @@
+use Rattle.std.proofs.Common.{◌≡◌, ◌+◌, ◌++◌, ◌≤◌, ◌==◌, [], ℕ, List, length}
+use Rattle.std.specs.List.{slice_split}
+use Rattle.serf_text.proofs.whole.tell_text.Given as goal
+
+-- the lines before those that are left were done, and this is told of them
+abbrev pub invariant-lines : goal.invariant-lines
+invariant-lines g l = (g.J.LineTeller.told l.initial.job [] [] → (lines : List (List ℕ)) × g.J.LineTeller.told l.job lines l.all.items
+    × (slice_split (λ b. b == 10) l.fn.input ≡ lines ++ slice_split (λ b. b == 10) l.rest)
+    × (l.number ≡ length lines + 1))
+    × (l.number + length l.rest ≤ length l.fn.input + 1)
+
+abbrev pub decreases-lines : goal.decreases-lines
+decreases-lines g l = length l.rest

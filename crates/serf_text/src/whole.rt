@@ -1,0 +1,45 @@
+//! A whole text of lines.
+
+ghost use Rattle.std.specs.Prelude.{[], IfErr, IfOk};
+ghost use Rattle.serf_text.specs.Lines.{lines_of};
+ghost use Rattle.serf_text.specs.Whole.{IsRefusedAt};
+
+use crate::line_job::LineTeller;
+use crate::stream_fault::StreamLineFault;
+use crate::words::cut;
+use std::alloc::Global;
+
+/// Does the lines of a text, one after another, and gives what is told of them; or the number of the first line, counted
+/// from 1, that is not done, and why.
+pub fn tell_text<J: LineTeller>(
+    alloc: Global,
+    input: &[u8],
+    job: &mut J,
+) -> Result<Vec<u8>, (u64, StreamLineFault<J::Fault>)>
+    ensures done { J.told job.old [] []
+        → IfOk result (λ text. J.told job.new (lines_of input.now) text.items) }
+    ensures refused { J.told job.old [] []
+        → IfErr result (λ at. IsRefusedAt J.refuses (lines_of input.now) at.0 at.1) }
+{
+    let mut all = Vec::new(alloc);
+    let mut text = Vec::new(alloc);
+    let mut number: u64 = 1;
+    let mut rest = input;
+    'lines: loop {
+        let (line, more) = cut(rest, b'\n');
+        text.clear();
+        if let Err(fault) = job.tell_line(alloc, line, &mut text) {
+            return Err((number, fault));
+        }
+        if all.append(&mut text).is_err() {
+            return Err((number, StreamLineFault::OutOfMemory));
+        }
+        match more {
+            Some(next) => {
+                rest = next;
+                number += 1;
+            }
+            None => return Ok(all),
+        }
+    }
+}
