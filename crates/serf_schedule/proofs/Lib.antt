@@ -6,10 +6,12 @@ pub mod LinesBack
 pub mod Names
 pub mod PlainWords
 pub mod RoundTrip
+pub mod RunLaws
 pub mod SaidLaws
 pub mod ShownLaws
 pub mod SizedLaws
 pub mod TextNames
 pub mod ToldLaws
+pub mod TraceLaws
 pub mod WordLemmas
 pub mod WordsBack

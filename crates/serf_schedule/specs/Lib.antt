@@ -5,9 +5,12 @@ pub mod Laws
 pub mod Line
 pub mod Output
 pub mod Parts
+pub mod Running
+pub mod Said
 pub mod Sayable
 pub mod Schedule
 pub mod ScheduleText
 pub mod Show
 pub mod Sinks
+pub mod TraceText
 pub mod Words

@@ -1,6 +1,6 @@
 //! A whole schedule.
 
-ghost use Rattle.std.specs.Prelude.{◌≡◌, ◌<◌, ◌≤◌, ◌==◌, ◌++◌, slice_index, length, map, All, IfOk, Ok, Err};
+ghost use Rattle.std.specs.Prelude.{None, true, ◌≡◌, ◌<◌, ◌≤◌, ◌==◌, ◌++◌, slice_index, length, map, All, IfOk, Ok, Err};
 ghost use Rattle.serf_model.specs.Runs.{AreConfigs};
 ghost use Rattle.serf_model.specs.Sizes.{HasSizes};
 ghost use Rattle.serf_schedule.specs.Command.{command_of};
@@ -9,6 +9,8 @@ ghost use Rattle.serf_schedule.specs.Line.{act_line, after_line, agent_line, inj
 ghost use Rattle.serf_schedule.specs.Parts.{agent_words_in, parts_said};
 ghost use Rattle.serf_schedule.specs.Schedule.{parsed_of, schedule_fault, schedule_of, Reads};
 ghost use Rattle.serf_text.specs.Gives.{Gives};
+ghost use Rattle.serf_schedule.specs.Line.{Parsed};
+ghost use Rattle.serf_schedule.specs.Said.{IsHeld, behind};
 
 use crate::command::{Command, Verb, command_in};
 use crate::line::{action, agent, injection, query};
@@ -67,22 +69,27 @@ fn agent_words<'a>(
     }
 }
 
+/// Adds the agent of a line to the others.
 fn read_agent(
     alloc: Global,
-    parsed: &mut Schedule,
+    agents: &mut Roster,
+    is_late: bool,
     words: &[&[u8]],
     rest: &[u8],
 ) -> Result<(), LineFault>
     requires { 0 < length rest.now → length words.now ≡ 8 }
-    ensures { Gives (λ _. parsed_of parsed.new) result
-        (agent_line (parsed_of parsed.old) (map (λ w. w.now) words.now ++ words_of rest.now)) }
+    ensures same { is_late ≡ true → agents.new ≡ agents.old }
+    ensures agents { AreConfigs agents.old → AreConfigs agents.new }
+    ensures said { (before : Parsed) → IsHeld is_late agents.old before
+        → Gives (λ _. behind is_late before agents.new None) result
+        (agent_line before (map (λ w. w.now) words.now ++ words_of rest.now)) }
 {
-    if !parsed.actions.is_empty() {
+    if is_late {
         return Err(LineFault::Bad(Cause::LateAgent));
     }
     let words = agent_words(alloc, words, rest)?;
     let config = agent(alloc, &words)?;
-    match parsed.agents.add(alloc, config) {
+    match agents.add(alloc, config) {
         Ok(()) => Ok(()),
         Err(RosterFault::BadConfig) => Err(LineFault::Bad(Cause::BadConfig)),
         Err(RosterFault::NameTwice) => Err(LineFault::Bad(Cause::NameTwice)),
@@ -90,80 +97,72 @@ fn read_agent(
     }
 }
 
-#[inline(always)]
-fn add_action(parsed: &mut Schedule, action: Action) -> Result<(), LineFault>
-    ensures { Gives (λ _. parsed_of parsed.new) result
-        (Ok (with_action (parsed_of parsed.old) action)) }
-{
-    match parsed.actions.push(action) {
-        Ok(()) => Ok(()),
-        Err(_) => Err(LineFault::OutOfMemory),
-    }
-}
-
-fn read_action(
-    alloc: Global,
-    verb: Verb,
-    parsed: &mut Schedule,
-    words: &[&[u8]],
-) -> Result<(), LineFault>
-    ensures { Gives (λ _. parsed_of parsed.new) result
-        (act_line verb (parsed_of parsed.old) (map (λ w. w.now) words.now)) }
+fn read_action(alloc: Global, verb: Verb, words: &[&[u8]]) -> Result<Action, LineFault>
+    ensures { (before : Parsed) → Gives (with_action before) result
+        (act_line verb before (map (λ w. w.now) words.now)) }
 {
     if words.len() != verb.count() {
         return Err(LineFault::Bad(Cause::WordCount));
     }
-    let action = action(alloc, verb, words)?;
-    add_action(parsed, action)
+    action(alloc, verb, words)
 }
 
-fn read_injection(alloc: Global, parsed: &mut Schedule, words: &[&[u8]]) -> Result<(), LineFault>
-    ensures { Gives (λ _. parsed_of parsed.new) result
-        (injection_line (parsed_of parsed.old) (map (λ w. w.now) words.now)) }
+fn read_injection(alloc: Global, words: &[&[u8]]) -> Result<Action, LineFault>
+    ensures { (before : Parsed) → Gives (with_action before) result
+        (injection_line before (map (λ w. w.now) words.now)) }
 {
     if words.len() != 2 {
         return Err(LineFault::Bad(Cause::WordCount));
     }
-    let action = injection(alloc, words)?;
-    add_action(parsed, action)
+    injection(alloc, words)
 }
 
-fn read_query(
-    alloc: Global,
-    parsed: &mut Schedule,
-    words: &[&[u8]],
-    rest: &[u8],
-) -> Result<(), LineFault>
+fn read_query(alloc: Global, words: &[&[u8]], rest: &[u8]) -> Result<Action, LineFault>
     requires { length words.now ≤ 8 }
-    ensures { Gives (λ _. parsed_of parsed.new) result
-        (query_said (parsed_of parsed.old) (map (λ w. w.now) words.now) (words_of rest.now)) }
+    ensures { (before : Parsed) → Gives (with_action before) result
+        (query_said before (map (λ w. w.now) words.now) (words_of rest.now)) }
 {
     if words.len() < 8 {
         return Err(LineFault::Bad(Cause::WordCount));
     }
-    let action = query(alloc, words, rest)?;
-    add_action(parsed, action)
+    query(alloc, words, rest)
 }
 
 /// Reads a line of at most eight words, and of what is left of it.
 fn read_words(
     alloc: Global,
-    parsed: &mut Schedule,
+    agents: &mut Roster,
+    is_late: bool,
     words: &[&[u8]],
     rest: &[u8],
-) -> Result<(), LineFault>
+) -> Result<Option<Action>, LineFault>
     requires some { 0 < length words.now }
     requires few { length words.now ≤ 8 }
     requires full { 0 < length rest.now → length words.now ≡ 8 }
-    ensures { Gives (λ _. parsed_of parsed.new) result
-        (parts_said (command_of (word_at 1 (map (λ w. w.now) words.now))) (parsed_of parsed.old)
+    ensures same { is_late ≡ true → agents.new ≡ agents.old }
+    ensures agents { AreConfigs agents.old → AreConfigs agents.new }
+    ensures said { (before : Parsed) → IsHeld is_late agents.old before
+        → Gives (behind is_late before agents.new) result
+        (parts_said (command_of (word_at 1 (map (λ w. w.now) words.now))) before
         (map (λ w. w.now) words.now) rest.now) }
 {
     match command_in(words[0]) {
-        Some(Command::Agent) => read_agent(alloc, parsed, words, rest),
-        Some(Command::Inject) => read_injection(alloc, parsed, words),
-        Some(Command::Query) => read_query(alloc, parsed, words, rest),
-        Some(Command::Act(verb)) => read_action(alloc, verb, parsed, words),
+        Some(Command::Agent) => match read_agent(alloc, agents, is_late, words, rest) {
+            Ok(()) => Ok(None),
+            Err(fault) => Err(fault),
+        },
+        Some(Command::Inject) => match read_injection(alloc, words) {
+            Ok(action) => Ok(Some(action)),
+            Err(fault) => Err(fault),
+        },
+        Some(Command::Query) => match read_query(alloc, words, rest) {
+            Ok(action) => Ok(Some(action)),
+            Err(fault) => Err(fault),
+        },
+        Some(Command::Act(verb)) => match read_action(alloc, verb, words) {
+            Ok(action) => Ok(Some(action)),
+            Err(fault) => Err(fault),
+        },
         None => Err(LineFault::Bad(Cause::UnknownWord)),
     }
 }
@@ -178,9 +177,34 @@ fn is_comment(line: &[u8]) -> bool
     }
 }
 
-/// Reads a line after those of a schedule, as [`read_schedule_line`] does, with room for its words that the lines before
-/// it used too: what stands in `words` is forgotten.
+/// What a line says after those of a schedule: its action, or none where it has an agent, which is added to the others,
+/// or says nothing. `is_late` where an action stands before it. There is room for its words that the lines before it used
+/// too: what stands in `words` is forgotten.
 #[tactic(auto, unfolding(crate::specs::Line::after_line))]
+#[inline(always)]
+pub fn say_line<'a>(
+    alloc: Global,
+    agents: &mut Roster,
+    is_late: bool,
+    words: &mut Vec<&'a [u8]>,
+    line: &'a [u8],
+) -> Result<Option<Action>, LineFault>
+    ensures said { (before : Parsed) → IsHeld is_late agents.old before
+        → Gives (behind is_late before agents.new) result (after_line before line.entry.now) }
+    ensures same { is_late ≡ true → agents.new ≡ agents.old }
+    ensures agents { AreConfigs agents.old → AreConfigs agents.new }
+{
+    if is_comment(line) {
+        return Ok(None);
+    }
+    let rest = take_words(line, words)?;
+    if words.is_empty() {
+        return Ok(None);
+    }
+    read_words(alloc, agents, is_late, words, rest)
+}
+
+/// Reads a line after those of a schedule, as [`read_schedule_line`] does, with room for its words.
 #[inline(always)]
 pub fn read_line<'a>(
     alloc: Global,
@@ -191,14 +215,15 @@ pub fn read_line<'a>(
     ensures { Gives (λ _. parsed_of parsed.new) result
         (after_line (parsed_of parsed.old) line.entry.now) }
 {
-    if is_comment(line) {
-        return Ok(());
+    let is_late = !parsed.actions.is_empty();
+    match say_line(alloc, &mut parsed.agents, is_late, words, line) {
+        Ok(Some(action)) => match parsed.actions.push(action) {
+            Ok(()) => Ok(()),
+            Err(_) => Err(LineFault::OutOfMemory),
+        },
+        Ok(None) => Ok(()),
+        Err(fault) => Err(fault),
     }
-    let rest = take_words(line, words)?;
-    if words.is_empty() {
-        return Ok(());
-    }
-    read_words(alloc, parsed, words, rest)
 }
 
 /// Reads a line after those of a schedule: its agent or its action is put after the others.

@@ -4,13 +4,12 @@ use Rattle.serf_text.specs.declared.cause.Cause.{Cause}
 use Rattle.serf_text.specs.Gives.{Gives}
 use Rattle.serf_text.specs.Words.{words_of}
 use Rattle.serf_schedule.specs.Line.{Parsed}
-use Rattle.serf_schedule.specs.Schedule.{parsed_of}
+use Rattle.serf_schedule.specs.Said.{behind}
 use Rattle.serf_schedule.proofs.WordLemmas.{line-said}
-use Rattle.serf_schedule.proofs.parse.read_line.Goals as goal
+use Rattle.serf_schedule.proofs.parse.say_line.Goals as goal
 
-pub returns : goal.returns
-returns c =
-    let before : Parsed = parsed_of c.args.parsed.now in
+pub returns-clause-said : goal.returns-clause-said
+returns-clause-said c = λ before held.
     let words : List (List ℕ) = map (λ w. w.now) c.deref.result.now in
     let rest : List ℕ = c.in_ok-rest.rest.now in
     let given : words ≡ map (λ w. w.now) c.take_words.new.words.items = ap (map (λ w. w.now)) c.deref.ensures.value in
@@ -20,4 +19,4 @@ returns c =
     let full : 0 < length rest → (length words ≡ 8) × (0 < length (words_of rest)) =
     λ more. let f = c.in_ok-rest.ensures.full more in (grind (arith, common_steps, ap length given, f.0), f.1) in
     let whole = line-said before c.args.line.now words rest (grind (arith, common_steps)) joined some few full in
-    subst (λ (s : Result Parsed Cause). Gives (λ _. parsed_of c.read_words.new.parsed) c.read_words.result s) whole c.read_words.ensures
+    subst (λ (s : Result Parsed Cause). Gives (behind c.args.is_late before c.read_words.new.agents) c.read_words.result s) whole (c.read_words.ensures.said before held)

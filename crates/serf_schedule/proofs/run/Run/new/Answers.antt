@@ -1,0 +1,5 @@
+use Rattle.std.proofs.Common.{[], refl, rules}
+use Rattle.serf_schedule.proofs.run.Run.new.Goals as goal
+
+pub returns : goal.returns
+returns g c = λ asked told. record { said = record { configs = []; actions = [] }; reads = refl; settings = search rules; stage = (search rules, refl, told); tells = told [] }

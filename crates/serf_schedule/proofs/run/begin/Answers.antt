@@ -1,0 +1,9 @@
+use Rattle.serf_schedule.proofs.Names.{◌++◌, [], arith, ap, length, refl}
+use Rattle.serf_schedule.proofs.run.begin.Goals as goal
+
+pub returns : goal.returns
+returns g c = λ asked front told.
+    let done = c.in_ok-world.ensures.done in
+    let count = ap length c.as_slice.ensures.agents in
+    let begun = c.in_ok-begin.ensures asked c.args.roster (front ++ c.args.text.now.items) told done count in
+    record { some = omega arith; counted = refl; sized = count; acts = c.in_ok-act.ensures asked c.args.roster [] [] front done begun refl }

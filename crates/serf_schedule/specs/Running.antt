@@ -1,0 +1,46 @@
+-- A schedule of which each line is done as soon as it is read.
+use Rattle.std.specs.Prelude.{◌≡◌, ℕ, ◌+◌, ◌<◌, ◌++◌, List, [], ◌∷◌, length, Option, Some, None, Ok, Err}
+use Rattle.serf_agent.specs.declared.config.Config.{Config}
+use Rattle.serf_model.specs.declared.action.Action.{Action}
+use Rattle.serf_model.specs.Runs.{AreConfigs}
+use Rattle.serf_text.specs.declared.cause.Cause.{Cause}
+use Rattle.serf_text.specs.declared.cause.LineFault.{LineFault}
+use Rattle.serf_text.specs.declared.cause.LineFault.TheVariants.{Bad, OutOfMemory}
+use Rattle.serf_world.specs.Acts.{Acts}
+use Rattle.serf_schedule.specs.Line.{Parsed}
+use Rattle.serf_schedule.specs.Schedule.{schedule_in}
+use Rattle.serf_schedule.specs.declared.run.Acting.{Acting}
+use Rattle.serf_schedule.specs.declared.run.Run.{Run}
+
+-- the actions of a schedule were done and told, and there is one of them
+pub record HasActed {T : Type 0} (told : T → List Config → List Action → List ℕ → Type 0) (said : Parsed) (acting : Acting) (t : T) (text : List ℕ) : Type 0 where
+  pub some : 0 < length said.actions
+  pub counted : acting.turns ≡ length said.actions
+  pub sized : acting.agents ≡ length said.configs
+  pub acts : Acts told said.configs said.actions acting.world t text
+
+-- Before the first action the agents are held, and this text is told of no action, whichever agents there will be.
+abbrev pub IsStage : {T : Type 0} → (T → List Config → List Action → List ℕ → Type 0) → List Config → Option Acting → T → Parsed → List ℕ → Type 0
+IsStage told agents None t said text = (said.configs ≡ agents) × (said.actions ≡ []) × ((configs : List Config) → told t configs [] text)
+IsStage told agents (Some acting) t said text = HasActed told said acting t text
+
+-- these lines were done, and this text was told of them
+pub record HasRun {T : Type 0} (told : T → List Config → List Action → List ℕ → Type 0) (run : Run T) (lines : List (List ℕ)) (text : List ℕ) : Type 0 where
+  pub said : Parsed
+  pub reads : schedule_in lines ≡ Ok said
+  pub settings : AreConfigs said.configs
+  pub stage : IsStage told run.agents run.acting run.teller said text
+  pub tells : told run.teller said.configs said.actions text
+
+-- the same, where what is asked is what is asked where lines are done one by one
+abbrev pub HasStreamed : {A T : Type 0} → (A → Type 0) → (A → T → List Config → List Action → List ℕ → Type 0) → Run T → List (List ℕ) → List ℕ → Type 0
+HasStreamed {A} streams told run lines text = (asked : A) × streams asked × HasRun (told asked) run lines text
+
+-- a line after others is the first that is not sound, by this cause, whatever follows
+abbrev pub is_refused_by : List (List ℕ) → List ℕ → Cause → Type 0
+is_refused_by lines line cause = (more : List (List ℕ)) → schedule_in (lines ++ line ∷ more) ≡ Err (record { line = length lines + 1; cause = cause })
+
+-- the same of what the code says, unless memory ran out
+abbrev pub IsLineRefused : LineFault → List (List ℕ) → List ℕ → Type 0
+IsLineRefused (Bad cause) lines line = is_refused_by lines line cause
+IsLineRefused OutOfMemory lines line = Unit {0}
