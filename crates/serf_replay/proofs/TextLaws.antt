@@ -1,130 +1,90 @@
--- The text of all turns, from the answers to the lines.
-use Rattle.std.proofs.Common.{◌≡◌, ◌++◌, ◌∙◌, ℕ, List, [], ◌∷◌, Option, Result, Ok, Err, refl, sym, ap, subst, append-nil, append_assoc}
+-- What a run tells is the text of the trace of a schedule.
+use Rattle.std.proofs.Common.{◌≡◌, ◌+◌, ◌++◌, ◌∙◌, inr, ℕ, List, [], ◌∷◌, Option, Result, Ok, Err, refl, sym, ap, subst, length, append-nil}
+use Rattle.std.specs.Prelude.{All}
+use Rattle.serf_agent.specs.declared.config.Config.{Config}
+use Rattle.serf_model.specs.declared.action.Action.{Action}
+use Rattle.serf_model.specs.Cluster.{run_of, trace_of}
+use Rattle.serf_model.specs.Kept.{KeepsPromises}
+use Rattle.serf_model.specs.Runs.{AreConfigs}
+use Rattle.serf_model.specs.Sizes.{HasSizes}
+use Rattle.serf_model.specs.Tails.{CanTell}
+use Rattle.serf_model.specs.Trace.{turns_of}
 use Rattle.serf_text.specs.declared.cause.Cause.{Cause}
-use Rattle.serf_replay.specs.declared.replaying.Replaying.{Replaying}
-use Rattle.serf_replay.specs.Laws.{AnswersTellMore, RefusalsAreFirst, SchedulesTraceRuns}
-use Rattle.serf_schedule.specs.Line.{Parsed}
-use Rattle.serf_replay.specs.Output.{TracesRun}
-use Rattle.serf_schedule.specs.Output.{output_of}
-use Rattle.serf_replay.specs.Replaying.{Follows}
-use Rattle.serf_text.specs.Gives.{BadLine}
-use Rattle.serf_schedule.specs.Schedule.{schedule_in}
-use Rattle.serf_replay.specs.Turns.{run_text, turn_answer}
 use Rattle.serf_text.specs.declared.stream_fault.StreamFault.{StreamFault}
-use Rattle.serf_text.specs.declared.stream_fault.StreamFault.TheVariants.{ReadFault, BadLine as bad_line_fault, LineTooLong, OutOfMemory, WriteFault}
-use Rattle.serf_text.specs.Lines.{joined, lines_of, text_behind}
-use Rattle.serf_text.specs.Streams.{IsCause, IsStopped, WritesUpTo}
+use Rattle.serf_text.specs.declared.stream_fault.StreamFault.TheVariants as faults
+use Rattle.serf_text.specs.Gives.{BadLine}
+use Rattle.serf_text.specs.Lines.{lines_of}
+use Rattle.serf_text.specs.Streams.{IsCauseBy, StopsAt, WritesUpTo}
+use Rattle.serf_schedule.specs.Laws.{SchedulesAreSized, SchedulesAreTold}
+use Rattle.serf_schedule.specs.Output.{output_of, text_of}
+use Rattle.serf_schedule.specs.Running.{HasRun, HasStreamed, is_refused_by}
+use Rattle.serf_schedule.specs.Schedule.{schedule_in}
+use Rattle.serf_schedule.specs.TraceText.{tells_trace}
+use Rattle.serf_schedule.specs.declared.run.Run.{Run}
+use Rattle.serf_replay.specs.Laws.{SchedulesTraceRuns}
+use Rattle.serf_replay.specs.Output.{TracesRun}
 use Rattle.serf_replay.specs.Stopped.{IsHalted, IsHaltedAt, IsHaltedBy}
-use Rattle.serf_replay.specs.Summing.{no_text, quiet_answer}
+use Rattle.serf_replay.specs.Turns.{run_in}
 
--- the lines behind these are sound, and their answers are the text of their turns
-pub record Told (before lines : List (List ℕ)) (p : Parsed) (text : List ℕ) : Type 0 where
-  pub said : Parsed
-  pub reads : schedule_in (before ++ lines) ≡ Ok said
-  pub text_is : run_text said ≡ run_text p ++ text
+pub traces-run : SchedulesAreSized → SchedulesAreTold → ((configs : List Config) (done left : List Action) → AreConfigs configs → turns_of (done ++ left) (trace_of (run_of configs done)) ≡ (run_of configs done).turns)
+    → ((configs : List Config) (actions : List Action) → AreConfigs configs → CanTell configs actions → All HasSizes actions → KeepsPromises configs (run_of configs actions)) → SchedulesTraceRuns
+traces-run sized told turns promises bytes said reads settings =
+    let sizes : All HasSizes said.actions = sized bytes said reads in (
+      ap text_of reads,
+      record {
+        schedule = said;
+        reads = reads;
+        settings = settings;
+        sizes = sizes;
+        text_is = refl;
+        turns = ap (λ l. turns_of l (trace_of (run_in said))) (sym (append-nil said.actions)) ∙ turns said.configs said.actions [] settings;
+        promises = promises said.configs said.actions settings (inr (told bytes said reads)) sizes;
+      },
+    )
 
-record AreJoined (first second : Result (List ℕ) Cause) (all : List ℕ) : Type 0 where
-  one : List ℕ
-  two : List ℕ
-  first_is : first ≡ Ok one
-  second_is : second ≡ Ok two
-  all_is : one ++ two ≡ all
+-- tells the trace of a run
+abbrev pub Traces : {A T : Type 0} → A → T → List Config → List Action → List ℕ → Type 0
+Traces asked t configs actions text = tells_trace configs actions text
 
-are-joined : (first second : Result (List ℕ) Cause) (all : List ℕ) → joined first second ≡ Ok all → AreJoined first second all
-are-joined (Ok a) (Ok b) all is = record { one = a; two = b; first_is = refl; second_is = refl; all_is = cc }
-are-joined (Ok a) (Err e) all is = absurd (cc is)
-are-joined (Err e) second all is = absurd (cc is)
+pub whole : {A T : Type 0} (asked : A) → SchedulesTraceRuns → (run : Run T) (bytes text : List ℕ) → HasRun (Traces asked) run (lines_of bytes) text → (output_of bytes ≡ Ok text) × TracesRun bytes text
+whole asked runs run bytes text h =
+    let all = runs bytes h.said h.reads h.settings in
+    (all.0 ∙ ap (λ (t : List ℕ). let ok : Result (List ℕ) BadLine = Ok t in ok) (sym h.tells), subst (TracesRun bytes) (sym h.tells) all.1)
 
-told : AnswersTellMore → (before lines : List (List ℕ)) (p : Parsed) (text : List ℕ) → schedule_in before ≡ Ok p → text_behind turn_answer before lines ≡ Ok text → Told before lines p text
-told more before [] p text reads is =
-    let none : text ≡ [] = cc is in
-    record { said = p; reads = ap schedule_in (append-nil before) ∙ reads; text_is = sym (append-nil (run_text p)) ∙ ap (λ t. run_text p ++ t) (sym none) }
-told more before (l ∷ ls) p text reads is =
-    let parts = are-joined (turn_answer before l) (text_behind turn_answer (before ++ l ∷ []) ls) text is in
-    let here = more before l p parts.one reads parts.first_is in
-    let rest = told more (before ++ l ∷ []) ls here.after parts.two here.reads parts.second_is in
-    record {
-      said = rest.said;
-      reads = ap schedule_in (sym (append_assoc before (l ∷ []) ls)) ∙ rest.reads;
-      text_is = rest.text_is ∙ ap (λ t. t ++ parts.two) here.text_is ∙ append_assoc (run_text p) parts.one parts.two ∙ ap (λ t. run_text p ++ t) parts.all_is;
-    }
+pub bad-output : (bytes : List ℕ) (lines more : List (List ℕ)) (line : List ℕ) (number : ℕ) (cause : Cause) → lines_of bytes ≡ lines ++ line ∷ more → number ≡ length lines + 1 → is_refused_by lines line cause
+    → output_of bytes ≡ Err (record { line = number; cause = cause })
+bad-output bytes lines more line number cause cut counted why =
+    ap (λ l. text_of (schedule_in l)) cut ∙ ap text_of (why more)
+    ∙ ap (λ n. let bad : BadLine = record { line = n; cause = cause } in let err : Result (List ℕ) BadLine = Err bad in err) (sym counted)
 
-told-all : AnswersTellMore → (lines : List (List ℕ)) (text : List ℕ) → text_behind turn_answer [] lines ≡ Ok text → Told [] lines (record { configs = []; actions = [] }) text
-told-all more lines text is = told more [] lines (record { configs = []; actions = [] }) text refl is
+halted-by : (fault : StreamFault Cause) (bytes : List ℕ) (lines left : List (List ℕ)) → lines_of bytes ≡ lines ++ left → IsCauseBy is_refused_by fault lines left → IsHaltedBy fault bytes lines left
+halted-by faults.ReadFault bytes lines left cut h = h
+halted-by (faults.BadLine number cause) bytes lines left cut h = (h.3, ap schedule_in (cut ∙ ap (λ (l : List (List ℕ)). lines ++ l) h.2) ∙ h.4 h.1)
+halted-by (faults.LineTooLong number) bytes lines left cut h = h
+halted-by faults.OutOfMemory bytes lines left cut h = tt
+halted-by faults.WriteFault bytes lines left cut h = tt
 
--- ---- the whole
-
-pub record IsWhole (bytes text : List ℕ) : Type 0 where
-  pub output : output_of bytes ≡ Ok text
-  pub traces : TracesRun bytes text
-
-pub whole : AnswersTellMore → SchedulesTraceRuns → (bytes text : List ℕ) (r : Replaying) → Follows r (lines_of bytes) → text_behind turn_answer [] (lines_of bytes) ≡ Ok text → IsWhole bytes text
-whole more traces bytes text r f answered =
-    let t = told-all more (lines_of bytes) text answered in
-    let sure : Ok f.said ≡ Ok t.said = sym f.reads ∙ t.reads in
-    let same : f.said ≡ t.said = cc sure in
-    let shows : run_text f.said ≡ text = ap run_text same ∙ t.text_is in
-    let run = traces bytes f.said f.reads f.settings in
-    record { output = run.0 ∙ ap (λ (x : List ℕ). let ok : Result (List ℕ) BadLine = Ok x in ok) shows; traces = subst (TracesRun bytes) shows run.1 }
-
-halted-by : RefusalsAreFirst → (fault : StreamFault Cause) (bytes : List ℕ) (lines left : List (List ℕ)) (said : Parsed) → lines_of bytes ≡ lines ++ left → schedule_in lines ≡ Ok said → IsCause turn_answer fault lines left
-    → IsHaltedBy fault bytes lines left
-halted-by first ReadFault bytes lines left said cut reads h = h
-halted-by first (bad_line_fault number cause) bytes lines left said cut reads h =
-    (h.3, ap schedule_in (cut ∙ ap (λ (l : List (List ℕ)). lines ++ l) h.2) ∙ first lines h.1 h.0 said cause reads h.4)
-halted-by first (LineTooLong number) bytes lines left said cut reads h = h
-halted-by first OutOfMemory bytes lines left said cut reads h = tt
-halted-by first WriteFault bytes lines left said cut reads h = tt
-
-pub halted : AnswersTellMore → RefusalsAreFirst → (fault : StreamFault Cause) (bytes : List ℕ) (first now : Option (List ℕ)) → IsStopped turn_answer fault (lines_of bytes) first now → IsHalted fault bytes first now
-halted more refusals fault bytes first now s =
-    let t = told-all more s.lines s.text s.answered in
+pub halted : {A T : Type 0} (streams : A → Type 0) (fault : StreamFault Cause) (bytes : List ℕ) (first now : Option (List ℕ)) → StopsAt {J = Run T} (HasStreamed streams Traces) is_refused_by fault (lines_of bytes) first now → IsHalted fault bytes first now
+halted streams fault bytes first now s =
+    let h : HasRun (Traces s.tells.0) s.job s.lines s.text = s.tells.2 in
     record {
       lines = s.lines;
       left = s.left;
       cut = s.cut;
-      schedule = t.said;
-      reads = t.reads;
-      written = subst (WritesUpTo fault first now) (sym t.text_is) s.written;
-      cause = halted-by refusals fault bytes s.lines s.left t.said s.cut t.reads s.cause;
+      schedule = h.said;
+      reads = h.reads;
+      written = subst (WritesUpTo fault first now) h.tells s.written;
+      cause = halted-by fault bytes s.lines s.left s.cut s.cause;
     }
 
--- ---- where nothing is written
-
-loud : (r : Result (List ℕ) Cause) (t : List ℕ) → no_text r ≡ Ok t → (u : List ℕ) × (r ≡ Ok u)
-loud (Ok u) t is = (u, refl)
-loud (Err cause) t is = absurd (cc is)
-
-loud-fault : (r : Result (List ℕ) Cause) (cause : Cause) → no_text r ≡ Err cause → r ≡ Err cause
-loud-fault (Ok u) cause is = absurd (cc is)
-loud-fault (Err e) cause is = is
-
--- lines that are summed up have answers
-quiet-told : (before lines : List (List ℕ)) (text : List ℕ) → text_behind quiet_answer before lines ≡ Ok text → (told : List ℕ) × (text_behind turn_answer before lines ≡ Ok told)
-quiet-told before [] text is = ([], refl)
-quiet-told before (l ∷ ls) text is =
-    let parts = are-joined (quiet_answer before l) (text_behind quiet_answer (before ++ l ∷ []) ls) text is in
-    let here = loud (turn_answer before l) parts.one parts.first_is in
-    let rest = quiet-told (before ++ l ∷ []) ls parts.two parts.second_is in
-    let first : Result (List ℕ) Cause = Ok here.0 in
-    (here.0 ++ rest.0, ap (λ r. joined r (text_behind turn_answer (before ++ l ∷ []) ls)) here.1 ∙ ap (λ r. joined first r) rest.1)
-
-loud-cause : (fault : StreamFault Cause) (lines left : List (List ℕ)) → IsCause quiet_answer fault lines left → IsCause turn_answer fault lines left
-loud-cause ReadFault lines left h = h
-loud-cause (bad_line_fault number cause) lines left h = (h.0, h.1, h.2, h.3, loud-fault (turn_answer lines h.0) cause h.4)
-loud-cause (LineTooLong number) lines left h = h
-loud-cause OutOfMemory lines left h = tt
-loud-cause WriteFault lines left h = tt
-
-pub halted-at : AnswersTellMore → RefusalsAreFirst → (fault : StreamFault Cause) (bytes : List ℕ) (first now : Option (List ℕ)) → IsStopped quiet_answer fault (lines_of bytes) first now → IsHaltedAt fault bytes
-halted-at more refusals fault bytes first now s =
-    let loudly = quiet-told [] s.lines s.text s.answered in
-    let t = told-all more s.lines loudly.0 loudly.1 in
+pub halted-at : {A T : Type 0} (streams : A → Type 0) (told : A → T → List Config → List Action → List ℕ → Type 0) (fault : StreamFault Cause) (bytes : List ℕ) (first now : Option (List ℕ)) → StopsAt (HasStreamed streams told) is_refused_by fault (lines_of bytes) first now → IsHaltedAt fault bytes
+halted-at streams told fault bytes first now s =
+    let h : HasRun (told s.tells.0) s.job s.lines s.text = s.tells.2 in
     record {
       lines = s.lines;
       left = s.left;
       cut = s.cut;
-      schedule = t.said;
-      reads = t.reads;
-      cause = halted-by refusals fault bytes s.lines s.left t.said s.cut t.reads (loud-cause fault s.lines s.left s.cause);
+      schedule = h.said;
+      reads = h.reads;
+      cause = halted-by fault bytes s.lines s.left s.cut s.cause;
     }

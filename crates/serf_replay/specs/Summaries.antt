@@ -1,8 +1,5 @@
 -- What a summary has of a run.
-use Rattle.std.specs.Prelude.{◌≡◌, ℕ, ◌&&◌, nat_eq, Bool, List, length, map}
-use Rattle.serf_model.specs.Cluster.{Run}
-use Rattle.serf_model.specs.Ready.{AreRepresentable}
-use Rattle.serf_world.specs.View.{IsViewed, WorldState}
+use Rattle.std.specs.Prelude.{◌≡◌, ℕ, ◌&&◌, nat_eq, Bool, List, length}
 use Rattle.std.specs.Borrow.{Bor}
 use Rattle.std.specs.Str.{bytes_eq}
 use Rattle.std.specs.Cmp.Lexicographic.{pointwise}
@@ -34,9 +31,3 @@ pub record IsSummary (summary : Summary) (lines : List Line) : Type 0 where
   pub counted : summary.actions ≡ length lines
   pub answers : AreAnswers summary.answers (numbered_from 0 lines)
   pub hand_outs : AreHandOuts summary.agents summary.events (hand_outs_from 0 lines)
-
--- private to the crate: the world stores what a run came to, and the summary has its lines
-pub record Stands (r : Run) (w : WorldState) (summary : Summary) : Type 0 where
-  pub view : IsViewed r.cluster w
-  pub representable : AreRepresentable r.cluster
-  pub summary_is : IsSummary summary (map (λ t. t.line) r.turns)

@@ -6,11 +6,10 @@ ghost use Rattle.serf_text.specs.Io.{AppendsFront};
 ghost use Rattle.serf_schedule.specs.Output.{output_of};
 ghost use Rattle.serf_replay.specs.Output.{GivesText, TracesRun, longest_schedule};
 
-use crate::laws::answered_lines;
-use crate::progress::Progress;
-use crate::replaying::Replaying;
-use serf_schedule::{ReplayFault, ScheduleFault, Watch, fault_at};
-use serf_text::{Cause, InputFault, cut, read_input, write_output};
+use crate::laws::traced_schedules;
+use crate::progress::count_watched;
+use serf_schedule::{ReplayFault, Run, ScheduleFault, TraceText, Watch, Watched};
+use serf_text::{Cause, InputFault, StreamLineFault, read_input, tell_text, write_output};
 use std::alloc::Global;
 use std::io::{Read, Write};
 
@@ -23,26 +22,14 @@ fn output_text<T: Watch>(
     ensures text { GivesText result (output_of input.now) }
     ensures run { IfOk result (λ text. TracesRun input.now text.items) }
 {
-    answered_lines();
-    let mut progress = Progress::of(input, watch);
-    let mut replaying = Replaying::new(alloc);
-    let mut words = Vec::new(alloc);
-    let mut out = Vec::new(alloc);
-    let mut number: u64 = 1;
-    let mut rest = input;
-    'lines: loop {
-        let (line, more) = cut(rest, b'\n');
-        if let Err(fault) = replaying.take_line_in(alloc, &mut words, line, &mut out) {
-            return Err(fault_at(number, fault));
-        }
-        progress.tell(watch, replaying.turns());
-        match more {
-            Some(next) => {
-                rest = next;
-                number += 1;
-            }
-            None => return Ok(out),
-        }
+    traced_schedules();
+    let all = count_watched(input, watch);
+    let teller = TraceText;
+    let mut run = Run::new(alloc, Watched { teller, watch, all });
+    match tell_text(alloc, input, &mut run) {
+        Ok(text) => Ok(text),
+        Err((line, StreamLineFault::Bad(cause))) => Err(ScheduleFault::BadLine { line, cause }),
+        Err((_, StreamLineFault::OutOfMemory)) => Err(ScheduleFault::OutOfMemory),
     }
 }
 

@@ -1,19 +1,14 @@
-//! What holds of every schedule that is done line by line: the contract of a function that does nothing.
+//! What holds of every schedule that is run: the contract of a function that does nothing.
 
-ghost use Rattle.serf_replay.specs.Laws.{AnswersTellMore, RefusalsAreFirst, SchedulesTraceRuns};
+ghost use Rattle.serf_replay.specs.Laws.{SchedulesTraceRuns};
 
 use serf_model::{run_promises, turns_shown};
-use serf_schedule::{lines_grow, lines_stay, sized_schedules, told_schedules};
+use serf_schedule::{sized_schedules, told_schedules};
 
-/// The text of a line's turn stands after that of the lines before it, and a line that is refused is the schedule's
-/// first bad one. What is written of a whole schedule traces a run that keeps all promises. Does nothing.
-pub fn answered_lines()
-    ensures more { AnswersTellMore }
-    ensures first { RefusalsAreFirst }
+/// What is written of a whole schedule traces a run that keeps all promises. Does nothing.
+pub fn traced_schedules()
     ensures traces { SchedulesTraceRuns }
 {
-    lines_grow();
-    lines_stay();
     sized_schedules();
     told_schedules();
     run_promises();

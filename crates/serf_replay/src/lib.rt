@@ -9,7 +9,6 @@ mod job;
 mod keys;
 mod laws;
 mod progress;
-mod replaying;
 mod stream_job;
 mod summarizing;
 mod summary;
@@ -18,11 +17,10 @@ mod tally;
 
 pub use job::replay;
 pub use keys::EventKey;
-pub use laws::answered_lines;
-pub use replaying::Replaying;
+pub use laws::traced_schedules;
 pub use serf_schedule::{
-    Command, Lone, ReplayFault, Schedule, ScheduleFault, Unwatched, Verb, Watch, answer_words,
-    command_in, lines_grow, lines_stay, parse_schedule, put_action, put_answer, read_schedule_line,
+    Command, Lone, ReplayFault, Run, Schedule, ScheduleFault, TraceText, Unwatched, Verb, Watch,
+    answer_words, command_in, lines_grow, lines_stay, parse_schedule, put_action, put_answer, read_schedule_line,
     show_trace, sink_call, sized_schedules, told_schedules,
 };
 pub use serf_text::{

@@ -30,29 +30,11 @@ fn count_actions(text: &[u8]) -> u64 {
     }
 }
 
-/// How many actions a schedule has, and how many of them its watch was told of.
-#[derive(Drop)]
-pub(crate) struct Progress {
-    all: u64,
-    told: u64,
-}
-
-impl Progress {
-    /// Of a schedule's text. Where nobody watches, its actions are not counted.
-    pub(crate) fn of<T: Watch>(text: &[u8], watch: &T) -> Progress {
-        let all = if watch.is_watching() {
-            count_actions(text)
-        } else {
-            0
-        };
-        Progress { all, told: 0 }
-    }
-
-    /// Tells the watch that so many actions are done, where this wasn't told before.
-    pub(crate) fn tell<T: Watch>(&mut self, watch: &mut T, done: u64) {
-        if done > self.told {
-            self.told = done;
-            watch.acted(done, self.all);
-        }
+/// How many actions a schedule's text has. Where nobody watches, they are not counted: it is 0.
+pub(crate) fn count_watched<T: Watch>(text: &[u8], watch: &T) -> u64 {
+    if watch.is_watching() {
+        count_actions(text)
+    } else {
+        0
     }
 }

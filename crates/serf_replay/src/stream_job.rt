@@ -6,43 +6,11 @@ ghost use Rattle.serf_replay.specs.Output.{TracesRun};
 ghost use Rattle.serf_schedule.specs.Output.{output_of};
 ghost use Rattle.serf_replay.specs.Stopped.{IsHalted};
 
-use crate::laws::answered_lines;
-use crate::replaying::Replaying;
-use serf_text::{
-    Cause, LineFault as ReadFault, LineJob, StreamFault, StreamLineFault, answer_lines,
-};
+use crate::laws::traced_schedules;
+use serf_schedule::{Run, TraceText};
+use serf_text::{Cause, StreamFault, tell_lines};
 use std::alloc::Global;
 use std::io::{Read, Write};
-
-/// Does the lines of a schedule.
-#[derive(Drop)]
-struct ScheduleLines {
-    replaying: Replaying,
-}
-
-impl LineJob for ScheduleLines {
-    ghost use Rattle.serf_replay.specs.Replaying.{Follows};
-    ghost use Rattle.serf_replay.specs.Turns.{turn_answer};
-
-    type Fault = Cause;
-
-    ghost follows = { λ job lines. Follows job.replaying lines };
-
-    ghost answer = { turn_answer };
-
-    fn read_line(
-        &mut self,
-        alloc: Global,
-        line: &[u8],
-        text: &mut Vec<u8>,
-    ) -> Result<(), StreamLineFault<Cause>> {
-        match self.replaying.take_line(alloc, line, text) {
-            Ok(()) => Ok(()),
-            Err(ReadFault::Bad(cause)) => Err(StreamLineFault::Bad(cause)),
-            Err(ReadFault::OutOfMemory) => Err(StreamLineFault::OutOfMemory),
-        }
-    }
-}
 
 /// Reads a schedule line by line, and writes the trace of its cluster. Each line is read, done, written and dropped.
 ///
@@ -65,9 +33,6 @@ pub fn replay_lines<R: Read, W: Write>(
         × Consumes (R.remaining reader.old) (R.remaining reader.new) bytes
         × IsHalted fault bytes (W.contents writer.old) (W.contents writer.new)) }
 {
-    answered_lines();
-    let mut job = ScheduleLines {
-        replaying: Replaying::new(alloc),
-    };
-    answer_lines(alloc, reader, writer, &mut job)
+    traced_schedules();
+    tell_lines(alloc, reader, writer, &mut Run::new(alloc, TraceText))
 }

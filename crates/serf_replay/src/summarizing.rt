@@ -1,35 +1,18 @@
 //! The summary of a run.
 
-ghost use Rattle.std.specs.Prelude.{◌≡◌, IfErr, IfOk, List, OnOk, length, map, ℕ};
+ghost use Rattle.std.specs.Prelude.{◌≡◌, IfErr, IfOk, List, length, map, ℕ};
 ghost use Rattle.std.specs.Io.KnownBytes.{Consumes, IsAtEnd};
-ghost use Rattle.serf_model.specs.Cluster.{Run, after, run_of};
+ghost use Rattle.serf_model.specs.Cluster.{run_of};
 ghost use Rattle.serf_replay.specs.Stopped.{IsHaltedAt};
-ghost use Rattle.serf_replay.specs.Summaries.{IsSummary, Stands};
+ghost use Rattle.serf_replay.specs.Summaries.{IsSummary};
 ghost use Rattle.serf_replay.specs.Summarized.{IsSummaryOf};
 
-use crate::laws::answered_lines;
 use crate::summary::Summary;
-use crate::summing::Summing;
-use serf_model::Action;
-use serf_schedule::{Schedule, Watch};
-use serf_text::{Cause, StreamFault, answer_lines};
-use serf_world::World;
+use serf_schedule::{Run, Schedule, Watch, Watched, tell_schedule};
+use serf_text::{Cause, StreamFault, tell_lines};
 use std::alloc::{AllocError, Global};
 use std::io::{self, Read};
-
-/// Does an action, and takes its line in.
-fn add_action(
-    alloc: Global,
-    world: &mut World,
-    summary: &mut Summary,
-    action: &Action,
-) -> Result<(), AllocError>
-    ensures { (r : Run) → Stands r world.old summary.old
-        → OnOk result (Stands (after r action.now) world.new summary.new) }
-{
-    let line = world.step(alloc, action)?;
-    summary.add(alloc, &line)
-}
+use std::mem;
 
 /// The summary of the run of a schedule. Its actions are done one after another, and each line of the trace is dropped
 /// once it was counted. The watch is told of each action that is done.
@@ -45,18 +28,13 @@ pub fn summarize<T: Watch>(
         (map (λ t. t.line) (run_of schedule.agents schedule.actions.items).turns)) }
     ensures size { IfOk result (λ summary. summary.size ≡ length schedule.agents) }
 {
-    let Schedule { agents, actions } = schedule;
-    let size = agents.as_slice().len() as u64;
-    let mut world = World::new(alloc, agents)?;
-    let mut summary = Summary::new(alloc);
-    let all = actions.len() as u64;
-    let mut number: u64 = 0;
-    for action in actions {
-        number += 1;
-        add_action(alloc, &mut world, &mut summary, &action)?;
-        watch.acted(number, all);
-    }
-    Ok(summary.with_size(size))
+    let size = schedule.agents.as_slice().len() as u64;
+    let all = schedule.actions.len() as u64;
+    let teller = Summary::new(alloc);
+    let mut watched = Watched { teller, watch, all };
+    tell_schedule(alloc, schedule, &mut watched)?;
+    let Watched { teller, .. } = watched;
+    Ok(teller.with_size(size))
 }
 
 /// The summary of the run of a schedule that is read line by line. Each line is read, done, counted and dropped.
@@ -77,10 +55,13 @@ pub fn summarize_lines<R: Read>(
         × Consumes (R.remaining reader.old) (R.remaining reader.new) bytes
         × IsHaltedAt fault bytes) }
 {
-    answered_lines();
-    let mut job = Summing::new(alloc);
-    match answer_lines(alloc, reader, &mut io::sink(), &mut job) {
-        Ok(()) => Ok(job.into_summary()),
+    let mut run = Run::new(alloc, Summary::new(alloc));
+    match tell_lines(alloc, reader, &mut io::sink(), &mut run) {
+        Ok(()) => {
+            let size = run.agents();
+            let summary = mem::replace(&mut run.teller, Summary::new(alloc));
+            Ok(summary.with_size(size))
+        }
         Err(fault) => Err(fault),
     }
 }
