@@ -1,6 +1,6 @@
 -- The text of a run's turns with their reasons, as one action after another is done.
 use Rattle.std.proofs.Common.{◌≡◌, ℕ, ◌+◌, List, [], ◌∷◌, ◌++◌, Bool, Option, Some, None, true, false, refl, subst, sym, ap, ◌∙◌, length, length-append, append_assoc, arith}
-use Rattle.std.specs.Prelude.{All, slice_get, map, if◌then◌else◌}
+use Rattle.std.specs.Prelude.{slice_get, map, if◌then◌else◌}
 use Rattle.std.specs.List.{flat_map, fold}
 use Rattle.std.proofs.lemmas.List.Sums.{fold-append}
 use Rattle.std.specs.Option.{option_map}
@@ -11,15 +11,10 @@ use Rattle.serf_model.specs.declared.action.Action.{Action}
 use Rattle.serf_model.specs.declared.line.Line.{Line}
 use Rattle.serf_agent.specs.declared.config.Config.{Config}
 use Rattle.serf_model.specs.Cluster.{Cluster, Run, after, run_of, start, step}
-use Rattle.serf_model.specs.Tails.{BringsTold}
 use Rattle.serf_model.specs.Trace.{Turn, actor_of}
-use Rattle.serf_model.specs.Ready.{AreRepresentable}
-use Rattle.serf_model.specs.Runs.{AreConfigs}
 use Rattle.serf_world.specs.View.{IsViewed, TakesStep, WorldState}
 use Rattle.serf_schedule.specs.Show.{action_text}
 use Rattle.serf_explain.specs.declared.range.Range.{Range}
-use Rattle.serf_explain.specs.declared.telling.Telling.{Telling}
-use Rattle.serf_explain.specs.Acted.{HasActed}
 use Rattle.serf_explain.specs.Range.{is_shown}
 use Rattle.serf_agent.specs.States.{events_of}
 use Rattle.serf_model.specs.declared.action.Action.TheVariants as actions
@@ -74,14 +69,14 @@ lines-of [] = refl
 lines-of (e ∷ es) = ap (λ (ls : List Line). e.turn.line ∷ ls) (lines-of es)
 
 -- one more turn
-pub told-after : (configs : List Config) (range : Range) (r : Run) (clusters : List Cluster) (action : Action) (w new : WorldState) (line : Line) (carried : List (List ℕ)) (past noted : List Note) (text added : List ℕ) (n : ℕ)
+pub told-after : (configs : List Config) (range : Range) (r : Run) (clusters : List Cluster) (action : Action) (new : WorldState) (line : Line) (carried : List (List ℕ)) (past noted : List Note) (text added : List ℕ) (n : ℕ)
     → ((step r.cluster action).cluster.sent ≡ r.cluster.sent ++ (step r.cluster action).turn.packets)
     → ((more : List (List ℕ)) → action_text ((step r.cluster action).cluster.sent ++ more) n (step r.cluster action).turn.line ≡ action_text (step r.cluster action).cluster.sent n (step r.cluster action).turn.line)
-    → IsTold configs range r clusters w past text → n ≡ length r.turns + 1 → TellsMerge r.cluster action carried → TakesStep (step r.cluster action) new line → KnowsSeen configs past new.sent action line
+    → IsTold configs range r clusters past text → n ≡ length r.turns + 1 → TellsMerge r.cluster action carried → TakesStep (step r.cluster action) new line → KnowsSeen configs past new.sent action line
     → AddsTurn (TellsAll (is_shown range n (actor_of action)) carried past new action line) (is_shown range n (actor_of action)) new.sent n line text added
     → noted ≡ past ++ map (note_of n) line.events
-    → IsTold configs range (after r action) (clusters ++ r.cluster ∷ []) new noted added
-told-after configs range r clusters action w new line carried past noted text added n sends stays h count told takes known adds grows =
+    → IsTold configs range (after r action) (clusters ++ r.cluster ∷ []) noted added
+told-after configs range r clusters action new line carried past noted text added n sends stays h count told takes known adds grows =
     let turn : Turn = (step r.cluster action).turn in
     let sent : List (List ℕ) = (step r.cluster action).cluster.sent in
     let one : Explained = record { before = r.cluster; turn = turn; reasons = adds.reasons } in
@@ -107,8 +102,6 @@ told-after configs range r clusters action w new line carried past noted text ad
     ∙ still-delivered r.cluster.sent turn.packets action a e (ap (λ (b : Action). event_delivered r.cluster.sent b) (sym (turn-action r.cluster action)) ∙ is)) in
     let place : 1 + length h.explained ≡ n = omega (arith, many, count) in
     record {
-      view = takes.view;
-      representable = takes.representable;
       notes_are = grows
           ∙ ap (λ (ns : List Note). ns ++ map (note_of n) line.events) h.notes_are
           ∙ ap (λ m. notes_from 1 lines ++ map (note_of m) line.events) number
@@ -155,16 +148,12 @@ nothing-added carried past w action n line a = record {
 }
 
 -- a run whose actions are all told
-pub told-whole : (range : Range) (configs : List Config) (actions done : List Action) (telling : Telling) (text : List ℕ) → done ≡ actions → HasActed range configs done telling text → TellsRun range configs actions text
-told-whole range configs actions done telling text whole h =
-    let t = h.told.told in
-    subst (λ (all : List Action). TellsRun range configs all text) whole
-    (subst (λ (r : Range). TellsRun r configs done text) h.range_is
-    (record {
-      explained = t.explained;
-      whole = t.whole;
-      text_is = sym (t.told []) ∙ ap (λ s. turns_text telling.range s 1 t.explained) (append-nil (run_of configs done).cluster.sent);
-    }))
+pub told-whole : (range : Range) (configs : List Config) (done : List Action) (notes : List Note) (text : List ℕ) → HasTold range configs done notes text → TellsRun range configs done text
+told-whole range configs done notes text t = record {
+  explained = t.explained;
+  whole = t.whole;
+  text_is = sym (t.told []) ∙ ap (λ s. turns_text range s 1 t.explained) (append-nil (run_of configs done).cluster.sent);
+}
 
 -- one more action of a run
 pub run-push : (configs : List Config) (done : List Action) (action : Action) → run_of configs (done ++ action ∷ []) ≡ after (run_of configs done) action
@@ -178,32 +167,23 @@ run-length : (r : Run) (done : List Action) → length (fold after r done).turns
 run-length r [] = omega arith
 run-length r (x ∷ xs) = run-length (after r x) xs ∙ (let one = length-append r.turns ((step r.cluster x).turn ∷ []) in let sum : length (after r x).turns + length xs ≡ length r.turns + length (x ∷ xs) = omega (arith, one) in sum)
 
-pub told-next : (range : Range) (configs : List Config) (done : List Action) (action : Action) (w : WorldState) (past : List Note) (text : List ℕ) → AreConfigs configs → All BringsTold (done ++ action ∷ [])
-    → IsTold configs range (after (run_of configs done) action) (clusters_before configs done ++ (run_of configs done).cluster ∷ []) w past text → HasTold range configs (done ++ action ∷ []) w past text
-told-next range configs done action w past text settings brings h = record {
-  settings = settings;
-  brings = brings;
-  told = subst (λ (r : Run). IsTold configs range r (clusters_before configs (done ++ action ∷ [])) w past text) (sym (run-push configs done action))
-      (subst (λ (cs : List Cluster). IsTold configs range (after (run_of configs done) action) cs w past text) (sym (clusters-from (start configs) done action)) h);
-}
+pub told-next : (range : Range) (configs : List Config) (done : List Action) (action : Action) (past : List Note) (text : List ℕ)
+    → IsTold configs range (after (run_of configs done) action) (clusters_before configs done ++ (run_of configs done).cluster ∷ []) past text → HasTold range configs (done ++ action ∷ []) past text
+told-next range configs done action past text h =
+    subst (λ (r : Run). IsTold configs range r (clusters_before configs (done ++ action ∷ [])) past text) (sym (run-push configs done action))
+    (subst (λ (cs : List Cluster). IsTold configs range (after (run_of configs done) action) cs past text) (sym (clusters-from (start configs) done action)) h)
 
 -- the number of the next action
 pub next-number : (configs : List Config) (done : List Action) (n : ℕ) → n ≡ length done + 1 → n ≡ length (run_of configs done).turns + 1
 next-number configs done n is = omega (arith, is, run-length (start configs) done)
 
 -- a run of no action
-pub told-first : (range : Range) (configs : List Config) (w : WorldState) (past : List Note) → AreConfigs configs → IsViewed (start configs).cluster w → AreRepresentable (start configs).cluster → past ≡ [] → HasTold range configs [] w past []
-told-first range configs w past settings view representable none = record {
-  settings = settings;
-  brings = All-nil BringsTold;
-  told = record {
-    view = view;
-    representable = representable;
-    notes_are = none;
-    explained = [];
-    whole = record { turns_are = refl; clusters_are = refl; reasons = All-nil (λ (e : Explained). IsReasoned e.before e.turn.action e.turn.line e.reasons); seen = tt };
-    told = λ more. refl;
-  };
+pub told-first : (range : Range) (configs : List Config) (past : List Note) → past ≡ [] → HasTold range configs [] past []
+told-first range configs past none = record {
+  notes_are = none;
+  explained = [];
+  whole = record { turns_are = refl; clusters_are = refl; reasons = All-nil (λ (e : Explained). IsReasoned e.before e.turn.action e.turn.line e.reasons); seen = tt };
+  told = λ more. refl;
 }
 
 -- what an action adds may stand after any text

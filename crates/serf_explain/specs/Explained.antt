@@ -7,11 +7,8 @@ use Rattle.serf_model.specs.declared.action.Action.{Action}
 use Rattle.serf_model.specs.declared.line.Line.{Line}
 use Rattle.serf_model.specs.declared.line.Answer.TheVariants as answers
 use Rattle.serf_model.specs.Cluster.{Cluster, Run, run_of, start, step, trace_of}
-use Rattle.serf_model.specs.Ready.{AreRepresentable}
-use Rattle.serf_model.specs.Runs.{AreConfigs}
-use Rattle.serf_model.specs.Tails.{BringsTold}
 use Rattle.serf_model.specs.Trace.{Turn, actor_of}
-use Rattle.serf_world.specs.View.{IsViewed, WorldState}
+use Rattle.serf_world.specs.View.{WorldState}
 use Rattle.serf_schedule.specs.Line.{Parsed}
 use Rattle.serf_schedule.specs.Output.{output_of}
 use Rattle.serf_schedule.specs.Schedule.{schedule_of}
@@ -95,22 +92,16 @@ pub record Explains (range : Range) (input text : List ℕ) (count : ℕ) : Type
   pub tells : TellsRun range schedule.configs schedule.actions text
   pub counted : count ≡ length schedule.actions
 
--- The world stores what a run came to, these are what its lines handed out, and the text is that of its turns, whatever else
--- will be sent.
-pub record IsTold (configs : List Config) (range : Range) (r : Run) (clusters : List Cluster) (w : WorldState) (notes : List Note) (text : List ℕ) : Type 0 where
-  pub view : IsViewed r.cluster w
-  pub representable : AreRepresentable r.cluster
+-- These are what the lines of a run handed out, and the text is that of its turns, whatever else will be sent.
+pub record IsTold (configs : List Config) (range : Range) (r : Run) (clusters : List Cluster) (notes : List Note) (text : List ℕ) : Type 0 where
   pub notes_are : notes ≡ notes_from 1 (map (λ t. t.line) r.turns)
   pub explained : List Explained
   pub whole : IsExplained configs range r.turns clusters explained
   pub told : (more : List (List ℕ)) → turns_text range (r.cluster.sent ++ more) 1 explained ≡ text
 
--- The world did these actions in a cluster of agents of these settings, and the text shows them. What the actions bring can
--- be told in lines.
-pub record HasTold (range : Range) (configs : List Config) (done : List Action) (w : WorldState) (notes : List Note) (text : List ℕ) : Type 0 where
-  pub settings : AreConfigs configs
-  pub brings : All BringsTold done
-  pub told : IsTold configs range (run_of configs done) (clusters_before configs done) w notes text
+-- the same of the run of these actions
+abbrev pub HasTold : Range → List Config → List Action → List Note → List ℕ → Type 0
+HasTold range configs done notes text = IsTold configs range (run_of configs done) (clusters_before configs done) notes text
 
 -- What is said of an action: of a merge what was said of its events; of an event that was seen which action handed it out, or
 -- that its agent was opened on its line.

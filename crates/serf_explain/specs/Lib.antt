@@ -7,5 +7,5 @@ pub mod HandOuts
 pub mod Judging
 pub mod Explained
 pub mod Noted
-pub mod Acted
+pub mod Reasoned
 pub mod Streamed

@@ -1,6 +1,6 @@
 //! A run so far.
 
-ghost use Rattle.std.specs.Prelude.{◌≡◌, ◌++◌, [], map, IfOk, OnOk};
+ghost use Rattle.std.specs.Prelude.{◌≡◌, ◌++◌, [], map, OnOk};
 ghost use Rattle.serf_explain.specs.HandOuts.{note_of, notes_in};
 
 use crate::hand_outs::HandOuts;
@@ -18,14 +18,26 @@ pub(crate) struct History {
 }
 
 impl History {
-    /// A run of no action.
-    pub(crate) fn new(alloc: Global, world: &World, agents: usize) -> Result<History, AllocError>
-        ensures { IfOk result (λ h. notes_in h.hand_outs.outs.items ≡ []) }
+    /// A run of no action. Takes no memory.
+    pub(crate) fn new(alloc: Global) -> History
+        ensures { notes_in result.hand_outs.outs.items ≡ [] }
     {
-        Ok(History {
+        History {
             hand_outs: HandOuts::new(alloc),
-            memory: Memory::new(alloc, world, agents)?,
-        })
+            memory: Memory::new(alloc),
+        }
+    }
+
+    /// Remembers so many agents that have done nothing.
+    pub(crate) fn begin(
+        &mut self,
+        alloc: Global,
+        world: &World,
+        agents: u64,
+    ) -> Result<(), AllocError>
+        ensures { self.new.hand_outs ≡ self.old.hand_outs }
+    {
+        self.memory.begin(alloc, world, agents)
     }
 
     /// Remembers what came of an action.

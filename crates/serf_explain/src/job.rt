@@ -1,101 +1,17 @@
 //! The whole job: a schedule in, its trace with its reasons out.
 
-ghost use Rattle.std.specs.Prelude.{◌≡◌, ◌<◌, ◌≤◌, ◌+◌, ◌++◌, ◌∷◌, [], List, ℕ, true, false, Err, length, OnOk, IfOk, IfErr, IfSome, IsErrOf};
+ghost use Rattle.std.specs.Prelude.{◌≡◌, ◌<◌, ◌≤◌, ◌+◌, List, ℕ, Err, length, IfOk, IfErr, IfSome, IsErrOf};
 ghost use Rattle.std.specs.Io.KnownBytes.{Appends, Consumes};
-ghost use Rattle.serf_agent.specs.declared.config.Config.{Config};
-ghost use Rattle.serf_model.specs.declared.action.Action.{Action};
-ghost use Rattle.std.specs.List.{flat_map};
-ghost use Rattle.serf_explain.specs.Because.{because_line};
 ghost use Rattle.serf_text.specs.Io.{AppendsFront};
 ghost use Rattle.serf_schedule.specs.Output.{output_of};
-ghost use Rattle.serf_explain.specs.Explained.{AddsTurn, Explains, HasTold, TellsAll, TellsRun};
-ghost use Rattle.serf_explain.specs.HandOuts.{notes_in};
+ghost use Rattle.serf_explain.specs.Explained.{Explains};
 
-use crate::history::History;
-use crate::merges::MergeLines;
 use crate::range::Range;
-use crate::reasons::{lines_before, put_reasons};
-use crate::telling::Telling;
-use crate::told::Told;
-use serf_model::{Action, run_promises};
-use serf_schedule::{
-    ReplayFault, Schedule, ScheduleFault, Watch, lines_stay, parse_schedule, put_action,
-};
+use crate::reasoning::Reasoning;
+use serf_schedule::{ReplayFault, ScheduleFault, Watch, Watched, parse_schedule, tell_schedule};
 use serf_text::{Cause, InputFault, MAX_SCHEDULE_BYTES, read_input, write_output};
-use serf_world::{World, look_at};
-use std::alloc::{AllocError, Global};
+use std::alloc::Global;
 use std::io::{Read, Write};
-
-/// Appends what is shown of an action: its lines and those of its reasons, or nothing.
-fn put_turn(alloc: Global, out: &mut Vec<u8>, is_shown: bool, told: &Told) -> Result<(), AllocError>
-    ensures { (carried : List (List ℕ))
-        → told.now.carried.now ≡ flat_map (because_line told.now.number) carried
-        → OnOk result (AddsTurn (TellsAll is_shown carried (notes_in told.now.past.now.outs.items)
-        told.now.world.now told.now.action.now told.now.line.now) is_shown told.now.world.now.sent
-        told.now.number told.now.line.now out.old.items out.new.items) }
-{
-    if !is_shown {
-        return Ok(());
-    }
-    put_action(out, told.world.sent(), told.number, told.line)?;
-    put_reasons(alloc, out, told)
-}
-
-/// Does an action, and adds what is shown of it.
-pub(crate) fn add_turn(
-    alloc: Global,
-    world: &mut World,
-    history: &mut History,
-    lines: &mut MergeLines,
-    out: &mut Vec<u8>,
-    range: &Range,
-    number: u64,
-    action: &Action,
-) -> Result<(), AllocError>
-    ensures { (configs : List Config) (done : List Action) (front : List ℕ)
-        → HasTold range.now configs done world.old (notes_in history.old.hand_outs.outs.items)
-        (front ++ out.old.items) → number ≡ length done + 1
-        → OnOk result (HasTold range.now configs (done ++ action.now ∷ []) world.new
-        (notes_in history.new.hand_outs.outs.items) (front ++ out.new.items)) }
-{
-    lines_stay();
-    run_promises();
-    look_at(action);
-    lines_before(alloc, world, history, number, action, lines)?;
-    let line = world.step(alloc, action)?;
-    let told = Told {
-        number,
-        world,
-        memory: &history.memory,
-        past: &history.hand_outs,
-        action,
-        line: &line,
-        carried: &lines.text,
-    };
-    put_turn(alloc, out, range.shows(number, action.actor()), &told)?;
-    history.note(alloc, world, number, action, &line)
-}
-
-/// What is shown of the run of a schedule, of which nothing is left then.
-fn run_text<T: Watch>(
-    alloc: Global,
-    schedule: Schedule,
-    range: &Range,
-    watch: &mut T,
-) -> Result<Vec<u8>, AllocError>
-    ensures { IfOk result (λ text.
-        TellsRun range.now schedule.agents schedule.actions.items text.items) }
-{
-    let Schedule { agents, actions } = schedule;
-    let all = actions.len() as u64;
-    let mut telling = Telling::new(alloc, agents, *range)?;
-    let mut out = Vec::new(alloc);
-    for action in actions {
-        telling.take(alloc, action, &mut out)?;
-        watch.acted(telling.turns, all);
-    }
-    Ok(out)
-}
 
 /// The text of a schedule's run with its reasons, and how many actions the schedule has.
 fn output_text<T: Watch>(
@@ -111,9 +27,10 @@ fn output_text<T: Watch>(
 {
     let schedule = parse_schedule(alloc, &input)?;
     drop(input);
-    let count = schedule.actions.len() as u64;
-    match run_text(alloc, schedule, range, watch) {
-        Ok(text) => Ok((text, count)),
+    let all = schedule.actions.len() as u64;
+    let teller = Reasoning::new(alloc, *range);
+    match tell_schedule(alloc, schedule, &mut Watched { teller, watch, all }) {
+        Ok(text) => Ok((text, all)),
         Err(_) => Err(ScheduleFault::OutOfMemory),
     }
 }

@@ -15,11 +15,11 @@ mod merges;
 mod phrases;
 mod quoted;
 mod range;
+mod reasoning;
 mod reasons;
 mod refusals;
 mod seen;
 mod streaming;
-mod telling;
 mod told;
 
 pub use job::explain;

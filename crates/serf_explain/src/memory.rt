@@ -48,20 +48,28 @@ pub(crate) struct Memory {
 }
 
 impl Memory {
-    /// Remembers agents that have done nothing.
-    pub(crate) fn new(alloc: Global, world: &World, agents: usize) -> Result<Memory, AllocError> {
-        let mut marks = Vec::new(alloc);
-        for number in 0..agents {
-            let Some(agent) = world.agent(number as u64) else {
-                return Err(AllocError);
-            };
-            marks.push(Marks::new(Vec::new(alloc), agent))?;
-        }
-        Ok(Memory {
+    /// Remembers nothing. Takes no memory.
+    pub(crate) fn new(alloc: Global) -> Memory {
+        Memory {
             queries: IndexMap::new(alloc),
             asked: IndexMap::new(alloc),
-            agents: marks,
-        })
+            agents: Vec::new(alloc),
+        }
+    }
+
+    /// Remembers so many agents that have done nothing.
+    pub(crate) fn begin(
+        &mut self,
+        alloc: Global,
+        world: &World,
+        agents: u64,
+    ) -> Result<(), AllocError> {
+        for number in 0..agents {
+            if let Some(agent) = world.agent(number) {
+                self.agents.push(Marks::new(Vec::new(alloc), agent))?;
+            }
+        }
+        Ok(())
     }
 
     pub(crate) fn marks(&self, agent: u64) -> Option<&Marks> {

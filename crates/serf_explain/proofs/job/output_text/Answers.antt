@@ -2,6 +2,8 @@ use Rattle.std.proofs.Common.{ap, sym, ◌∙◌, rules}
 use Rattle.serf_schedule.specs.Line.{Parsed}
 use Rattle.serf_schedule.specs.Output.{text_of}
 use Rattle.serf_schedule.specs.Schedule.{parsed_of, schedule_of}
+use Rattle.serf_explain.specs.HandOuts.{notes_in}
+use Rattle.serf_explain.proofs.TellLaws.{told-whole}
 use Rattle.serf_explain.proofs.job.output_text.Goals as goal
 
 pub returns-in-Ok-clause-text : goal.returns-in-Ok-clause-text
@@ -13,6 +15,6 @@ returns-in-Ok-clause-text g c =
       schedule = p;
       reads = reads;
       replayed = ap text_of reads;
-      tells = c.in-Ok.ensures;
+      tells = told-whole c.args.range.now p.configs p.actions (notes_in c.tell_schedule.new.teller.teller.history.hand_outs.outs.items) c.in-Ok.text.items (c.in-Ok.ensures c.args.range.now (c.new-teller.ensures p.configs)).1;
       counted = search rules;
     }

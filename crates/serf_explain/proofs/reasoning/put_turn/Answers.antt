@@ -4,7 +4,7 @@ use Rattle.serf_schedule.specs.Show.{action_text}
 use Rattle.serf_explain.specs.Explained.{AddsTurn, TellsAll}
 use Rattle.serf_explain.specs.HandOuts.{notes_in}
 use Rattle.serf_explain.proofs.TellLaws.{lines-added, nothing-added}
-use Rattle.serf_explain.proofs.job.put_turn.Goals as goal
+use Rattle.serf_explain.proofs.reasoning.put_turn.Goals as goal
 
 pub returns-then-not-is_shown : goal.returns-then-not-is_shown
 returns-then-not-is_shown c = λ carried lines.

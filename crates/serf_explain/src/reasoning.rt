@@ -1,0 +1,116 @@
+//! The reasons of a run, told turn by turn.
+
+ghost use Rattle.std.specs.Prelude.{◌≡◌, [], List, ℕ, OnOk};
+ghost use Rattle.std.specs.List.{flat_map};
+ghost use Rattle.serf_agent.specs.declared.config.Config.{Config};
+ghost use Rattle.serf_explain.specs.Because.{because_line};
+ghost use Rattle.serf_explain.specs.Explained.{AddsTurn, TellsAll};
+ghost use Rattle.serf_explain.specs.HandOuts.{notes_in};
+ghost use Rattle.serf_explain.specs.Reasoned.{Reasoned};
+
+use crate::history::History;
+use crate::merges::MergeLines;
+use crate::range::Range;
+use crate::reasons::{lines_before, put_reasons};
+use crate::told::Told;
+use serf_model::{Action, Line, run_promises};
+use serf_schedule::{lines_stay, put_action};
+use serf_world::{Turns, World};
+use std::alloc::{AllocError, Global};
+
+/// Appends what is shown of an action: its lines and those of its reasons, or nothing.
+fn put_turn(alloc: Global, out: &mut Vec<u8>, is_shown: bool, told: &Told) -> Result<(), AllocError>
+    ensures { (carried : List (List ℕ))
+        → told.now.carried.now ≡ flat_map (because_line told.now.number) carried
+        → OnOk result (AddsTurn (TellsAll is_shown carried (notes_in told.now.past.now.outs.items)
+        told.now.world.now told.now.action.now told.now.line.now) is_shown told.now.world.now.sent
+        told.now.number told.now.line.now out.old.items out.new.items) }
+{
+    if !is_shown {
+        return Ok(());
+    }
+    put_action(out, told.world.sent(), told.number, told.line)?;
+    put_reasons(alloc, out, told)
+}
+
+/// Tells the trace of a run with its reasons. What it keeps is what is remembered of the run, so that reasons can name
+/// earlier actions: a few numbers for each agent, each event that was handed out, and each query that entered an agent or
+/// was asked.
+#[derive(Drop)]
+pub(crate) struct Reasoning {
+    history: History,
+    /// Room for the lines of a merge.
+    lines: MergeLines,
+    /// Which actions are told.
+    range: Range,
+}
+
+impl Reasoning {
+    /// Of a run of no action. Takes no memory.
+    pub(crate) fn new(alloc: Global, range: Range) -> Reasoning
+        ensures { (configs : List Config) → Reasoned range result configs [] [] }
+    {
+        Reasoning {
+            history: History::new(alloc),
+            lines: MergeLines::new(alloc),
+            range,
+        }
+    }
+}
+
+impl Turns for Reasoning {
+    ghost use Rattle.std.specs.Prelude.{◌≡◌};
+    ghost use Rattle.serf_explain.specs.Range.{all_actions};
+    ghost use Rattle.serf_explain.specs.Reasoned.{FoundMerge, Reasoned};
+
+    type Asked = Range;
+
+    type Seen = ();
+
+    ghost told = { Reasoned };
+
+    ghost saw = { λ range r seen configs done action text.
+        FoundMerge range r configs done action text };
+
+    ghost streams = { λ range. range ≡ all_actions };
+
+    fn begin(&mut self, alloc: Global, world: &World, agents: u64) -> Result<(), AllocError> {
+        self.history.begin(alloc, world, agents)
+    }
+
+    fn look(
+        &mut self,
+        alloc: Global,
+        world: &World,
+        number: u64,
+        action: &Action,
+    ) -> Result<(), AllocError> {
+        lines_before(alloc, world, &self.history, number, action, &mut self.lines)?;
+        Ok(())
+    }
+
+    fn tell(
+        &mut self,
+        alloc: Global,
+        world: &World,
+        number: u64,
+        action: &Action,
+        line: Line,
+        _seen: (),
+        out: &mut Vec<u8>,
+    ) -> Result<(), AllocError> {
+        lines_stay();
+        run_promises();
+        let told = Told {
+            number,
+            world,
+            memory: &self.history.memory,
+            past: &self.history.hand_outs,
+            action,
+            line: &line,
+            carried: &self.lines.text,
+        };
+        put_turn(alloc, out, self.range.shows(number, action.actor()), &told)?;
+        self.history.note(alloc, world, number, action, &line)
+    }
+}
