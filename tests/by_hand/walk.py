@@ -20,7 +20,7 @@ sys.path.insert(0, os.path.join(TOP, "tools"))
 PROGRAM = "serf_replay_program"
 
 # A line begins where it is read, and is over where the next one is taken.
-FIRST, NEXT = "serf_schedule::parse::read_line", "serf_replay::replaying::Replaying::take_line_in"
+FIRST, NEXT = "serf_schedule::parse::say_line", "serf_schedule::run::Run::take_line"
 
 # Functions that are there for proofs.
 FOR_PROOFS = re.compile(r"::laws::|::know_\w+$|::(?:look_at\w*|read_numbers|lines_grow)$")

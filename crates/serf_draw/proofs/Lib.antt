@@ -2,3 +2,4 @@ pub mod EscapeLemmas
 pub mod ClockLemmas
 pub mod CodedLemmas
 pub mod HeadLemmas
+pub mod RowLaws

@@ -11,11 +11,9 @@ use Rattle.serf_model.specs.declared.line.Answer.TheVariants as answers
 use Rattle.serf_model.specs.declared.line.EventLine.{EventLine}
 use Rattle.serf_model.specs.declared.line.Line.{Line}
 use Rattle.serf_model.specs.Cluster.{Cluster, Stepped, start, step}
-use Rattle.serf_model.specs.Ready.{AreRepresentable}
 use Rattle.serf_model.specs.Trace.{actor_of, packet_given}
 use Rattle.serf_schedule.specs.Line.{Parsed}
 use Rattle.serf_text.specs.Gives.{BadLine}
-use Rattle.serf_world.specs.View.{IsViewed, WorldState}
 use Rattle.serf_draw.specs.declared.fault.DrawFault.{DrawFault}
 use Rattle.serf_draw.specs.declared.fault.DrawFault.TheVariants as faults
 use Rattle.serf_draw.specs.declared.picture.Arrow.{Arrow}
@@ -150,10 +148,8 @@ drawing_of asked configs actions = fold (drawn asked) (blank configs) actions
 abbrev pub lost_in : List Packet → List Sender
 lost_in packets = map (λ p. p.sender) (filter (λ p. not p.is_given && p.is_shown) packets)
 
--- The world stores what was drawn so far.
-pub record IsDrawn (d : Drawing) (w : WorldState) (packets : List Packet) (rows : List Row) : Type 0 where
-  pub view : IsViewed d.cluster w
-  pub representable : AreRepresentable d.cluster
+-- these are the packets and the rows of what was drawn so far
+pub record IsDrawn (d : Drawing) (packets : List Packet) (rows : List Row) : Type 0 where
   pub packets_are : packets ≡ d.packets
   pub rows_are : rows ≡ d.rows
 

@@ -4,3 +4,4 @@ pub mod Label
 pub mod Drawing
 pub mod Svg
 pub mod Mermaid
+pub mod Rows

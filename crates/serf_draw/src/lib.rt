@@ -11,6 +11,7 @@ mod label;
 mod mermaid;
 mod picture;
 mod row;
+mod rows;
 mod style;
 mod svg;
 

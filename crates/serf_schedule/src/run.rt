@@ -171,8 +171,11 @@ impl<T: Turns> Run<T> {
         let is_late = self.acting.is_some();
         match say_line(alloc, &mut self.agents, is_late, &mut words, line) {
             Ok(Some(action)) => {
-                let (agents, acting, teller) =
-                    (&mut self.agents, &mut self.acting, &mut self.teller);
+                let (agents, acting, teller) = (
+                    &mut self.agents,
+                    &mut self.acting,
+                    &mut self.teller,
+                );
                 match do_action(alloc, agents, acting, teller, &action, text) {
                     Ok(()) => Ok(()),
                     Err(_) => Err(LineFault::OutOfMemory),

@@ -50,7 +50,8 @@ impl<T: Turns, W: Watch> Turns for Watched<'_, T, W> {
         seen: T::Seen,
         out: &mut Vec<u8>,
     ) -> Result<(), AllocError> {
-        self.teller.tell(alloc, world, number, action, line, seen, out)?;
+        self.teller
+            .tell(alloc, world, number, action, line, seen, out)?;
         self.watch.acted(number, self.all);
         Ok(())
     }

@@ -45,7 +45,7 @@ returns c = λ range configs done lines front found has takes counted.
     (λ is. (
       found.0.0,
       told-next range configs done action noted (front ++ told)
-      (told-after configs range r (clusters_before configs done) action new line carried past noted (front ++ old) (front ++ told) number
-      (c.lines_stay.ensures.sent r.cluster action) (λ more. c.lines_stay.ensures.lines r.cluster action number more) h count tells.tells takes known behind is),
+          (told-after configs range r (clusters_before configs done) action new line carried past noted (front ++ old) (front ++ told) number
+          (c.lines_stay.ensures.sent r.cluster action) (λ more. c.lines_stay.ensures.lines r.cluster action number more) h count tells.tells takes known behind is),
     ))
     c.note.ensures

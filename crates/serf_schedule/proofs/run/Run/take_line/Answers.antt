@@ -25,7 +25,7 @@ returns-in-Ok-clause-done g c = λ asked lines front h.
     record {
       said = with_action now c.in-Ok-Some.action;
       reads = line-more lines c.args.line.now h.said (with_action now c.in-Ok-Some.action) h.reads
-      (said-behind late h.said new c.in-Ok-Some.field-0 (Some c.in-Ok-Some.action) (after_line h.said c.args.line.now) (c.in-Ok-Some.ensures.said h.said held) c.in-Ok-Some.field-0-is);
+          (said-behind late h.said new c.in-Ok-Some.field-0 (Some c.in-Ok-Some.action) (after_line h.said c.args.line.now) (c.in-Ok-Some.ensures.said h.said held) c.in-Ok-Some.field-0-is);
       settings = settings-behind late c.args.self.now.agents new h.said held h.settings c.say_line.ensures.agents;
       stage = stage;
       tells = stage-tells (g.T.Turns.told asked) c.do_action.new.agents c.do_action.new.acting c.do_action.new.teller (with_action now c.in-Ok-Some.action) (front ++ c.do_action.new.text.items) stage;
@@ -44,7 +44,7 @@ returns-in-Ok-None-clause-done g c = λ asked lines front h.
     record {
       said = now;
       reads = line-more lines c.args.line.now h.said now h.reads
-      (said-behind late h.said new c.in-Ok-None.field-0 None (after_line h.said c.args.line.now) (c.in-Ok-None.ensures.said h.said held) c.in-Ok-None.field-0-is ∙ ap (λ (p : Parsed). let ok : Result Parsed Cause = Ok p in ok) nothing);
+          (said-behind late h.said new c.in-Ok-None.field-0 None (after_line h.said c.args.line.now) (c.in-Ok-None.ensures.said h.said held) c.in-Ok-None.field-0-is ∙ ap (λ (p : Parsed). let ok : Result Parsed Cause = Ok p in ok) nothing);
       settings = settings-behind late c.args.self.now.agents new h.said held h.settings c.say_line.ensures.agents;
       stage = stage;
       tells = stage-tells (g.T.Turns.told asked) new c.args.self.now.acting c.args.self.now.teller now told stage;

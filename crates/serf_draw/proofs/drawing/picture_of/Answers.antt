@@ -1,0 +1,15 @@
+use Rattle.std.proofs.Common.{◌∙◌, List, ap}
+use Rattle.serf_agent.specs.declared.config.Config.{Config}
+use Rattle.serf_draw.specs.declared.picture.Packet.{Packet}
+use Rattle.serf_draw.specs.Drawing.{lost_in, shown_lanes}
+use Rattle.serf_draw.proofs.drawing.picture_of.Goals as goal
+
+pub returns : goal.returns
+returns c =
+    let asked = c.args.asked.now in
+    let drawn = (c.in_ok-tell_schedule.ensures asked (c.new-drawn.ensures c.args.schedule.agents)).1 in
+    record {
+      lanes = c.in_ok-lanes.ensures ∙ ap (λ (configs : List Config). shown_lanes asked configs) c.as_slice.ensures.agents;
+      rows = drawn.rows_are;
+      lost = c.in_ok-lost.ensures ∙ ap (λ (packets : List Packet). lost_in packets) (c.as_slice-2.ensures.value ∙ drawn.packets_are);
+    }

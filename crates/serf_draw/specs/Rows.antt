@@ -1,0 +1,27 @@
+-- How the code holds what is drawn of a run: private to the crate.
+use Rattle.std.specs.Prelude.{◌≡◌, ℕ, List}
+use Rattle.serf_agent.specs.declared.config.Config.{Config}
+use Rattle.serf_model.specs.declared.action.Action.{Action}
+use Rattle.serf_model.specs.Cluster.{Cluster, run_of}
+use Rattle.serf_model.specs.Trace.{actor_of, packet_given}
+use Rattle.serf_draw.specs.declared.asked.Asked.{Asked}
+use Rattle.serf_draw.specs.declared.picture.Packet.{Packet}
+use Rattle.serf_draw.specs.declared.rows.Found.{Found}
+use Rattle.serf_draw.specs.declared.rows.Rows.{Rows}
+use Rattle.serf_draw.specs.Asked.{names}
+use Rattle.serf_draw.specs.Drawing.{IsDrawn, arrow_of, clock_in, drawing_of}
+use Rattle.serf_draw.specs.Label.{action_words}
+
+-- what of these actions is asked for is drawn
+abbrev pub draws : Asked → Rows → List Config → List Action → List ℕ → Type 0
+draws asked d configs actions text = (d.asked.now ≡ asked) × IsDrawn (drawing_of asked configs actions) d.packets.items d.rows.items
+
+-- what an action's row has of the cluster before it, where these packets were sent
+pub record IsFound (asked : Asked) (c : Cluster) (packets : List Packet) (action : Action) (found : Found) : Type 0 where
+  pub words : found.words.items ≡ action_words action (packet_given c.sent action)
+  pub named : found.is_named ≡ names asked.event action (packet_given c.sent action)
+  pub clock : found.clock ≡ clock_in c (actor_of action)
+  pub arrow : found.arrow ≡ arrow_of packets action
+
+abbrev pub found_by : Asked → Rows → Found → List Config → List Action → Action → List ℕ → Type 0
+found_by asked d found configs actions action text = draws asked d configs actions text × IsFound asked (run_of configs actions).cluster d.packets.items action found

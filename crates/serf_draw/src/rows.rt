@@ -1,0 +1,180 @@
+//! The rows of a run, drawn turn by turn.
+
+ghost use Rattle.std.specs.Prelude.{◌≡◌, ◌++◌, ◌∷◌, ◌+◌, [], List, ℕ, IfOk, OnOk};
+ghost use Rattle.serf_agent.specs.declared.config.Config.{Config};
+ghost use Rattle.serf_model.specs.Cluster.{Cluster, step};
+ghost use Rattle.serf_world.specs.View.{IsViewed, TakesStep};
+ghost use Rattle.serf_draw.specs.Drawing.{Drawing, IsDrawn, drawn, row_with, shown_row};
+ghost use Rattle.serf_draw.specs.Rows.{IsFound, draws};
+
+use crate::asked::Asked;
+use crate::clock::{changed_clock, event_clock};
+use crate::label::{first_words, label};
+use crate::picture::{Arrow, Packet, Row, Sender};
+use crate::row::{add_packets, arrow, is_restart, merged_events, note_packet, tone};
+use serf_model::{Action, Line};
+use serf_world::{Turns, World};
+use std::alloc::{AllocError, Global};
+
+/// The row of an action that began with these words, from its line, where what it sends has this sender.
+fn row(
+    alloc: Global,
+    asked: &Asked,
+    sender: Sender,
+    action: &Action,
+    words: Vec<u8>,
+    arrow: Arrow,
+    event_clock: Option<u64>,
+    line: Line,
+) -> Result<Row, AllocError>
+    ensures { IfOk result (λ row. row
+        ≡ row_with asked.now.event sender.action sender.above action.now words.items arrow
+        event_clock line) }
+{
+    let answer = line.answer;
+    let events = merged_events(alloc, asked, action, line.into_events())?;
+    Ok(Row {
+        action: sender.action,
+        above: sender.above,
+        agent: action.actor(),
+        tone: tone(answer),
+        label: label(alloc, words, answer, &events, event_clock)?,
+        arrow,
+        event_clock,
+        restarts: is_restart(answer),
+    })
+}
+
+/// Adds a row, where it is drawn.
+fn add_row(rows: &mut Vec<Row>, is_shown: bool, row: Row) -> Result<(), AllocError>
+    ensures { OnOk result (rows.new.items ≡ rows.old.items ++ shown_row is_shown row) }
+{
+    if is_shown {
+        rows.push(row)?;
+    }
+    Ok(())
+}
+
+/// What is found before an action is done: the first words of its label, whether it names an event that is asked for, its
+/// agent's event clock, and its arrow.
+#[derive(Drop)]
+pub(crate) struct Found {
+    pub(crate) words: Vec<u8>,
+    pub(crate) is_named: bool,
+    pub(crate) clock: Option<u64>,
+    pub(crate) arrow: Arrow,
+}
+
+/// Draws the rows of a run, and notes the packets that were sent.
+#[derive(Drop)]
+pub(crate) struct Rows<'a> {
+    pub(crate) asked: &'a Asked,
+    pub(crate) packets: Vec<Packet>,
+    pub(crate) rows: Vec<Row>,
+}
+
+impl<'a> Rows<'a> {
+    /// Of a run of no action. Takes no memory.
+    pub(crate) fn new(alloc: Global, asked: &'a Asked) -> Rows<'a>
+        ensures { (configs : List Config) → draws asked.entry.now result configs [] [] }
+    {
+        Rows {
+            asked,
+            packets: Vec::new(alloc),
+            rows: Vec::new(alloc),
+        }
+    }
+
+    /// Finds what an action's row has of the cluster before it.
+    fn find(&self, alloc: Global, world: &World, action: &Action) -> Result<Found, AllocError>
+        ensures { (c : Cluster) → IsViewed c world.now → IfOk result
+            (IsFound self.now.asked.now c self.now.packets.items action.now) }
+    {
+        let given = action.given(world.sent());
+        Ok(Found {
+            words: first_words(alloc, action, given)?,
+            is_named: self.asked.names(action, given),
+            clock: event_clock(world, action.actor()),
+            arrow: arrow(self.packets.as_slice(), action),
+        })
+    }
+
+    /// Adds the row of an action, where it is drawn, and the packets that it sent.
+    fn add_turn(
+        &mut self,
+        alloc: Global,
+        world: &World,
+        number: u64,
+        action: &Action,
+        line: Line,
+        found: Found,
+    ) -> Result<(), AllocError>
+        ensures drawn { (d : Drawing) → IsDrawn d self.old.packets.items self.old.rows.items
+            → IsFound self.old.asked.now d.cluster self.old.packets.items action.now found
+            → TakesStep (step d.cluster action.now) world.now line → number ≡ d.count + 1
+            → OnOk result (IsDrawn (drawn self.old.asked.now d action.now)
+            self.new.packets.items self.new.rows.items) }
+        ensures asked { self.new.asked ≡ self.old.asked }
+    {
+        let Found {
+            words,
+            is_named,
+            clock,
+            arrow,
+        } = found;
+        let agent = action.actor();
+        let clock = changed_clock(clock, event_clock(world, agent));
+        let is_shown = self.asked.draws(number, action, is_named, &line);
+        let sender = Sender {
+            agent,
+            action: number,
+            above: self.rows.len() as u64,
+        };
+        note_packet(&mut self.packets, action);
+        add_packets(&mut self.packets, sender, is_shown, line.sent.as_slice())?;
+        let row = row(alloc, self.asked, sender, action, words, arrow, clock, line)?;
+        add_row(&mut self.rows, is_shown, row)
+    }
+}
+
+impl Turns for Rows<'_> {
+    ghost use Rattle.serf_draw.specs.Rows.{draws, found_by};
+
+    type Asked = Asked;
+
+    type Seen = Found;
+
+    ghost told = { λ asked d configs actions text. draws asked d configs actions text };
+
+    ghost saw = { λ asked d found configs actions action text.
+        found_by asked d found configs actions action text };
+
+    ghost streams = { λ asked. Unit {0} };
+
+    fn begin(&mut self, _alloc: Global, _world: &World, _agents: u64) -> Result<(), AllocError> {
+        Ok(())
+    }
+
+    fn look(
+        &mut self,
+        alloc: Global,
+        world: &World,
+        _number: u64,
+        action: &Action,
+    ) -> Result<Found, AllocError> {
+        self.find(alloc, world, action)
+    }
+
+    fn tell(
+        &mut self,
+        alloc: Global,
+        world: &World,
+        number: u64,
+        action: &Action,
+        line: Line,
+        found: Found,
+        _out: &mut Vec<u8>,
+    ) -> Result<(), AllocError> {
+        self.add_turn(alloc, world, number, action, line, found)
+    }
+}
