@@ -95,7 +95,7 @@ impl World {
     pub fn step(&mut self, alloc: Global, action: &Action) -> Result<Line, AllocError>
         ensures step { (c : Cluster) → IsViewed c self.old → AreRepresentable c
             → IfOk result (TakesStep (step c action.now) self.new) }
-        ensures err { OnErr result (self.new.sent ≡ self.old.sent) }
+        ensures kept { OnErr result (self.new.sent ≡ self.old.sent) }
         ensures done { (configs : List Config) (actions : List Action) (lines : List Line)
             → HasDone configs actions lines self.old
             → IfOk result (λ line.
