@@ -32,6 +32,12 @@ pub record HasRun {T : Type 0} (told : T → List Config → List Action → Lis
   pub stage : IsStage told run.agents run.acting run.teller said text
   pub tells : told run.teller said.configs said.actions text
 
+-- more was appended to a text, and it is what else was told
+pub record TellsMore (has : List ℕ → Type 0) (told old new : List ℕ) : Type 0 where
+  pub more : List ℕ
+  pub text_is : new ≡ old ++ more
+  pub tells : has (told ++ more)
+
 -- the same, where what is asked is what is asked where lines are done one by one
 abbrev pub HasStreamed : {A T : Type 0} → (A → Type 0) → (A → T → List Config → List Action → List ℕ → Type 0) → Run T → List (List ℕ) → List ℕ → Type 0
 HasStreamed {A} streams told run lines text = (asked : A) × streams asked × HasRun (told asked) run lines text

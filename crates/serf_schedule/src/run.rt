@@ -3,7 +3,7 @@
 ghost use Rattle.std.specs.Prelude.{◌≡◌, ◌++◌, ◌∷◌, [], List, ℕ, IfErr, IfOk, OnOk, length};
 ghost use Rattle.serf_agent.specs.declared.config.Config.{Config};
 ghost use Rattle.serf_schedule.specs.Line.{Parsed, with_action};
-ghost use Rattle.serf_schedule.specs.Running.{HasActed, HasRun, IsLineRefused, IsStage};
+ghost use Rattle.serf_schedule.specs.Running.{HasActed, HasRun, IsLineRefused, IsStage, TellsMore};
 
 use crate::parse::say_line;
 use serf_model::Action;
@@ -151,14 +151,33 @@ impl<T: Turns> Run<T> {
 
     /// Does the next line of the schedule, and appends what is told of its action, where it has one.
     ///
-    /// `Bad` where the line is not sound, and `OutOfMemory`; after both it stands for no schedule any more, and the text
-    /// may have a prefix of what is told.
+    /// `Bad` where the line is not sound, and `OutOfMemory`; after both it stands for no schedule any more.
     pub fn take_line(
         &mut self,
         alloc: Global,
         line: &[u8],
         text: &mut Vec<u8>,
     ) -> Result<(), LineFault>
+        ensures done { (asked : T.Asked) (lines : List (List ℕ)) (told : List ℕ)
+            → HasRun (T.told asked) self.old lines told
+            → OnOk result (TellsMore (HasRun (T.told asked) self.new (lines ++ line.now ∷ []))
+            told text.old.items text.new.items) }
+        ensures refused { (asked : T.Asked) (lines : List (List ℕ)) (told : List ℕ)
+            → HasRun (T.told asked) self.old lines told
+            → IfErr result (λ fault. IsLineRefused fault lines line.now) }
+    {
+        let mut more = Vec::new(alloc);
+        if let Err(fault) = self.do_line(alloc, line, &mut more) {
+            return Err(fault);
+        }
+        match text.append(&mut more) {
+            Ok(()) => Ok(()),
+            Err(_) => Err(LineFault::OutOfMemory),
+        }
+    }
+
+    /// Does the next line, and appends to the last that was told.
+    fn do_line(&mut self, alloc: Global, line: &[u8], text: &mut Vec<u8>) -> Result<(), LineFault>
         ensures done { (asked : T.Asked) (lines : List (List ℕ)) (front : List ℕ)
             → HasRun (T.told asked) self.old lines (front ++ text.old.items)
             → OnOk result (HasRun (T.told asked) self.new
@@ -202,7 +221,7 @@ impl<T: Turns> LineTeller for Run<T> {
         line: &[u8],
         text: &mut Vec<u8>,
     ) -> Result<(), StreamLineFault<Cause>> {
-        match self.take_line(alloc, line, text) {
+        match self.do_line(alloc, line, text) {
             Ok(()) => Ok(()),
             Err(LineFault::Bad(cause)) => Err(StreamLineFault::Bad(cause)),
             Err(LineFault::OutOfMemory) => Err(StreamLineFault::OutOfMemory),

@@ -4,7 +4,7 @@ use Rattle.serf_model.specs.declared.action.Action.{Action}
 use Rattle.serf_text.specs.declared.cause.Cause.{Cause}
 use Rattle.serf_schedule.specs.Line.{Parsed, after_line, with_action}
 use Rattle.serf_schedule.proofs.RunLaws.{has-some, line-more, refused-line, said-behind, settings-behind, stage-behind, stage-held, stage-tells, with-agents}
-use Rattle.serf_schedule.proofs.run.Run.take_line.Goals as goal
+use Rattle.serf_schedule.proofs.run.Run.do_line.Goals as goal
 
 pub returns-clause-refused : goal.returns-clause-refused
 returns-clause-refused g c = λ asked lines told h.
