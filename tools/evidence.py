@@ -20,9 +20,9 @@ from edit_checks import Refusal
 FOLDER = os.path.join(edits.TOP, "tests", "refused")
 
 # Of 100 crates, how many a commit draws, and of 100 edits of such a crate how many are tried though their lines are
-# believed: 5 in 100 of all. A crate's first check reads all that stands below it, so as many edits of a few crates cost
+# believed: 2 in 100 of all. A crate's first check reads all that stands below it, so as many edits of a few crates cost
 # half of what they cost where each crate has some.
-CRATES, EDITS = 25, 20
+CRATES, EDITS = 20, 10
 
 # The scripts that decide how an edit is tried and judged.
 JUDGES = ["edits.py", "edit_checks.py"]
@@ -59,10 +59,6 @@ def logic_of(first):
 
 def path_of(crate):
     return os.path.join(FOLDER, f"{crate}.txt")
-
-
-# What is said of a crate whose evidence is of a toolchain of another logic.
-ELSEWHERE = re.compile(r"^tests/refused/(\w+)\.txt is of a toolchain of another logic: ", re.M)
 
 
 class Evidence:

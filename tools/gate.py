@@ -1,15 +1,12 @@
-"""The parts of the gate: what each ran and took, how far the whole is, and the budget of docs/GATE.md."""
+"""The parts of the gate: what each ran and took, how far the whole is, and the table of docs/GATE.md."""
 
 import os
 import re
-import statistics
 import subprocess
 import threading
 import time
 
 import costs
-import evidence
-import machine
 
 TOP = os.path.dirname(os.path.dirname(os.path.abspath(__file__)))
 PAGE = os.path.join(TOP, "docs", "GATE.md")
@@ -23,27 +20,15 @@ REFUSED = re.compile(r"^rt: must-fail \S+: refused", re.M)
 # What `rt ci` says where all is well; before any other of its lines the toolchain's own are shown.
 WELL = re.compile(r"^rt: (\w+ proved$|\w+ is kept|\w+: trying its must-fail|must-fail \S+: refused|\w+: its tests are proved|chose|ok)")
 
-# What tools/mutants.py says at its end of how many edits it tried, and how many of these for the commit's draw.
-TRIED = re.compile(r"^(\d+) edits tried, (\d+) of them for the draw, (\d+) believed;", re.M)
+# How long a gate that kept nothing may take by the clock, in seconds, where it has two processors or more: CI ends it at 180
+# minutes.
+LONGEST = 150 * 60
 
-# The crates on which all others stand. What they say of a machine no change of another crate moves.
-LOWEST = ("serf_lamport", "serf_pack", "serf_wire", "serf_snap", "serf_window")
-
-# How many times the page's seconds a gate may take at most: by the median of the crates, and by the lowest alone, which
-# tell more roughly how fast a machine is.
-BY_ALL, BY_LOWEST = 1.1, 1.2
-
-# The name under which this machine keeps what each crate's proof from nothing took here the last time.
-PROOF_SECONDS = "proof_seconds"
-
-# The parts of the budget, as the page's rows name them.
+# The parts of the whole, as the page's rows name them.
 PROOFS, EDITS, MUTANTS, SCRIPTS = PARTS = ("proofs and programs", "must-fail edits", "tools/mutants.py", "other scripts")
 
 # What a crate is taken to cost that the page doesn't name, in processor seconds.
 UNKNOWN = 60
-
-# By how much the clock is behind what the processors could do together, since now and then one of them waits.
-IDLE = 1.15
 
 # One part prints at a time.
 PRINTING = threading.Lock()
@@ -154,62 +139,19 @@ def wanted():
     return {name: least for name, (least, _) in rows().items() if least is not None}
 
 
-class Budget:
-    """The page's budget: the processor seconds of each part, and of each crate's proof, as they were on one machine."""
+def all_seconds():
+    """The processor seconds of the last cold run on the page."""
+    return sum(seconds for name, (_, seconds) in rows().items() if name in PARTS)
 
-    def __init__(self):
-        self.costs = crate_costs()
-        self.parts = {name: seconds for name, (_, seconds) in rows().items() if name in PARTS}
-        self.all = sum(self.parts.values())
 
-    def paces(self, measured):
-        """How many processor seconds of this machine are one of the page's, by what crates' proofs took here: in the
-        median of all crates, and by the lowest alone. 1 where fewer than half of them were proved here."""
-        found = [measured[name] / cost for name, cost in self.costs.items() if cost and name in measured]
-        lowest = [name for name in LOWEST if name in measured and self.costs.get(name)]
-        by_all = statistics.median(found) if 2 * len(found) > len(self.costs) else 1.0
-        by_lowest = sum(measured[name] for name in lowest) / sum(self.costs[name] for name in lowest) if 2 * len(lowest) > len(LOWEST) else by_all
-        return by_all, by_lowest
+def kept_nothing(said):
+    """Whether `rt ci` proved each crate in this run, by what it said."""
+    found = [how for _, how in PROVED.findall(said)]
+    return bool(found) and all(how == "proved" for how in found)
 
-    def estimate(self):
-        """The processor seconds of a cold gate here, and whether earlier runs measured how fast this machine is."""
-        measured = machine.numbers(PROOF_SECONDS)
-        return self.all * self.paces(measured)[0], bool(measured)
 
-    def clock(self, crates, lanes):
-        """About how many seconds of the clock a cold gate of these crates takes here, by so many processors. Each crate is
-        proved by one job, so the proofs take no less than the dearest chain of crates that wait for one another."""
-        proofs, rest = self.parts[PROOFS] + self.parts[EDITS], self.parts[MUTANTS] + self.parts[SCRIPTS]
-        proving = max(IDLE * proofs / lanes, max(chain_costs(crates).values()))
-        return (proving + IDLE * rest / lanes) * self.paces(machine.numbers(PROOF_SECONDS))[0]
-
-    def fault(self, used, measured):
-        """Why so many processor seconds of this machine are too many, or None."""
-        for pace, most, whose in zip(self.paces(measured), (BY_ALL, BY_LOWEST), ("of all crates", "of the lowest crates")):
-            if used / pace > most * self.all:
-                return f"the gate took {used / pace:.0f} processor seconds, as the proofs {whose} measure this machine, and docs/GATE.md has {self.all}"
+def too_long(said, seconds, processors):
+    """Why the whole took too long by the clock, or None: one that kept nothing, on two processors or more."""
+    if processors < 2 or seconds <= LONGEST or not kept_nothing(said):
         return None
-
-
-def seconds_elsewhere(part):
-    """The processor seconds that the wrong bodies took of the crates whose evidence is of a toolchain of another logic:
-    all edits of these are tried, which no change of a source has caused. So they stand beside the budget."""
-    crates = set(evidence.ELSEWHERE.findall(part.said))
-    return sum(used for (crate, _), used in part.crates.items() if crate in crates)
-
-
-def seconds_in_the_mean(part, seconds):
-    """What so many processor seconds of the wrong bodies would have been, had the commit drawn as many edits as commits draw
-    in the mean. One commit draws ten edits and another two hundred, which no change of a source causes."""
-    found = TRIED.search(part.said)
-    tried, drawn, believed = map(int, found.groups()) if found else (0, 0, 0)
-    if not drawn:
-        return seconds
-    mean = (tried + believed) * evidence.CRATES * evidence.EDITS / 10_000
-    return seconds * (tried - drawn + mean) / tried
-
-
-def proof_seconds(part):
-    """What each crate's proof from nothing took on this machine, in this run or else in an earlier one here."""
-    proved = {name for name, how in PROVED.findall(part.said) if how == "proved"}
-    return machine.keep_numbers(PROOF_SECONDS, {name: seconds for (name, kind), seconds in part.crates.items() if kind == "proof" and name in proved})
+    return f"the gate, which kept nothing, took {seconds / 60:.0f} minutes by the clock, and {LONGEST // 60} are the most"

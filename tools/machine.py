@@ -41,24 +41,3 @@ def forget_old():
         for entry in os.scandir(FOLDER):
             if time.time() - entry.stat().st_mtime > MONTH:
                 shutil.rmtree(entry.path, ignore_errors=True) if entry.is_dir() else os.remove(entry.path)
-
-
-def numbers(name):
-    """The numbers that earlier runs kept under a name, each by a name of its own."""
-    try:
-        with open(os.path.join(FOLDER, name), encoding="utf-8") as file:
-            return {word: float(value) for word, value in (line.split() for line in file)}
-    except (OSError, ValueError):
-        return {}
-
-
-def keep_numbers(name, found):
-    """Keeps these numbers beside those that were kept under a name, and gives all of them."""
-    found = {**numbers(name), **found}
-    try:
-        os.makedirs(FOLDER, exist_ok=True)
-        with open(os.path.join(FOLDER, name), "w", encoding="utf-8") as file:
-            file.writelines(f"{word} {value}\n" for word, value in sorted(found.items()))
-    except OSError:
-        pass
-    return found

@@ -4,7 +4,7 @@
     python3 tools/mutants.py [CRATE..] [--list] [--control] [--over-ci] [--anew] [--write]
 
 What refused an edit stands in tests/refused (tools/evidence.py). The edits whose line is not of what their check reads
-now are tried, and of the others 5 in 100, drawn by the commit's hash; where one of these is not refused any more, all
+now are tried, and of the others 2 in 100, drawn by the commit's hash; where one of these is not refused any more, all
 edits of its crate are. tools/edit_checks.py says how edits are tried, and what shows that one is refused.
 
 --list prints each edit with the functions that it turns, and tries none. --control makes the same checks without the

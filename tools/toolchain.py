@@ -15,17 +15,12 @@ import threading
 # Where `rt ci` leaves what it proved of a static library, in the crate's folder.
 CHECKED = "out/checked"
 
-# What the prover's allocator is told: to ask the system for large pages. A proof goes to and fro in a gigabyte or more,
-# and takes a twentieth less of the processor so. Where the system has none, nothing changes.
-LARGE_PAGES = "MIMALLOC_ALLOW_LARGE_OS_PAGES"
-
 
 def load():
     """The module that is the command `rt`, or None where it isn't on PATH."""
     path = shutil.which("rt")
     if path is None:
         return None
-    os.environ.setdefault(LARGE_PAGES, "1")
     sys.dont_write_bytecode = True
     loader = importlib.machinery.SourceFileLoader("rt", os.path.realpath(path))
     module = importlib.util.module_from_spec(importlib.util.spec_from_loader("rt", loader))

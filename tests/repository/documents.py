@@ -252,7 +252,7 @@ def strays():
 
 
 def rows_of_gate(crates):
-    """Each script of the gate, crate and part of the budget, and what is wrong with its row of GATE.md, or None."""
+    """Each script of the gate, crate and part of the whole, and what is wrong with its row of GATE.md, or None."""
     rows, page = gate.rows(), text_of("docs", "GATE.md")
     yield "its table", None if len(re.findall(r"^\|-", page, re.M)) == 1 else "is not one"
     scripts = [path for path in glob.glob("tests/*/*.py", root_dir=TOP) if not path.startswith("tests/by_hand/")]

@@ -63,7 +63,7 @@ def whole_gate(script, said, failed):
     marks = []
     script.run_ci = lambda crates: part
     script.run_scripts = lambda *_: []
-    script.say_first = script.show_costs = script.show_budget = lambda *_: None
+    script.say_first = script.show_costs = lambda *_: None
     script.too_few = lambda parts: []
     green.state, green.keep = lambda top: "a state", lambda *state: marks.append(state)
     with contextlib.redirect_stdout(io.StringIO()):
