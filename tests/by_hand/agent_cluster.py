@@ -1,19 +1,21 @@
-"""By hand, since it needs Go, Serf and memberlist's sources: kills, losses and cuts in a cluster of stock agents and of ours.
+"""By hand, since it needs Go, Serf and its sources: kills, losses and cuts in a cluster of three kinds of agents.
 
-    tests/by_hand/agent_cluster.py [--minutes M] [--kills N] [--events N] [--stock N] [--ours N] [--lose SHARE] [--repeat SHARE]
-                                   [--calm] [--keep-events] [--retry-join] [--rest SECONDS] [--seed S] [--library FOLDER]
-                                   [--agent PROGRAM] [--judge PROGRAM] [--keep]
+    tests/by_hand/agent_cluster.py [--minutes M] [--kills N] [--events N] [--stock N] [--ours N] [--serf N] [--lose SHARE]
+                                   [--repeat SHARE] [--calm] [--keep-events N] [--retry-join] [--rest SECONDS] [--seed S]
+                                   [--library FOLDER] [--agent PROGRAM] [--judge PROGRAM] [--keep]
 
-Events are fired at random nodes in bursts, and a random node is killed by SIGKILL and started again on its snapshot, by which
-alone it rejoins. Ours lose packets and repeat them, and are cut off from a random half of all nodes again and again (by the
-transport of agent/internal/gossip/faults.go); --calm leaves that out. Who starts again while it is cut off from all that it
-knows tries no more, and may stay alone; with --retry-join ours go on trying. It ends at the first of so many minutes, kills or events.
-Then all comes to rest, for --rest seconds once all see one another (5, and 120 with --keep-events: what a node lacks comes with
-the states, which agents exchange each 30 seconds). Then `serf-replay judge` reads the log of all handlers of ours, with their snapshots.
+There are stock agents (3), ours (3), and Serf's own program over our package `serf` (2). So many of ours keep their events (2).
+Events and queries are fired at random nodes in bursts, and a random node is killed by SIGKILL and started again on its snapshot,
+by which alone it rejoins. Ours and those over the package lose packets and repeat them, and are cut off from a random half of all
+nodes again and again (by the transport of bindings/go/serf/faults.go); --calm leaves that out. Who starts again while it is cut
+off from all that it knows tries no more, and may stay alone; with --retry-join all but stock go on trying. It ends at the first of
+so many minutes, kills or events. Then all comes to rest, for --rest seconds once all see one another (120, and 5 where no agent
+keeps its events: what a node lacks comes with the states, which agents exchange each 30 seconds). Then `serf-replay judge` reads
+the log of all handlers but stock's, with their snapshots.
 
-It fails where a handler of ours ran an event twice, or where the judge says otherwise. How often stock's handlers did is told
-beside it, how many of the events that an agent took each kind never ran, and of ours why, by their records. With --keep-events the files of ours keep their
-events. There is no record then, and why an event never ran is told by the files as the kills left them.
+It fails where a handler ran an event or a query twice, but a stock agent's, or where the judge says otherwise. How often stock's
+handlers did is told beside it, and how many of the events that an agent took each kind never ran. Of ours it is told why: by their
+records, and of those that keep their events by their files as the kills left them.
 """
 
 import argparse
@@ -29,6 +31,7 @@ import time
 sys.path.insert(0, os.path.dirname(os.path.abspath(__file__)))
 sys.dont_write_bytecode = True
 import agent_cluster_kit as kit
+import c_library
 
 sys.path.insert(0, os.path.join(kit.TOP, "conformance", "python"))
 from serf_agent import kept
@@ -42,12 +45,13 @@ def arguments():
     parser.add_argument("--minutes", type=float, default=60)
     parser.add_argument("--kills", type=int, default=1000)
     parser.add_argument("--events", type=int, default=20000)
-    parser.add_argument("--stock", type=int, default=5)
-    parser.add_argument("--ours", type=int, default=5)
+    parser.add_argument("--stock", type=int, default=3)
+    parser.add_argument("--ours", type=int, default=3)
+    parser.add_argument("--serf", type=int, default=2)
     parser.add_argument("--lose", type=float, default=0.1)
     parser.add_argument("--repeat", type=float, default=0.1)
     parser.add_argument("--calm", action="store_true")
-    parser.add_argument("--keep-events", action="store_true")
+    parser.add_argument("--keep-events", type=int, default=2)
     parser.add_argument("--retry-join", action="store_true")
     parser.add_argument("--rest", type=float)
     parser.add_argument("--seed", type=int, default=1)
@@ -58,27 +62,34 @@ def arguments():
     return parser.parse_args()
 
 
-def cluster(folder, program, asked):
+# What kind an agent is: stock, kitchenrue-agent, or Serf's own program over our package.
+STOCK, OURS, SERF = "stock", "ours", "serf"
+
+
+def cluster(folder, programs, asked):
+    kinds = [STOCK] * asked.stock + [OURS] * asked.ours + [SERF] * asked.serf
     agents = []
-    for number in range(1, asked.stock + asked.ours + 1):
-        is_ours = number > asked.stock
-        agent = Agent(folder, program if is_ours else ["serf", "agent"], f"{'ours' if is_ours else 'stock'}{number}", number, net="127.0.8")
-        agent.is_ours, agent.events = is_ours, os.path.join(folder, f"{agent.name}.events")
-        agent.words = ["-snapshot", agent.snapshot, "-event-handler", f"user=SERF_LOG={agent.events} sh {HANDLER}"]
-        if is_ours:
-            agent.words += ["-keep-events"] if asked.keep_events else ["-record", agent.record]
-            agent.left = []
+    for number, kind in enumerate(kinds, 1):
+        agent = Agent(folder, programs[kind], f"{kind}{number}", number, net="127.0.8")
+        agent.kind, agent.is_proved, agent.events = kind, kind != STOCK, os.path.join(folder, f"{agent.name}.events")
+        agent.keeps = kind == OURS and number - asked.stock <= asked.keep_events
+        agent.left = []
+        handler = f"SERF_LOG={agent.events} sh {HANDLER}"
+        agent.words = ["-snapshot", agent.snapshot, "-event-handler", f"user={handler}", "-event-handler", f"query={handler}"]
+        if kind == OURS:
+            agent.words += ["-keep-events"] if agent.keeps else ["-record", agent.record]
+        if agent.is_proved:
             agent.faults = os.path.join(folder, f"{agent.name}.faults")
             agent.env = {**os.environ, "KITCHENRUE_FAULTS": agent.faults}
         agents.append(agent)
     for agent in agents:
-        if agent.is_ours and asked.retry_join:
+        if agent.is_proved and asked.retry_join:
             agent.words += ["-retry-interval", "1s", *(word for other in agents if other is not agent for word in ("-retry-join", other.addr))]
     return agents
 
 
 def ran(agent):
-    """The events that its handler ran, each as a line, in order."""
+    """The events and queries that its handler ran, each as a line, in order."""
     try:
         with open(agent.events, encoding="utf-8") as file:
             return file.read().splitlines()
@@ -87,9 +98,9 @@ def ran(agent):
 
 
 def put_faults(agents, asked, side=()):
-    """Has ours lose and repeat packets, and cuts those of one side off from all others."""
+    """Has all but stock lose and repeat packets, and cuts those of one side off from all others."""
     for agent in agents:
-        if agent.is_ours:
+        if agent.is_proved:
             beyond = [other.addr for other in agents if side and (other in side) != (agent in side)]
             with open(f"{agent.faults}.new", "w", encoding="ascii") as file:
                 file.write(f"lose {asked.lose}\nrepeat {asked.repeat}\n" + (f"cut {' '.join(beyond)}\n" if beyond else ""))
@@ -101,8 +112,8 @@ class Torment:
 
     def __init__(self, agents, asked):
         self.agents, self.asked, self.draw = agents, asked, random.Random(asked.seed)
-        # the texts of the events that an agent took, and how many were fired
-        self.taken, self.fired, self.cuts, self.kills = [], 0, 0, collections.Counter()
+        # the texts of the events that an agent took, how many were fired, and how many queries
+        self.taken, self.fired, self.asked_of, self.cuts, self.kills = [], 0, 0, 0, collections.Counter()
         self.next_kill = time.monotonic() + 2
         self.next_cut, self.mended_at = time.monotonic() + 5, None
 
@@ -112,6 +123,8 @@ class Torment:
             self.fired += 1
             if self.draw.choice(up).serf("event", "-coalesce=false", "deploy", f"v{self.fired}")[0] == 0:
                 self.taken.append(f"v{self.fired}")
+        self.asked_of += 1
+        self.draw.choice(up).serf("query", "-timeout=200ms", "check", f"q{self.asked_of}")
 
     def cut(self):
         """Cuts and mends, each in its time."""
@@ -127,9 +140,9 @@ class Torment:
         if time.monotonic() > self.next_kill:
             victim = self.draw.choice(self.agents)
             victim.end()
-            if victim.is_ours:
+            if victim.keeps:
                 victim.left.append(text_of(victim.snapshot))
-            self.kills["ours" if victim.is_ours else "stock"] += 1
+            self.kills[victim.kind] += 1
             time.sleep(self.draw.uniform(0.1, 1.5))
             victim.start()
             self.next_kill = time.monotonic() + self.draw.uniform(0.2, 1.5)
@@ -147,16 +160,14 @@ class Torment:
 
 
 def judged(agents, folder, judge):
-    """What the judge says of the handlers of ours: its status and its text."""
-    log = os.path.join(folder, "ours.log")
+    """What the judge says of all handlers but stock's: its status and its text."""
+    log = os.path.join(folder, "proved.log")
+    words = [judge, "judge", log]
     with open(log, "w", encoding="utf-8") as file:
         for agent in agents:
-            if agent.is_ours:
+            if agent.is_proved:
                 file.write("".join(line + "\n" for line in ran(agent)))
-    words = [judge, "judge", log]
-    for agent in agents:
-        if agent.is_ours:
-            words += ["--kept", f"{agent.name}={agent.snapshot}"]
+                words += ["--kept", f"{agent.name}={agent.snapshot}"]
     done = subprocess.run(words, stdout=subprocess.PIPE, stderr=subprocess.STDOUT, text=True)
     return done.returncode, done.stdout
 
@@ -200,25 +211,33 @@ def why(agent, payloads):
     return causes
 
 
-def told(agents, torment, keeps_events):
+def told(agents, torment):
     """Tells what each kind did: how many repeats each has."""
     repeats, causes = collections.Counter(), collections.Counter()
-    for kind in ("stock", "ours"):
-        of_kind = [agent for agent in agents if agent.is_ours == (kind == "ours")]
-        once = 0
+    for kind in (STOCK, OURS, SERF):
+        of_kind = [agent for agent in agents if agent.kind == kind]
+        once, queries = 0, 0
         for agent in of_kind:
             counts = collections.Counter(ran(agent))
-            had = {line.split()[-1] for line in counts}
+            had = {line.split()[-1] for line in counts if line.startswith("event ")}
             once += len(had.intersection(torment.taken))
+            queries += sum(line.startswith("query ") for line in counts)
             repeats[kind] += sum(count - 1 for count in counts.values())
-            if agent.is_ours:
-                cause = why_by_files if keeps_events else why
+            if kind == OURS:
+                cause = why_by_files if agent.keeps else why
                 causes += cause(agent, [text for text in torment.taken if text not in had])
         pairs = len(torment.taken) * len(of_kind)
-        print(f"{kind}: {torment.kills[kind]} kills, {once} of {pairs} pairs of an event and a node ran, {repeats[kind]} repeats, {pairs - once} never ran")
+        print(f"{kind}: {torment.kills[kind]} kills, {once} of {pairs} pairs of an event and a node ran, {queries} of {torment.asked_of * len(of_kind)} of a query and a node, {repeats[kind]} repeats, {pairs - once} never ran")
     for cause, count in causes.most_common():
         print(f"ours, never ran: {count}: {cause}")
     return repeats
+
+
+def programs_of(folder, asked):
+    """The three programs."""
+    library = asked.library or os.path.dirname(c_library.LIBRARY)
+    agent = asked.agent or kit.build(folder, asked.library, ["-tags", "faults"])
+    return {STOCK: ["serf", "agent"], OURS: agent, SERF: [kit.build_serf(folder, library, ["-tags", "faults"]), "agent"] if asked.serf else None}
 
 
 def main():
@@ -227,7 +246,7 @@ def main():
     if missing:
         sys.exit(f"it needs {missing}")
     folder = tempfile.mkdtemp(prefix="agents-")
-    agents = cluster(folder, asked.agent or kit.build(folder, asked.library, ["-tags", "faults"]), asked)
+    agents = cluster(folder, programs_of(folder, asked), asked)
     torment = Torment(agents, asked)
     try:
         for agent in agents:
@@ -237,19 +256,19 @@ def main():
         torment.run()
         names = {agent.name for agent in agents}
         whole = until(lambda: all(agent.status(name) == "alive" for agent in agents for name in names), 90)
-        time.sleep(asked.rest or (120 if asked.keep_events else 5))
+        time.sleep(asked.rest or (120 if any(agent.keeps for agent in agents) else 5))
     finally:
         for agent in agents:
             agent.end()
-    print(f"{torment.fired} events, {len(torment.taken)} of them taken, {torment.cuts} cuts, all nodes {'see' if whole else 'do not see'} one another at the end")
-    repeats = told(agents, torment, asked.keep_events)
+    print(f"{torment.fired} events, {len(torment.taken)} of them taken, {torment.asked_of} queries, {torment.cuts} cuts, all nodes {'see' if whole else 'do not see'} one another at the end")
+    repeats = told(agents, torment)
     status, text = judged(agents, folder, asked.judge)
     print(text, end="")
     if asked.keep:
         print(f"all is in {folder}")
     else:
         shutil.rmtree(folder)
-    good = status == 0 and repeats["ours"] == 0
+    good = status == 0 and repeats[OURS] == repeats[SERF] == 0
     print("passed" if good else "FAILED")
     return 0 if good else 1
 

@@ -8,9 +8,10 @@ import sys
 import time
 
 TOP = os.path.dirname(os.path.dirname(os.path.dirname(os.path.abspath(__file__))))
-sys.path[:0] = [os.path.join(TOP, part) for part in ("tests", "tools")]
+sys.path[:0] = [os.path.join(TOP, part) for part in ("tests", "tests/library", "tools")]
 sys.dont_write_bytecode = True
 import c_library
+import serf_package
 
 GOCODE = os.environ.get("SERF_GOPATH", "/usr/share/gocode")
 
@@ -31,6 +32,14 @@ def build(folder, library=None, flags=("-race",)):
     path = os.path.join(folder, "kitchenrue-agent")
     words = [os.path.join(TOP, "agent", "build"), path, library, *flags]
     subprocess.run(words, check=True)
+    return path
+
+
+def build_serf(folder, library, flags=()):
+    """Builds Serf's own program over our package into a folder, with these flags of Go: the program's path."""
+    path = os.path.join(folder, "serf-over-ours")
+    env = serf_package.laid(folder, os.path.join(library, "libserf_agent_c.a"))
+    subprocess.run(["go", "build", *flags, "-o", path, f"{serf_package.PATH}/cmd/serf"], check=True, env=env)
     return path
 
 
@@ -118,6 +127,5 @@ def until(holds, wait=15):
 def needed(commands=("go", "serf")):
     """What isn't there of what these tests need, or None."""
     missing = [name for name in commands if shutil.which(name) is None]
-    if not os.path.isdir(os.path.join(GOCODE, "src", "github.com", "hashicorp", "memberlist")):
-        missing.append("memberlist's sources")
+    missing += [f"{name}'s sources" for name in ("memberlist", "serf") if not os.path.isdir(os.path.join(GOCODE, "src", "github.com", "hashicorp", name))]
     return ", ".join(missing) or None

@@ -1,4 +1,4 @@
-"""By hand, since it is long: `tests/library/beside_serf.py` with four stock agents and eight hosts of ours, for ten minutes of kills.
+"""By hand, since it is long: `tests/library/beside_serf.py` with four stock agents and eight nodes of ours, for ten minutes of kills.
 
     tests/by_hand/beside_serf_long.py [--seconds S] [..]
 

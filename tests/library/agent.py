@@ -1,12 +1,12 @@
-"""The agent for operators (`agent/`): built and packed as its page says, formatted, vetted, its own tests under Go's race
-detector, what they recorded as a schedule (`examples/schedule_of_records.py`), and what the pages show of agents
-(`agent/shown.py`).
+"""The agent for operators (`agent/`): built and packed as its page says, formatted, vetted, its own tests and those of the package
+serf beneath it under Go's race detector, what they recorded as a schedule (`examples/schedule_of_records.py`), and what the pages
+show of agents (`agent/shown.py`).
 
     tests/library/agent.py [--library FILE] [--over-ci]
 
-Go, memberlist and go-msgpack have to be there, as `tools/packages` installs them, and the program has to be built. --library
-takes another static library than that of crates/serf_agent_c, which else is built; --over-ci builds it over what `rt ci`
-left, as the gate does.
+Go, memberlist, go-msgpack and Serf's coordinates have to be there, as `tools/packages` installs them, and the program has to be
+built. --library takes another static library than that of crates/serf_agent_c, which else is built; --over-ci builds it over
+what `rt ci` left, as the gate does.
 """
 
 import argparse
@@ -26,6 +26,7 @@ from checks import TOP
 
 sys.path.insert(0, os.path.join(TOP, "tests", "library", "agent"))
 import pages
+import races
 import shown
 
 # A test of Go's and how it ended.
@@ -64,8 +65,10 @@ def built(count, library, folder):
         return
     status, said = c_library.ran([os.path.join(TOP, "agent", "package", "deb"), package, library], **lean)
     count.check("agent/package/deb", status == 0, said[-2000:])
-    status, said = c_library.ran(["dpkg-deb", "-c", package])
-    count.check("the package has the program", "/usr/bin/kitchenrue-agent" in said, (status, said))
+    status, said = c_library.ran(["dpkg-deb", "-x", package, os.path.join(folder, "package")])
+    count.check("the package has the program", os.access(os.path.join(folder, "package", "usr", "bin", "kitchenrue-agent"), os.X_OK), (status, said))
+    notice = checks.text_of(os.path.join(folder, "package", "usr", "share", "doc", "kitchenrue-agent", "copyright"))
+    count.check("the package names the licences", all(word in notice for word in ("Apache License", "MPL-2.0", "memberlist", "coordinate")), notice[:2000])
 
 
 SCRIPT = os.path.join(TOP, "examples", "schedule_of_records.py")
@@ -206,18 +209,25 @@ def main():
 
 
 def tested(count, folder, own):
-    """Its own tests, and what they recorded."""
-    words = [os.path.join(TOP, "agent", "test"), folder, "-v", "-count=1"]
-    status, said = c_library.ran(words, env={**os.environ, "KITCHENRUE_RECORDS": own})
+    """Its own tests and those of the package serf, and what they recorded."""
+    races.try_reports(count)
+    words, records = [os.path.join(TOP, "agent", "test"), folder, "-v", "-count=1"], os.path.join(own, "records")
+
+    def run():
+        shutil.rmtree(records, ignore_errors=True)
+        os.mkdir(records)
+        return c_library.ran(words, env={**os.environ, "KITCHENRUE_RECORDS": records})
+
+    status, said = races.ran(run)
     for end, name in TEST.findall(said):
         count.check(name, end == "PASS", said[-2000:])
     count.check("they end well, and no line is unformatted or doubtful", status == 0, said[-2000:])
     if not os.path.exists(checks.PROGRAM):
         count.check("the program is built", False, "./prove makes it, and SERF_UNPROVED=1 takes the one that ./serf-replay compiled")
         return
-    recorded(count, own)
-    shown_of_records(count, own)
-    cut_off(count, own)
+    recorded(count, records)
+    shown_of_records(count, records)
+    cut_off(count, records)
 
 
 if __name__ == "__main__":

@@ -1,12 +1,13 @@
-"""Hosts of the delegate in Go and stock agents of Serf in one cluster: what each shows of the others, and that no event runs
-twice on a host of ours, over losses, repeats and kills.
+"""Nodes of the package serf in Go (`bindings/go/serf`) and stock agents of Serf in one cluster: what each shows of the others, and
+that no event and no query comes twice on a node of ours, over losses, repeats and kills.
 
     tests/library/beside_serf.py [--library FILE] [--over-ci] [--stock N] [--ours N] [--seconds S] [--seed N] [--judge PROGRAM]
                                  [--keep]
 
-Each node is a process of its own, on a loopback address of its own. What a host of ours sends and gets by UDP is lost,
-repeated and late in part. Events are fired at random nodes, and a random node is killed by SIGKILL and started again on its
-file. Where there is a built program (or --judge), `serf-replay judge` reads the log of all handlers of ours, with their files.
+Each node is a process of its own, on a loopback address of its own; ours are the program of bindings/go/beside_serf/node. What a
+node of ours sends and gets by UDP is lost, repeated and late in part. Events are fired at random nodes, and a random node is killed
+by SIGKILL and started again on its file. Where there is a built program (or --judge), `serf-replay judge` reads the log of all that
+came on ours, with their files.
 
 Go, memberlist and Debian's package `serf` have to be there (`tools/packages`); else it says so, and checks nothing.
 --library takes another static library than that of crates/serf_agent_c, which else is built; --over-ci builds it over
@@ -38,7 +39,7 @@ from agent_cluster_kit import until
 
 HANDLER = os.path.join(TOP, "examples", "serf_log_handler.sh")
 
-# Of 100 packets of a host of ours: how many are lost, repeated and late.
+# Of 100 packets of a node of ours: how many are lost, repeated and late.
 CHANCES = ["-lost", "15", "-repeated", "10", "-late", "20"]
 
 # How long what has to be seen may take, in seconds: a failed node is suspected for some seconds first.
@@ -50,11 +51,11 @@ ASKED, ANSWERED = 10, 4
 # At least so many kills of each kind have to be, and so many events that a node took to send.
 LEAST_KILLS, LEAST_FIRED = 2, 40
 
-# Of 100 events that were fired while a host of ours was up, so many have to have run there at least. An event doesn't count
-# where the host, or the node that fired it, was killed in the seconds behind it: it may never have been sent.
+# Of 100 events that were fired while a node of ours was up, so many have to have run there at least. An event doesn't count
+# where that node, or the one that fired it, was killed in the seconds behind it: it may never have been sent.
 LEAST_RAN, SENT = 60, 2
 
-# So many events are fired when all is at rest: each has to run on every host of ours.
+# So many events are fired when all is at rest: each has to run on every node of ours.
 AT_REST = 10
 
 # How long no handler has to run before all are counted, in seconds.
@@ -62,13 +63,13 @@ STILL = 2
 
 
 def build(folder, library):
-    """Builds the host of ours: its path, or what went wrong."""
+    """Builds the program of a node of ours: its path, or what went wrong."""
     own = os.path.join(folder, "go", "src")
     os.makedirs(own)
     os.symlink(os.path.join(TOP, "bindings", "go"), os.path.join(own, "kitchenrue.example"))
     path = os.path.join(folder, "node")
     flags = c_library.go_flags(os.path.join(library, os.path.basename(c_library.LIBRARY)))
-    env = dict(os.environ, GO111MODULE="off", GOFLAGS="", GOPATH=f"{os.path.dirname(own)}:{kit.GOCODE}", **c_library.LEAN_GO, **flags)
+    env = dict(os.environ, GO111MODULE="off", GOFLAGS="-trimpath", GOPATH=f"{os.path.dirname(own)}:{kit.GOCODE}", **c_library.LEAN_GO, **flags)
     status, said = c_library.ran(["go", "build", "-o", path, "kitchenrue.example/beside_serf/node"], env=env)
     return path, said[-2000:] if status else None
 
@@ -97,7 +98,7 @@ class Stock(kit.Agent):
 
 
 class Ours:
-    """A host of ours, which joins all others when it starts."""
+    """A node of ours, which joins all others when it starts."""
 
     is_ours = True
 
@@ -130,22 +131,22 @@ class Ours:
         return self.answer()
 
     def fire(self, name, text):
-        """Whether the host took it."""
+        """Whether the node took it."""
         return self.said("fire", name, text).startswith("ok")
 
     def answers(self):
-        """Who acked a query of this host's, and who answered one, since the last time."""
+        """Who acked a query of this node's, and who answered one, since the last time."""
         return [set(names.split(",")) - {"-"} for names in (self.said("answers").split() + ["-", "-", "-"])[1:3]]
 
     def end(self, how=signal.SIGKILL, wait=20):
         return kit.Agent.end(self, how, wait)
 
 
-def ran(node):
+def ran(node, kinds=("event ",)):
     """The events that a node's handler ran, each as a line, in order."""
     try:
         with open(node.events, encoding="utf-8") as file:
-            return [line for line in file.read().splitlines() if line.startswith("event ")]
+            return [line for line in file.read().splitlines() if line.startswith(kinds)]
     except OSError:
         return []
 
@@ -214,7 +215,7 @@ def see(count, nodes, what, name, status, tags=None):
 
 
 def members(count, nodes):
-    """What stock shows of a host of ours in each state."""
+    """What stock shows of a node of ours in each state."""
     first, other = [node for node in nodes if node.is_ours][:2]
     for node in nodes:
         see(count, nodes, "alive", node.name, "alive", node.tags if node.is_ours else None)
@@ -265,13 +266,13 @@ def asked(count, nodes):
 
 
 def judged(nodes, folder, judge):
-    """What the judge says of the handlers of ours: its status and its text."""
+    """What the judge says of the events and queries that came on ours: its status and its text."""
     log = os.path.join(folder, "ours.log")
     words = [judge, "judge", log]
     with open(log, "w", encoding="utf-8") as file:
         for node in nodes:
             if node.is_ours:
-                file.write("".join(line + "\n" for line in ran(node)))
+                file.write("".join(line + "\n" for line in ran(node, ("event ", "query "))))
                 words += ["--kept", f"{node.name}={node.snapshot}"]
     return c_library.ran(words)
 
@@ -292,7 +293,7 @@ def still(nodes):
 
 
 def at_rest(count, torment, nodes):
-    """Events that are fired when all are there, without kills: each runs on every host of ours."""
+    """Events that are fired when all are there, without kills: each runs on every node of ours."""
     # (by then each has heard of the others' times, so that none of these is too old)
     still(nodes)
     texts = {torment.fire() for _ in range(AT_REST)}
@@ -345,7 +346,7 @@ def cluster(folder, program, asked_):
 
 def run(count, asked_, library, folder):
     program, fault = build(folder, library)
-    count.check("the host builds", fault is None, fault)
+    count.check("the node builds", fault is None, fault)
     if fault:
         return
     nodes = cluster(folder, program, asked_)

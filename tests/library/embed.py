@@ -3,10 +3,10 @@
     tests/library/embed.py [--library FILE] [--program FILE] [--over-ci]
 
 C and Python have to be there. Rust and Go are built and run where `cargo` and `go` are on PATH, and without the
-network; the delegate in Go where memberlist is there as well (Debian's package). Each part has a line such as
-`python: N passed, M failed` or `go: not run, since go is not on PATH`, and the last line is their sum. --library takes
-another static library than that of crates/serf_agent_c, which else is built by `rt lib`; no declaration of Rattle is
-compared then. --program takes another program than the proved one, which conformance/c is held against. --over-ci
+network; of the package serf in Go, whose own tests `agent.py` runs, a node that runs out of memory, where memberlist and Serf's
+coordinates are there as well (Debian's packages). Each part has a line such as `python: N passed, M failed` or `go: not run, since
+go is not on PATH`, and the last line is their sum. --library takes another static library than that of crates/serf_agent_c, which
+else is built by `rt lib`; no declaration of Rattle is compared then. --program takes another program than the proved one, which conformance/c is held against. --over-ci
 builds the library over those that `rt ci` left, as the gate does.
 """
 
@@ -31,7 +31,6 @@ sys.path[:0] = [os.path.join(TOP, "tests", "library", part) for part in ("embed"
 import bursts
 import declarations
 import host_lines
-import races
 import starved
 import stores
 
@@ -45,9 +44,12 @@ LARGEST = 400_000
 # The random schedules that conformance/c is held against: so many seeds of each kind.
 SEEDS = 40
 
-# Where Debian has Go's packages, and memberlist among them.
-GO_CODE = "/usr/share/gocode"
-MEMBERLIST = os.path.join(GO_CODE, "src", "github.com", "hashicorp", "memberlist")
+# How many rounds are made in which a node in Go tells of no want of memory.
+UNTOLD = 16
+
+# Where Debian has Go's packages, and those that a node in Go needs.
+GO_CODE = os.environ.get("SERF_GOPATH", "/usr/share/gocode")
+NEEDED = [os.path.join(GO_CODE, "src", "github.com", "hashicorp", name) for name in ("memberlist", "serf/coordinate")]
 
 
 class NotRun(Exception):
@@ -163,6 +165,9 @@ def in_c(count, places):
     driver = compile_c(count, places, "store_driver", os.path.join(SOURCES, "store_driver.c"))
     if driver:
         stores.try_store(count, "C", places, [driver])
+    settle = compile_c(count, places, "settle", os.path.join(SOURCES, "settle.c"), ["-Wl,--wrap=malloc,--wrap=pread"])
+    if settle:
+        counted(count, "what isn't on the disk", [settle, places.fresh("settle")])
     run = compile_c(count, places, "example", os.path.join(BINDINGS, "c", "example.c"))
     if run:
         example(count, "C", places, [run])
@@ -261,8 +266,8 @@ def in_go(count, places):
     said = c_library.ran(["gofmt", "-l", "."], cwd=more["cwd"])
     count.check("Go is formatted", said == (0, ""), said)
     more["cwd"] = os.path.join(BINDINGS, "go", "serfagent")
-    tests_in_go(count, places, "serfagent", ".", more)
-    delegate_in_go(count, places, env)
+    tests_in_go(count, places, more)
+    node_in_go(count, places, env)
 
 
 def starved_module(places):
@@ -276,29 +281,29 @@ def env_of_starved(env):
     return {name: value for name, value in env.items() if name != "CGO_LDFLAGS"}
 
 
-def tests_in_go(count, places, name, package, more):
-    """A package's tests, watched for races where the detector is there, and what `go vet` says of it. They are compiled once,
+def tests_in_go(count, places, more):
+    """The tests of serfagent, watched for races where the detector is there, and what `go vet` says of it. They are compiled once,
     and run in the package's folder with the words that `go test` has for them."""
-    lean, path = {**more, "env": {**more["env"], **c_library.LEAN_GO}}, places.of(f"{name}.test")
-    status, said = c_library.ran(["go", "vet", package], **lean)
-    count.check(f"Go: vet of {name}", status == 0, said[-2000:])
+    lean, path = {**more, "env": {**more["env"], **c_library.LEAN_GO}}, places.of("serfagent.test")
+    status, said = c_library.ran(["go", "vet", "."], **lean)
+    count.check("Go: vet of serfagent", status == 0, said[-2000:])
     compiled = ["go", "test", "-c", "-vet=off", "-o", path]
-    status, built = c_library.ran([*compiled, "-race", package], **lean)
+    status, built = c_library.ran([*compiled, "-race", "."], **lean)
     if status or c_library.ran([path, "-test.run", "NONE"], **more)[0]:
-        print(f"not run: {name} under Go's race detector, which isn't here")
-        status, built = c_library.ran([*compiled, package], **lean)
-        count.check(f"Go: the tests of {name} compile", status == 0, built[-2000:])
+        print("not run: serfagent under Go's race detector, which isn't here")
+        status, built = c_library.ran([*compiled, "."], **lean)
+        count.check("Go: the tests of serfagent compile", status == 0, built[-2000:])
         if status:
             return
 
     def ran(words, **own):
         # (what the compilers and the linker said is looked at too)
-        status, said = races.ran(words, **own)
+        status, said = c_library.ran(words, **own)
         return status, built + said
 
     counted_tests(
         count,
-        f"Go's tests of {name}",
+        "Go's tests of serfagent",
         r"^--- (?P<end>PASS|FAIL): (?P<name>\S+)",
         [path, "-test.v", "-test.paniconexit0", "-test.timeout=10m0s"],
         ran,
@@ -306,43 +311,53 @@ def tests_in_go(count, places, name, package, more):
     )
 
 
-def delegate_in_go(count, places, env):
-    """The delegate for memberlist, whose sources are found as Debian has them."""
-    if not os.path.isdir(MEMBERLIST):
-        print(f"not run: serfdelegate, since {MEMBERLIST} isn't there")
+def node_in_go(count, places, env):
+    """The package serf, whose sources beside ours are found as Debian has them: a node that runs out of memory, README's lines, and
+    the programs beside Serf."""
+    missing = [path for path in NEEDED if not os.path.isdir(path)]
+    if missing:
+        print(f"not run: the package serf in Go, since {missing[0]} isn't there")
         return
-    own = places.fresh("go")
-    os.mkdir(os.path.join(own, "src"))
-    os.symlink(os.path.join(BINDINGS, "go"), os.path.join(own, "src", "kitchenrue.example"))
-    env = dict(env, GO111MODULE="off", GOFLAGS="-trimpath", GOPATH=f"{own}:{GO_CODE}")
-    races.try_reports(count)
-    folder = os.path.join(BINDINGS, "go", "serfdelegate")
-    tests_in_go(count, places, "serfdelegate", "kitchenrue.example/serfdelegate", {"env": env, "cwd": folder})
-    starved_delegate(count, places, env)
-    lines = os.path.join(own, "src", "lines")
+    starved_node(count, places, env)
+    path = go_path(places, os.path.join(BINDINGS, "go"))
+    lines = os.path.join(path, "src", "lines")
     os.mkdir(lines)
     with open(os.path.join(lines, "main.go"), "w", encoding="utf-8") as file:
         file.write(host_lines.program("go"))
-    status, said = c_library.ran(["go", "vet", "lines"], env={**env, **c_library.LEAN_GO})
-    count.check("Go: README's lines", status == 0, said[-2000:])
+    beside = [f"kitchenrue.example/beside_serf/{name}" for name in ("node", "speed")]
+    for what, packages in (("README's lines", ["lines"]), ("the programs beside Serf", beside)):
+        status, said = c_library.ran(["go", "vet", *packages], env={**env, **env_of_path(path)})
+        count.check(f"Go: vet of {what}", status == 0, said[-2000:])
 
 
-def starved_delegate(count, places, env):
-    """A delegate whose first burst, and whose first merge, run out of memory one request later each time."""
-    path, own = places.of("delegate.test"), places.fresh("go_starved_path")
-    os.mkdir(os.path.join(own, "src"))
-    os.symlink(places.of("go_starved"), os.path.join(own, "src", "kitchenrue.example"))
-    env = dict(env_of_starved(env), GOPATH=f"{own}:{GO_CODE}", **c_library.LEAN_GO)
-    status, said = c_library.ran(["go", "test", "-c", "-vet=off", "-o", path, "kitchenrue.example/serfdelegate"], env=env)
-    count.check("Go: the starved delegate builds", status == 0, said[-2000:])
-    granted, is_whole = 0, status != 0
-    while not is_whole and granted < starved.MOST:
+def go_path(places, bindings):
+    """A folder in which Go finds our packages by their paths, which are in a folder of bindings."""
+    path = places.fresh("go_path")
+    os.mkdir(os.path.join(path, "src"))
+    os.symlink(bindings, os.path.join(path, "src", "kitchenrue.example"))
+    return path
+
+
+def env_of_path(path):
+    return {"GO111MODULE": "off", "GOFLAGS": "-trimpath", "GOPATH": f"{path}:{GO_CODE}", **c_library.LEAN_GO}
+
+
+def starved_node(count, places, env):
+    """A node whose first burst, and whose first merge, run out of memory one request later each time. Where it is wanting but to read
+    what was taken, nobody is told: so some rounds more are made behind the first of which nothing is told."""
+    path = places.of("serf.test")
+    env = {**env_of_starved(env), **env_of_path(go_path(places, places.of("go_starved")))}
+    status, said = c_library.ran(["go", "test", "-c", "-vet=off", "-o", path, "kitchenrue.example/serf"], env=env)
+    count.check("Go: the starved node builds", status == 0, said[-2000:])
+    granted, untold, is_well = 0, 0, status == 0
+    while is_well and untold < UNTOLD and granted < starved.MOST:
         words = [path, "-test.run", "^TestABurstOfMoreThanMemoryHas$"]
         status, said = c_library.ran(words, env=dict(os.environ, SERF_AGENT_GRANTED=str(granted)))
-        count.check(f"Go: a delegate with {granted} requests for memory", status == 0, said[-900:])
-        is_whole = status != 0 or "nothing is wanting" in said
+        is_well = status == 0 and "no tests to run" not in said
+        count.check(f"Go: a node with {granted} requests for memory", is_well, said[-900:])
+        untold += "nothing is wanting" in said
         granted += 1
-    count.check("Go: a delegate with memory at last", 10 < granted < starved.MOST, granted)
+    count.check("Go: a node with memory at last", 10 + UNTOLD < granted < starved.MOST, granted)
 
 
 def in_pipe(count, places, program):

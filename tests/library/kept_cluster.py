@@ -1,5 +1,5 @@
-"""A cluster of hosts of the delegate in Go under kills, whose files keep their events (`keep_events`): no event runs twice on a
-node, and nearly none is missed.
+"""A cluster of nodes of the package serf in Go (`bindings/go/serf`) under kills, whose files keep their events (`KeepEvents`): no event
+runs twice on a node, and nearly none is missed.
 
     tests/library/kept_cluster.py [--library FILE] [--over-ci] [--nodes N] [--kills N] [--seconds S] [--rate N] [--seed N]
                                   [--cut] [--without] [--keep]
@@ -19,8 +19,9 @@ missed was one of these, by the node's files as its kills left them:
 It fails where an event ran twice on a node, or where a node missed one event in a thousand or more. With --without the files keep no
 events: then what is missed is only told. `tests/by_hand/kept_cluster_long.py` runs both for longer.
 
-Go and memberlist have to be there (`tools/packages`); else it says so, and checks nothing. --library takes another static
-library than that of crates/serf_agent_c, which else is built; --over-ci builds it over what `rt ci` left, as the gate does.
+Go and the sources of memberlist and of Serf have to be there (`tools/packages`); else it says so, and checks nothing. --library
+takes another static library than that of crates/serf_agent_c, which else is built; --over-ci builds it over what `rt ci` left, as
+the gate does.
 """
 
 import argparse
@@ -63,7 +64,7 @@ FIRING, DOWN = 0.3, 0.5
 
 
 class Node(beside_serf.Ours):
-    """A host, and its file's texts as its kills left them."""
+    """A node of ours, and its file's texts as its kills left them."""
 
     def __init__(self, folder, program, number, net, asked):
         super().__init__(folder, program, number, net, 1000 * asked.seed + number)
@@ -239,7 +240,7 @@ def cluster(folder, program, asked):
 
 def run(count, asked, library, folder):
     program, fault = beside_serf.build(folder, library)
-    count.check("the host builds", fault is None, fault)
+    count.check("the node builds", fault is None, fault)
     if fault:
         return
     nodes, began = cluster(folder, program, asked), time.monotonic()

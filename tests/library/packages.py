@@ -42,6 +42,9 @@ OFF_LINE = ["unshare", "--net"] if os.geteuid() == 0 and c_library.ran(["unshare
 NOBODY = [*OFF_LINE, "setpriv", "--reuid=65534", "--regid=65534", "--clear-groups", "--inh-caps=+dac_read_search", "--ambient-caps=+dac_read_search"]
 AS_USER = NOBODY if os.geteuid() == 0 else []
 
+# Where Debian has Go's packages.
+GO_CODE = "/usr/share/gocode"
+
 # Where the machine says that it is another one.
 ELSEWHERE = ["setarch", "i686"]
 
@@ -275,7 +278,8 @@ def in_rust(count, archive):
 
 
 def in_go(count, archive):
-    """The module is whole in itself: from the archive, from a vendor folder, and under another path."""
+    """The module serfagent is whole in itself: from the archive, from a vendor folder, and under another path; and a node over the
+    package serf."""
     if shutil.which("go") is None:
         raise NotRun("go is not on PATH")
     home = archive.home()
@@ -306,6 +310,27 @@ def in_go(count, archive):
     by_user(own, "sed", "-i", "s,kitchenrue.example,forge.example/fork,", "main.go", **more)
     well(count, "a user of the fork", by_user(own, "go", "build", "-o", "forked", ".", **more), "")
     refused(count, "without cgo", by_user(module, "go", "build", ".", **{**more, "CGO_ENABLED": "0"}), "serfagent_is_for_Linux_on_x86_64_and_needs_cgo_with_a_C_compiler")
+    node_in_go(count, archive, home)
+
+
+def node_in_go(count, archive, home):
+    """docs/GO.md: its program, built by its lines over the archive and Debian's packages, and run twice on one file. Its address is one
+    of this run."""
+    needed = os.path.join(GO_CODE, "src", "github.com", "hashicorp", "serf", "coordinate")
+    if not os.path.isdir(needed):
+        print(f"not run: the program of docs/GO.md, since {needed} isn't there")
+        return
+    blocks = {text.split()[0]: text for _, text in reversed(list(pages.blocks("docs/GO.md")))}
+    own = archive.home_of(home, "node")
+    by_user(own, "ln", "-s", archive.top, re.search(r"\$PWD/([^/\s]+)/bindings/go", blocks["mkdir"])[1])
+    given(own, "main.go", blocks["package"].replace("127.0.0.1", f"127.{os.getpid() >> 8 & 127 | 128}.{os.getpid() & 255}.9"))
+    answer = by_user(own, "sh", "-ec", blocks["mkdir"], home=home, GOCACHE=os.path.join(archive.root, "cache"), **c_library.LEAN_GO)
+    if not well(count, "the lines of docs/GO.md build its program", answer, ""):
+        return
+    for at in (1, 2):
+        # (where there is no network, there is no loopback address either)
+        status, said = c_library.ran([*AS_USER[len(OFF_LINE) :], "timeout", "300", os.path.join(own, "web1")], cwd=own, env=env_of(home))
+        count.check(f"it is handed its event at {at}", status == 0 and f"handled deploy v1 at {at}\n" in said, f"{status}: {said[-1500:]}")
 
 
 def installed(count, archive):

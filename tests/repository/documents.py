@@ -53,7 +53,7 @@ ENDINGS = (
 )
 
 # What a file outside the repository is called where a document speaks of it: Serf's own sources, and a reader's files.
-FOREIGN = {"serf.go", "delegate.go", "snapshot.go", "query.go", "messages.go", "local.snapshot", "config.go", "kitchenrue.example/serfagent", "TryLockError::WouldBlock"}
+FOREIGN = {"serf.go", "delegate.go", "snapshot.go", "query.go", "messages.go", "local.snapshot", "config.go", "kitchenrue.example/serf", "kitchenrue.example/serfagent", "github.com/hashicorp/serf/serf", "cmd/serf", "TryLockError::WouldBlock"}
 
 # How a file names the siblings in the head of ARCHITECTURE.md's table "To add something".
 SIBLINGS = {

@@ -17,7 +17,8 @@ import (
 	"time"
 
 	"kitchenrue.example/agent/internal/config"
-	"kitchenrue.example/agent/internal/rpc"
+	"kitchenrue.example/agent/internal/logs"
+	"kitchenrue.example/serf"
 	"kitchenrue.example/serfagent"
 )
 
@@ -122,59 +123,6 @@ func TestALife(t *testing.T) {
 	}
 }
 
-func TestWithoutASnapshot(t *testing.T) {
-	a, _ := start(t)
-	folder := a.folder
-	if _, err := os.Stat(folder); err != nil {
-		t.Error(err)
-	}
-	if err := a.Close(); err != nil {
-		t.Error(err)
-	}
-	if _, err := os.Stat(folder); !errors.Is(err, os.ErrNotExist) {
-		t.Error(folder, err)
-	}
-}
-
-func TestWhatKilledAgentsLeft(t *testing.T) {
-	where := t.TempDir()
-	long := time.Now().Add(-time.Hour)
-	for _, name := range []string{"left", "empty", "locked", "young", "other"} {
-		folder := filepath.Join(where, clocksFolder+name)
-		if name == "other" {
-			folder = filepath.Join(where, name)
-		}
-		if err := os.Mkdir(folder, 0o700); err != nil {
-			t.Fatal(err)
-		}
-		if name != "empty" {
-			store, err := serfagent.OpenStore(filepath.Join(folder, clocksFile))
-			if err != nil {
-				t.Fatal(err)
-			}
-			if name == "locked" {
-				defer store.Close()
-			} else {
-				store.Close()
-			}
-		}
-		if name != "young" {
-			if err := os.Chtimes(folder, long, long); err != nil {
-				t.Fatal(err)
-			}
-		}
-	}
-	removeStale(where)
-	var names []string
-	entries, err := os.ReadDir(where)
-	for _, entry := range entries {
-		names = append(names, strings.TrimPrefix(entry.Name(), clocksFolder))
-	}
-	if err != nil || !reflect.DeepEqual(names, []string{"locked", "young", "other"}) {
-		t.Error(names, err)
-	}
-}
-
 func TestStartsThatFail(t *testing.T) {
 	folder := t.TempDir()
 	file := filepath.Join(folder, "file")
@@ -252,8 +200,8 @@ func TestTagsThatCannotBeKept(t *testing.T) {
 	if err := a.UpdateTags(map[string]string{"size": "small"}, nil); err == nil || !strings.Contains(err.Error(), "-tags-file") {
 		t.Error(err)
 	}
-	if !reflect.DeepEqual(a.tags.all(), map[string]string{"size": "big"}) || !reflect.DeepEqual(a.node.Tags(), a.tags.all()) {
-		t.Error(a.tags.all(), a.node.Tags())
+	if !reflect.DeepEqual(a.tags.all(), map[string]string{"size": "big"}) || !reflect.DeepEqual(a.node.LocalMember().Tags, a.tags.all()) {
+		t.Error(a.tags.all(), a.node.LocalMember().Tags)
 	}
 }
 
@@ -284,20 +232,20 @@ func TestReloading(t *testing.T) {
 func TestJoining(t *testing.T) {
 	a, _ := start(t)
 	defer a.Close()
-	where := a.node.List().LocalNode().Address()
+	where := a.node.Memberlist().LocalNode().Address()
 	b, out := start(t, "-node", "b", "-retry-join", where, "-retry-interval", "10ms")
 	if err := b.JoinAtStart(context.Background()); err != nil {
 		t.Fatal(err)
 	}
 	eventually(t, "both are there", func() bool { return len(a.Members()) == 2 && len(b.Members()) == 2 })
 	eventually(t, "it says so", func() bool { return strings.Contains(out.String(), "Join completed") })
-	if count, err := b.Join(context.Background(), []string{where}, true); count != 1 || err != nil {
+	if count, err := b.Join([]string{where}, true); count != 1 || err != nil {
 		t.Error(count, err)
 	}
-	if err := b.Leave(context.Background()); err != nil {
+	if err := b.Leave(); err != nil {
 		t.Error(err)
 	}
-	if _, err := b.Join(context.Background(), []string{where}, true); err == nil {
+	if _, err := b.Join([]string{where}, true); err == nil {
 		t.Error("it left")
 	}
 	if err := b.Close(); err != nil {
@@ -316,10 +264,10 @@ func TestJoining(t *testing.T) {
 	if err := d.JoinAtStart(context.Background()); err == nil || !strings.Contains(err.Error(), "-join") {
 		t.Error(err)
 	}
-	if _, err := d.Query(rpc.QueryParams{Name: "x", Timeout: time.Millisecond}); err != nil {
+	if _, err := d.Query("x", nil, &serf.QueryParam{Timeout: time.Millisecond}); err != nil {
 		t.Error(err)
 	}
-	if _, err := d.Key(context.Background(), rpc.ListKeys, ""); err == nil || !strings.Contains(err.Error(), "1/1 nodes reported failure") {
+	if _, err := d.KeyManager().ListKeys(); err == nil || !strings.Contains(err.Error(), "1/1 nodes reported failure") {
 		t.Error(err)
 	}
 }
@@ -334,7 +282,7 @@ func TestNamedAddresses(t *testing.T) {
 	free.Close()
 	a, _ := start(t, "-bind", fmt.Sprint("localhost:", port), "-rpc-addr", "localhost:0", "-advertise", "localhost:7999")
 	defer a.Close()
-	own := a.node.List().LocalNode()
+	own := a.node.Memberlist().LocalNode()
 	if !own.Addr.IsLoopback() || own.Port != 7999 || !a.server.Load().Addr().(*net.TCPAddr).IP.IsLoopback() {
 		t.Error(own.Addr, own.Port, a.server.Load().Addr())
 	}
@@ -419,16 +367,13 @@ func TestMainsSignals(t *testing.T) {
 	}
 }
 
-// The limits of the configuration are those of the proved agent.
-func TestLimitsOfTheProvedAgent(t *testing.T) {
-	conf := config.Default()
+// The limits of the configuration are those of the node.
+func TestLimitsOfTheNode(t *testing.T) {
+	conf := conf(t)
 	conf.UserEventSizeLimit, conf.QuerySizeLimit, conf.QueryResponseSizeLimit = 700, 2000, 3000
-	found := (&App{config: conf}).settings()
-	if found.EventLimit != 700 || found.QueryLimit != 2000 || found.ResponseLimit != 3000 || found.KeepEvents {
-		t.Errorf("%+v", found)
-	}
-	conf = config.Default()
-	if found = (&App{config: conf}).settings(); found.QueryLimit != 1024 || found.ResponseLimit != 1024 {
-		t.Errorf("%+v", found)
+	a := &App{config: conf, tags: &tags{}, log: logs.New(&said{}, logs.Trace)}
+	found, _, err := a.nodeConfig(nil)
+	if err != nil || found.UserEventSizeLimit != 700 || found.QuerySizeLimit != 2000 || found.QueryResponseSizeLimit != 3000 || found.KeepEvents {
+		t.Errorf("%+v %v", found, err)
 	}
 }

@@ -1,13 +1,14 @@
 package app
 
 import (
-	"context"
 	"fmt"
 	"runtime"
 
+	"github.com/hashicorp/serf/coordinate"
+
 	"kitchenrue.example/agent/internal/config"
-	"kitchenrue.example/agent/internal/event"
 	"kitchenrue.example/agent/internal/rpc"
+	"kitchenrue.example/serf"
 )
 
 // What the command line asks for.
@@ -17,16 +18,16 @@ var _ rpc.Backend = &App{}
 // Fire fires an event.
 func (a *App) Fire(name string, payload []byte, coalesce bool) error {
 	a.log.Printf("[DEBUG] agent: Requesting user event send: %s. Coalesced: %t. Payload: %q", name, coalesce, payload)
-	return a.node.Fire(name, payload, coalesce)
+	return a.node.UserEvent(name, payload, coalesce)
 }
 
 // Members are all that are known.
-func (a *App) Members() []event.Member { return a.node.Members.All() }
+func (a *App) Members() []serf.Member { return a.node.Members() }
 
 // Join joins. memberlist has its own limit of time.
-func (a *App) Join(_ context.Context, existing []string, replay bool) (int, error) {
+func (a *App) Join(existing []string, replay bool) (int, error) {
 	a.log.Printf("[INFO] agent: joining: %v replay: %t", existing, replay)
-	count, err := a.node.Join(existing, replay)
+	count, err := a.node.Join(existing, !replay)
 	if count > 0 {
 		a.log.Printf("[INFO] agent: joined: %d nodes", count)
 	}
@@ -34,16 +35,23 @@ func (a *App) Join(_ context.Context, existing []string, replay bool) (int, erro
 }
 
 // Leave leaves.
-func (a *App) Leave(ctx context.Context) error {
+func (a *App) Leave() error {
 	a.log.Print("[INFO] agent: requesting graceful leave from Serf")
-	return a.node.Leave(ctx)
+	return a.node.Leave()
 }
 
 // Shutdown lets the agent end.
 func (a *App) Shutdown() { a.end(nil) }
 
 // ForceLeave says that a member has left.
-func (a *App) ForceLeave(name string, prune bool) error { return a.node.ForceLeave(name, prune) }
+func (a *App) ForceLeave(name string, prune bool) error {
+	if prune {
+		a.log.Printf("[INFO] agent: Force leaving node (prune): %s", name)
+		return a.node.RemoveFailedNodePrune(name)
+	}
+	a.log.Printf("[INFO] agent: Force leaving node: %s", name)
+	return a.node.RemoveFailedNode(name)
+}
 
 // UpdateTags changes this node's tags.
 func (a *App) UpdateTags(set map[string]string, remove []string) error {
@@ -51,30 +59,22 @@ func (a *App) UpdateTags(set map[string]string, remove []string) error {
 }
 
 // Query asks the cluster.
-func (a *App) Query(params rpc.QueryParams) (*rpc.Asked, error) {
-	a.log.Printf("[DEBUG] agent: Requesting query send: %s. Payload: %q", params.Name, params.Payload)
-	return a.node.Query(params)
+func (a *App) Query(name string, payload []byte, params *serf.QueryParam) (*serf.QueryResponse, error) {
+	a.log.Printf("[DEBUG] agent: Requesting query send: %s. Payload: %q", name, payload)
+	return a.node.Query(name, payload, params)
 }
 
-// Key does this to the keys of all nodes.
-func (a *App) Key(ctx context.Context, what rpc.KeyCommand, key string) (rpc.KeyResult, error) {
-	return a.node.Key(ctx, what, key)
+// KeyManager changes the keys of all nodes.
+func (a *App) KeyManager() *serf.KeyManager { return a.node.KeyManager() }
+
+// Coordinate is the last one that is known of a node.
+func (a *App) Coordinate(node string) (*coordinate.Coordinate, bool) {
+	return a.node.GetCachedCoordinate(node)
 }
 
 // Stats are what `serf info` shows.
 func (a *App) Stats() map[string]map[string]string {
-	number := func(is interface{}) string { return fmt.Sprint(is) }
-	members := a.node.Members
-	serf := map[string]string{
-		"members": number(members.Size()), "failed": number(members.Count(event.Failed)), "left": number(members.Count(event.Left)),
-		"health_score": number(a.node.List().GetHealthScore()), "encrypted": number(a.node.Keys != nil), "coordinate_resets": "0",
-		"dropped": number(a.node.Dropped()), "dropped_far": number(a.node.DroppedFar()),
-	}
-	intents, events, queries := a.node.Queued()
-	serf["intent_queue"], serf["event_queue"], serf["query_queue"] = number(intents), number(events), number(queries)
-	if clocks, err := a.node.Clocks(); err == nil {
-		serf["member_time"], serf["event_time"], serf["query_time"] = number(clocks.Member), number(clocks.Event), number(clocks.Query)
-	}
+	number := func(is int) string { return fmt.Sprint(is) }
 	handlers := map[string]string{}
 	for _, script := range a.runner.Scripts() {
 		for _, filter := range script.Filters {
@@ -98,6 +98,6 @@ func (a *App) Stats() map[string]map[string]string {
 			"os": runtime.GOOS, "arch": runtime.GOARCH, "version": runtime.Version(), "max_procs": number(runtime.GOMAXPROCS(0)),
 			"goroutines": number(runtime.NumGoroutine()), "cpu_count": number(runtime.NumCPU()),
 		},
-		"serf": serf, "tags": a.tags.all(), "event_handlers": handlers,
+		"serf": a.node.Stats(), "tags": a.tags.all(), "event_handlers": handlers,
 	}
 }

@@ -36,7 +36,7 @@ func (b *restarted) start(where string) {
 		words = append(words, "-bind", b.where)
 	}
 	b.App, _ = start(b.t, words...)
-	b.where = b.node.List().LocalNode().Address()
+	b.where = b.node.Memberlist().LocalNode().Address()
 	if err := b.JoinAtStart(context.Background()); err != nil {
 		b.t.Fatal(err)
 	}
@@ -69,7 +69,7 @@ func TestEventsOfAnAbsence(t *testing.T) {
 		want  string
 	}{{[]string{"-keep-events"}, "present missed back"}, {nil, "present back"}} {
 		a, _ := start(t)
-		where := a.node.List().LocalNode().Address()
+		where := a.node.Memberlist().LocalNode().Address()
 		fire(t, a, "old")
 		b := startRestarted(t, where, one.words...)
 		fire(t, a, "present")
@@ -94,7 +94,7 @@ func TestAnEventBelowTheLastLine(t *testing.T) {
 		word, want string
 	}{{"-keep-events", "own1 own2 early late"}, {"-replay", "own1 own2 late"}} {
 		a, _ := start(t)
-		where := a.node.List().LocalNode().Address()
+		where := a.node.Memberlist().LocalNode().Address()
 		fire(t, a, "early")
 		b := startRestarted(t, "", one.word)
 		fire(t, b.App, "own1")
@@ -127,8 +127,8 @@ func TestALifeThatGoesOn(t *testing.T) {
 				t.Fatal(err)
 			}
 			b, _ := start(t, "-node", "b", "-snapshot", path, keeps)
-			if b.isReplaying != (want && keeps == "-keep-events") {
-				t.Errorf("%q, %s: %v", text, keeps, b.isReplaying)
+			if b.ignoresOld() == (want && keeps == "-keep-events") {
+				t.Errorf("%q, %s: %v", text, keeps, b.ignoresOld())
 			}
 			b.Close()
 		}

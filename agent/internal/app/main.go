@@ -41,7 +41,7 @@ func Main(words []string, out, errs io.Writer) int {
 		cancel()
 		return both(errs, err, a.Close())
 	}
-	return a.run(ctx, words, signals, out, errs)
+	return a.run(words, signals, out, errs)
 }
 
 // failed says what failed, in one line.
@@ -67,8 +67,8 @@ func (a *App) banner(out io.Writer) {
 	}
 	fmt.Fprintf(out, "==> The agent runs!\n")
 	for _, line := range [][2]string{
-		{"Node name", fmt.Sprintf("'%s'", a.config.NodeName)}, {"Bind addr", fmt.Sprintf("'%s'", a.node.List().LocalNode().Address())},
-		{"RPC addr", fmt.Sprintf("'%s'", a.server.Load().Addr())}, {"Encrypted", fmt.Sprint(a.node.Keys != nil)},
+		{"Node name", fmt.Sprintf("'%s'", a.config.NodeName)}, {"Bind addr", fmt.Sprintf("'%s'", a.node.Memberlist().LocalNode().Address())},
+		{"RPC addr", fmt.Sprintf("'%s'", a.server.Load().Addr())}, {"Encrypted", fmt.Sprint(a.node.EncryptionEnabled())},
 		{"Snapshot", snapshot}, {"Profile", a.config.Profile},
 	} {
 		fmt.Fprintf(out, "%25s: %s\n", line[0], line[1])
@@ -77,7 +77,7 @@ func (a *App) banner(out io.Writer) {
 }
 
 // run waits for the end.
-func (a *App) run(ctx context.Context, words []string, signals <-chan os.Signal, out, errs io.Writer) int {
+func (a *App) run(words []string, signals <-chan os.Signal, out, errs io.Writer) int {
 	for {
 		select {
 		case err := <-a.ends:
@@ -93,7 +93,7 @@ func (a *App) run(ctx context.Context, words []string, signals <-chan os.Signal,
 				_ = both(errs, a.Close())
 				return 1
 			}
-			return a.leave(ctx, signals, out, errs)
+			return a.leave(signals, out, errs)
 		}
 	}
 }
@@ -112,12 +112,10 @@ func (a *App) reread(words []string, out io.Writer) {
 }
 
 // leave leaves, and ends at once where another signal comes meanwhile.
-func (a *App) leave(ctx context.Context, signals <-chan os.Signal, out, errs io.Writer) int {
+func (a *App) leave(signals <-chan os.Signal, out, errs io.Writer) int {
 	fmt.Fprintln(out, "==> Gracefully shutting down agent...")
-	ctx, cancel := context.WithCancel(ctx)
-	defer cancel()
 	left := make(chan error, 1)
-	go func() { left <- a.Leave(ctx) }()
+	go func() { left <- a.Leave() }()
 	for {
 		select {
 		case err := <-left:
@@ -125,7 +123,6 @@ func (a *App) leave(ctx context.Context, signals <-chan os.Signal, out, errs io.
 		case one := <-signals:
 			if one != syscall.SIGHUP {
 				fmt.Fprintf(out, "==> Caught signal: %v\n", one)
-				cancel()
 				_ = a.Close()
 				return 1
 			}

@@ -2,99 +2,89 @@ package app
 
 import (
 	"fmt"
-	"os"
-	"path/filepath"
+	"time"
 
-	"kitchenrue.example/agent/internal/gossip"
+	"github.com/hashicorp/memberlist"
+
+	"kitchenrue.example/agent/internal/config"
+	"kitchenrue.example/agent/internal/keyring"
 	"kitchenrue.example/agent/internal/record"
-	"kitchenrue.example/agent/internal/snapshot"
+	"kitchenrue.example/serf"
 	"kitchenrue.example/serfagent"
 )
 
-// settings are those of the proved agent.
-func (a *App) settings() serfagent.Settings {
-	settings := serfagent.DefaultSettings()
-	settings.IgnoreOld, settings.KeepEvents, settings.EventLimit = true, a.config.KeepEvents, uint64(a.config.UserEventSizeLimit)
-	settings.QueryLimit, settings.ResponseLimit = uint64(a.config.QuerySizeLimit), uint64(a.config.QueryResponseSizeLimit)
-	return settings
+// How long events that may be coalesced wait at most, and for how long nothing has to come so that they wait no more: Serf's own times.
+const (
+	coalescePeriod = 3 * time.Second
+	quietPeriod    = time.Second
+)
+
+// nodeConfig is that of the node, and what gives back its files where no node is made of it.
+func (a *App) nodeConfig(events chan<- serf.Event) (*serf.Config, func(), error) {
+	c := &a.config
+	own := serf.DefaultConfig()
+	own.NodeName, own.Tags, own.EventCh, own.ProtocolVersion = c.NodeName, a.tags.all(), events, serf.ProtocolVersionMax
+	own.Logger, own.LogOutput = a.log.Logger, nil
+	own.CoalescePeriod, own.QuiescentPeriod = coalescePeriod, quietPeriod
+	own.UserCoalescePeriod, own.UserQuiescentPeriod = coalescePeriod, quietPeriod
+	own.ReconnectInterval, own.ReconnectTimeout, own.TombstoneTimeout = c.ReconnectInterval, c.ReconnectTimeout, c.TombstoneTimeout
+	own.BroadcastTimeout, own.UserEventSizeLimit = c.BroadcastTimeout, c.UserEventSizeLimit
+	own.QuerySizeLimit, own.QueryResponseSizeLimit = c.QuerySizeLimit, c.QueryResponseSizeLimit
+	own.SnapshotPath, own.RejoinAfterLeave, own.KeepEvents, own.KeyringFile = c.Snapshot, c.Rejoin, c.KeepEvents, c.KeyringFile
+	list, err := listConfig(c)
+	if err != nil {
+		return nil, nil, err
+	}
+	own.MemberlistConfig = list
+	finish, err := a.recorded(own)
+	return own, finish, err
 }
 
-// openAgent opens the proved agent on its file, and records it where that is asked for. It gives the members of the last life.
-func (a *App) openAgent() (gossip.Agent, []snapshot.Address, error) {
-	var file *record.File
-	var err error
-	if a.config.Record != "" {
-		if file, err = record.Open(a.config.Record, int64(a.config.RecordSize)); err != nil {
-			return nil, nil, fmt.Errorf("-record: %w", err)
-		}
+// listConfig is memberlist's.
+func listConfig(c *config.Config) (*memberlist.Config, error) {
+	list := memberlist.DefaultLANConfig()
+	switch c.Profile {
+	case "wan":
+		list = memberlist.DefaultWANConfig()
+	case "local":
+		list = memberlist.DefaultLocalConfig()
 	}
-	proved, previous, err := a.openSnapshot()
+	bind, err := config.ParseIP(c.Bind)
 	if err != nil {
-		if file != nil {
-			file.Close()
-		}
-		return nil, nil, fmt.Errorf("-snapshot: %w", err)
+		return nil, err
 	}
-	agent := gossip.Proved{Agent: proved}
-	if file == nil {
-		return agent, previous, nil
-	}
-	recorded, err := record.Start(agent, file, a.config.NodeName, a.settings(), a.log.Logger)
-	if err != nil {
-		proved.Close()
-		file.Close()
-		a.file.Close()
-		a.removeFolder()
-		return nil, nil, fmt.Errorf("-record: %w", err)
-	}
-	return recorded, previous, nil
-}
-
-// openSnapshot opens the proved agent on its file, and the lines of members in it.
-func (a *App) openSnapshot() (*serfagent.Agent, []snapshot.Address, error) {
-	path := a.config.Snapshot
-	if path == "" {
-		folder, err := shortLived()
+	list.BindAddr, list.BindPort, list.AdvertisePort = bind.Host, bind.Port, bind.Port
+	if c.Advertise != "" {
+		advertise, err := config.ParseIP(c.Advertise)
 		if err != nil {
-			return nil, nil, err
+			return nil, err
 		}
-		a.folder, path = folder, filepath.Join(folder, clocksFile)
+		list.AdvertiseAddr, list.AdvertisePort = advertise.Host, advertise.Port
 	}
-	proved, err := serfagent.Open(a.config.NodeName, path, a.settings())
+	list.EnableCompression = c.Compression
+	key, err := c.Key()
 	if err != nil {
-		a.removeFolder()
-		return nil, nil, err
+		return nil, err
 	}
-	file, previous, err := snapshot.Open(path, a.config.Rejoin)
-	if err != nil {
-		proved.Close()
-		a.removeFolder()
-		return nil, nil, err
-	}
-	a.file = file
-	a.isReplaying = a.config.Replay || a.goesOn(previous)
-	return proved, previous, nil
+	list.Keyring, err = keyring.Open(c.KeyringFile, key)
+	return list, err
 }
 
-// goesOn says whether the agent keeps its events and has a life before, whose file says which events are old: it took some, or
-// joined others. Then what came to the others meanwhile is wanted, and a join of the start that ignored it would lose it.
-func (a *App) goesOn(previous []snapshot.Address) bool {
-	if !a.config.KeepEvents {
-		return false
+// recorded has the calls of the proved agent recorded, where that is asked for.
+func (a *App) recorded(own *serf.Config) (finish func(), err error) {
+	if a.config.Record == "" {
+		return func() {}, nil
 	}
-	if a.file.KnowsEvents() {
-		return true
+	file, err := record.Open(a.config.Record, int64(a.config.RecordSize))
+	if err != nil {
+		return nil, fmt.Errorf("-record: %w", err)
 	}
-	for _, one := range previous {
-		if one.Name != a.config.NodeName {
-			return true
+	own.Wrap = func(agent serf.Agent, settings serfagent.Settings) (serf.Agent, error) {
+		recorded, err := record.Start(agent, file, a.config.NodeName, settings, a.log.Logger)
+		if err != nil {
+			return nil, fmt.Errorf("-record: %w", err)
 		}
+		return recorded, nil
 	}
-	return false
-}
-
-func (a *App) removeFolder() {
-	if a.folder != "" {
-		os.RemoveAll(a.folder)
-	}
+	return func() { file.Close() }, nil
 }

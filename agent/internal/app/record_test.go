@@ -1,14 +1,13 @@
 package app
 
 import (
-	"context"
 	"os"
 	"path/filepath"
 	"strings"
 	"testing"
 	"time"
 
-	"kitchenrue.example/agent/internal/rpc"
+	"kitchenrue.example/serf"
 )
 
 // TestRecords leaves the records of three nodes in the folder that KITCHENRUE_RECORDS names, for tests/library/agent.py: an
@@ -26,7 +25,7 @@ func TestRecords(t *testing.T) {
 	any := "127.0.0.1:0"
 	a, b, c := begun("a", any), begun("b", any), begun("c", any)
 	for _, one := range []*App{b, c} {
-		if _, err := one.Join(context.Background(), []string{a.node.List().LocalNode().Address()}, false); err != nil {
+		if _, err := one.Join([]string{a.node.Memberlist().LocalNode().Address()}, false); err != nil {
 			t.Fatal(err)
 		}
 	}
@@ -42,25 +41,27 @@ func TestRecords(t *testing.T) {
 	}
 	fire(a, "v1", b, c)
 	for _, tags := range []map[string]string{nil, {"role": "^[ab]$"}} {
-		asked, err := a.Query(rpc.QueryParams{Name: "load", WantAck: true, Timeout: time.Second, Tags: tags})
+		asked, err := a.Query("load", nil, &serf.QueryParam{RequestAck: true, Timeout: time.Second, FilterTags: tags})
 		if err != nil {
 			t.Fatal(err)
 		}
 		answers := 0
-		for range asked.Answers {
+		for range asked.AckCh() {
+			answers++
+		}
+		for range asked.ResponseCh() {
 			answers++
 		}
 		if answers != 6-2*len(tags) {
 			t.Error(tags, answers)
 		}
 	}
-	address := c.node.List().LocalNode().Address()
+	address := c.node.Memberlist().LocalNode().Address()
 	if err := c.Close(); err != nil {
 		t.Error(err)
 	}
 	fire(b, "v2", a)
 	c = begun("c", address)
-	c.node.Rejoin(context.Background())
 	eventually(t, "c has what it missed", func() bool { return c.Stats()["serf"]["event_time"] == "3" })
 	fire(a, "v3", b, c)
 	for _, one := range []*App{a, b, c} {

@@ -8,7 +8,7 @@ import (
 	"sync"
 
 	"kitchenrue.example/agent/internal/files"
-	"kitchenrue.example/agent/internal/wire"
+	"kitchenrue.example/serf"
 )
 
 // maxTagsFile is how many bytes a file of tags may have.
@@ -40,8 +40,7 @@ func openTags(path string, said map[string]string) (*tags, error) {
 	if err != nil {
 		return nil, fmt.Errorf("-tags-file: %w", err)
 	}
-	_, err = wire.WriteTags(t.now)
-	return t, err
+	return t, serf.ValidateTags(t.now)
 }
 
 // all are the tags. Nobody changes what this gives.
@@ -56,7 +55,7 @@ func (t *tags) change(made func(map[string]string) map[string]string, tell func(
 	t.changing.Lock()
 	defer t.changing.Unlock()
 	next := made(t.all())
-	if _, err := wire.WriteTags(next); err != nil {
+	if err := serf.ValidateTags(next); err != nil {
 		return err
 	}
 	if t.path != "" {

@@ -36,6 +36,16 @@ func ParseAddress(text string, port int) (Address, error) {
 	return Address{host, port}, nil
 }
 
+// ParseIP is ParseAddress of an address whose name was looked up. memberlist takes a host that it can't read for all addresses, so it
+// gets none.
+func ParseIP(text string) (Address, error) {
+	found, err := ParseAddress(text, BindPort)
+	if err == nil && net.ParseIP(found.Host) == nil {
+		return Address{}, fmt.Errorf("%q has no IP address", text)
+	}
+	return found, err
+}
+
 // parseNamed is ParseAddress for an address that has to name its host: without one, gossip or requests would come from every
 // network.
 func parseNamed(text string, port int) (Address, error) {

@@ -5,7 +5,7 @@ import (
 	"fmt"
 	"strings"
 
-	"kitchenrue.example/agent/internal/event"
+	"kitchenrue.example/serf"
 )
 
 // Filter says which events are wanted: of a kind, and of a name where it has one. The kind "*" is all.
@@ -15,18 +15,26 @@ type Filter struct {
 }
 
 // Takes says whether the event is wanted.
-func (f Filter) Takes(e *event.Event) bool {
-	if f.Kind == "*" {
-		return true
+func (f Filter) Takes(e serf.Event) bool {
+	return f.Kind == "*" || f.Kind == e.EventType().String() && (f.Name == "" || f.Name == nameOf(e))
+}
+
+// nameOf is the name of a user event or a query.
+func nameOf(e serf.Event) string {
+	switch e := e.(type) {
+	case serf.UserEvent:
+		return e.Name
+	case *serf.Query:
+		return e.Name
 	}
-	return f.Kind == string(e.Kind) && (f.Name == "" || f.Name == e.Name)
+	return ""
 }
 
 // Filters are wanted events.
 type Filters []Filter
 
 // Takes says whether one of them takes the event.
-func (all Filters) Takes(e *event.Event) bool {
+func (all Filters) Takes(e serf.Event) bool {
 	for _, one := range all {
 		if one.Takes(e) {
 			return true
@@ -43,12 +51,12 @@ func ParseFilters(text string) (Filters, error) {
 	var all Filters
 	for _, word := range strings.Split(text, ",") {
 		kind, name, has := strings.Cut(word, ":")
-		switch event.Kind(kind) {
-		case event.User, event.Asked:
+		switch kind {
+		case "user", "query":
 			if has && name == "" {
 				return nil, fmt.Errorf("the filter %q has no name behind the colon", word)
 			}
-		case "*", event.MemberJoin, event.MemberLeave, event.MemberFailed, event.MemberUpdate, event.MemberReap:
+		case "*", "member-join", "member-leave", "member-failed", "member-update", "member-reap":
 			if has {
 				return nil, fmt.Errorf("the filter %q takes no name", word)
 			}

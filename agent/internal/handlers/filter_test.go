@@ -4,13 +4,13 @@ import (
 	"strings"
 	"testing"
 
-	"kitchenrue.example/agent/internal/event"
+	"kitchenrue.example/serf"
 )
 
 func TestFilters(t *testing.T) {
-	join := &event.Event{Kind: event.MemberJoin}
-	deploy := &event.Event{Kind: event.User, Name: "deploy"}
-	load := &event.Event{Kind: event.Asked, Name: "load"}
+	join := serf.MemberEvent{Type: serf.EventMemberJoin}
+	deploy := serf.UserEvent{Name: "deploy"}
+	load := &serf.Query{Name: "load"}
 	for _, one := range []struct {
 		text               string
 		join, deploy, load bool
@@ -22,6 +22,7 @@ func TestFilters(t *testing.T) {
 		{"user", false, true, false},
 		{"user:deploy", false, true, false},
 		{"user:other", false, false, false},
+		{"user:dep,query:lo,user:deploys", false, false, false},
 		{"query", false, false, true},
 		{"query:load,member-join", true, false, true},
 		{"query:deploy", false, false, false},

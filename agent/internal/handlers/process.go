@@ -42,8 +42,8 @@ func (t *tail) Write(data []byte) (int, error) {
 	return len(data), nil
 }
 
-// ended is what came of a script.
-type ended struct {
+// outcome is what came of a script.
+type outcome struct {
 	output []byte
 	// wrote is how many bytes it wrote, also those that weren't kept.
 	wrote int64
@@ -52,18 +52,18 @@ type ended struct {
 }
 
 // runScript runs a command by the shell, in a group of processes of its own, until it ends or the context does.
-func runScript(ctx context.Context, command string, env []string, stdin []byte) ended {
+func runScript(ctx context.Context, command string, env []string, stdin []byte) outcome {
 	cmd := exec.Command("/bin/sh", "-c", command)
 	cmd.Env = append(os.Environ(), env...)
 	cmd.SysProcAttr = &syscall.SysProcAttr{Setpgid: true}
 	pipes, err := openPipes(cmd)
 	if err != nil {
-		return ended{err: err}
+		return outcome{err: err}
 	}
 	defer pipes.close()
 	isFed := pipes.feedFirst(stdin)
 	if err := cmd.Start(); err != nil {
-		return ended{err: err}
+		return outcome{err: err}
 	}
 	pipes.closeChild()
 	if !isFed {
@@ -80,7 +80,7 @@ func runScript(ctx context.Context, command string, env []string, stdin []byte) 
 	// what the script left running in the background may hold its output open
 	_ = pipes.outRead.SetReadDeadline(time.Now().Add(restAfter))
 	kept := <-read
-	return ended{kept.bytes, kept.total, err}
+	return outcome{kept.bytes, kept.total, err}
 }
 
 // waited waits for the end, and brings it about where the context ends first.

@@ -8,7 +8,7 @@ import (
 	"sync"
 	"time"
 
-	"kitchenrue.example/agent/internal/event"
+	"kitchenrue.example/serf"
 )
 
 // Waiting is how many events may wait for their handlers, and WaitingQueries how many queries.
@@ -30,6 +30,9 @@ type Runner struct {
 	stop    context.CancelFunc
 	over    sync.WaitGroup
 
+	// respond answers a query: a test's own in tests.
+	respond func(*serf.Query, []byte) error
+
 	mu      sync.Mutex
 	self    func() Self
 	scripts []Script
@@ -40,7 +43,7 @@ func New(logger *log.Logger, timeout time.Duration, scripts []Script, self func(
 	ctx, stop := context.WithCancel(context.Background())
 	r := &Runner{
 		log: logger, timeout: timeout, scripts: scripts, self: self, stop: stop,
-		events: newLane(Waiting), queries: newLane(WaitingQueries),
+		events: newLane(Waiting), queries: newLane(WaitingQueries), respond: (*serf.Query).Respond,
 	}
 	for _, one := range []*lane{r.events, r.queries} {
 		r.over.Add(1)
@@ -78,8 +81,8 @@ func (r *Runner) Room() <-chan struct{} { return r.events.room }
 func (r *Runner) Waiting() (events, queries int) { return r.events.size(), r.queries.size() }
 
 // Add queues an event, and never drops one: who adds looks first whether there is room. A query without room is dropped.
-func (r *Runner) Add(e *event.Event) {
-	if e.Kind != event.Asked {
+func (r *Runner) Add(e serf.Event) {
+	if e.EventType() != serf.EventQuery {
 		r.events.add(e)
 	} else if !r.queries.hasRoom() || !r.queries.add(e) {
 		r.log.Printf("[WARN] agent: %s was dropped, since %d queries wait for their handlers", e, WaitingQueries)
@@ -110,7 +113,7 @@ func (r *Runner) Close(grace time.Duration) {
 	<-over
 }
 
-func (r *Runner) handle(ctx context.Context, e *event.Event) {
+func (r *Runner) handle(ctx context.Context, e serf.Event) {
 	for _, script := range r.Scripts() {
 		if script.Filters.Takes(e) {
 			if ctx.Err() != nil {
@@ -122,7 +125,7 @@ func (r *Runner) handle(ctx context.Context, e *event.Event) {
 	}
 }
 
-func (r *Runner) run(ctx context.Context, script Script, e *event.Event) {
+func (r *Runner) run(ctx context.Context, script Script, e serf.Event) {
 	if r.timeout > 0 {
 		var cancel context.CancelFunc
 		ctx, cancel = context.WithTimeout(ctx, r.timeout)
@@ -136,23 +139,23 @@ func (r *Runner) run(ctx context.Context, script Script, e *event.Event) {
 	if done.wrote > MaxOutput {
 		r.log.Printf("[WARN] agent: the handler %q of %s wrote %d bytes, of which the last %d are kept", script.Command, e, done.wrote, MaxOutput)
 	}
-	r.log.Printf("[DEBUG] agent: Event '%s' script output: %s", e.Kind, done.output)
+	r.log.Printf("[DEBUG] agent: Event '%s' script output: %s", e.EventType(), done.output)
 	if done.err != nil {
 		r.log.Printf("[ERR] agent: the handler %q of %s failed: %v", script.Command, e, reason(done.err))
 		return
 	}
-	if e.Query != nil && done.wrote > 0 {
-		if err := r.respond(e, done); err != nil {
+	if query, is := e.(*serf.Query); is && done.wrote > 0 {
+		if err := r.answer(query, done); err != nil {
 			r.log.Printf("[WARN] agent: Failed to respond to %s: %v", e, err)
 		}
 	}
 }
 
-func (r *Runner) respond(e *event.Event, done ended) error {
+func (r *Runner) answer(query *serf.Query, done outcome) error {
 	if done.wrote > MaxOutput {
 		return fmt.Errorf("an answer of %d bytes is too long", done.wrote)
 	}
-	return e.Query.Respond(done.output)
+	return r.respond(query, done.output)
 }
 
 func reason(err error) error {
@@ -166,7 +169,7 @@ func reason(err error) error {
 type lane struct {
 	mu      sync.Mutex
 	changed *sync.Cond
-	waiting []*event.Event
+	waiting []serf.Event
 	bound   int
 	isOver  bool
 	// room has something where one was taken out.
@@ -188,7 +191,7 @@ func (l *lane) size() int {
 }
 
 // add queues an event; false after the end.
-func (l *lane) add(e *event.Event) bool {
+func (l *lane) add(e serf.Event) bool {
 	l.mu.Lock()
 	defer l.mu.Unlock()
 	if l.isOver {
@@ -200,7 +203,7 @@ func (l *lane) add(e *event.Event) bool {
 }
 
 // next waits for an event; nil where none waits at the end.
-func (l *lane) next() *event.Event {
+func (l *lane) next() serf.Event {
 	l.mu.Lock()
 	defer l.mu.Unlock()
 	for len(l.waiting) == 0 && !l.isOver {

@@ -13,7 +13,7 @@ import (
 	"testing"
 	"time"
 
-	"kitchenrue.example/agent/internal/event"
+	"kitchenrue.example/serf"
 )
 
 type buffer struct {
@@ -43,8 +43,8 @@ func newRunner(t *testing.T, timeout time.Duration, scripts ...string) (*Runner,
 	return New(log.New(said, "", 0), timeout, all, func() Self { return self }), said
 }
 
-func user(name, payload string) *event.Event {
-	return &event.Event{Kind: event.User, Name: name, Payload: []byte(payload)}
+func user(name, payload string) serf.Event {
+	return serf.UserEvent{Name: name, Payload: []byte(payload)}
 }
 
 func TestInOrder(t *testing.T) {
@@ -75,10 +75,11 @@ func TestAnswers(t *testing.T) {
 	} {
 		var answered string
 		r, said := newRunner(t, 0, "query:load="+one.script)
-		r.Add(&event.Event{Kind: event.Asked, Name: "load", LTime: 5, Payload: []byte("pay"), Query: &event.Query{Respond: func(payload []byte) error {
+		r.respond = func(_ *serf.Query, payload []byte) error {
 			answered += string(payload)
 			return nil
-		}}})
+		}
+		r.Add(&serf.Query{Name: "load", LTime: 5, Payload: []byte("pay")})
 		r.Close(time.Minute)
 		lines := func(text string) int { return strings.Count(text, "\n") }
 		if lines(answered) != lines(one.want) || len(answered) != len(one.want) || !strings.Contains(said.String(), one.says) {
@@ -197,7 +198,7 @@ func TestBounds(t *testing.T) {
 		r.Add(user("deploy", ""))
 	}
 	for i := 0; i < 2*WaitingQueries; i++ {
-		r.Add(&event.Event{Kind: event.Asked, Name: "load"})
+		r.Add(&serf.Query{Name: "load"})
 	}
 	if len(r.queries.waiting) > WaitingQueries || !strings.Contains(said.String(), "query: load was dropped") {
 		t.Errorf("%d wait", len(r.queries.waiting))

@@ -5,7 +5,7 @@ import (
 	"sort"
 	"strings"
 
-	"kitchenrue.example/agent/internal/event"
+	"kitchenrue.example/serf"
 )
 
 // Self is what a script is told of its own node.
@@ -15,19 +15,19 @@ type Self struct {
 }
 
 // environment is what a script is told of an event.
-func environment(self Self, e *event.Event) []string {
+func environment(self Self, e serf.Event) []string {
 	words := []string{
-		"SERF_EVENT=" + string(e.Kind),
+		"SERF_EVENT=" + e.EventType().String(),
 		"SERF_SELF_NAME=" + self.Name,
 		"SERF_SELF_ROLE=" + self.Tags["role"],
 	}
 	for _, key := range sorted(self.Tags) {
 		words = append(words, "SERF_TAG_"+variable(key)+"="+self.Tags[key])
 	}
-	switch e.Kind {
-	case event.User:
+	switch e := e.(type) {
+	case serf.UserEvent:
 		words = append(words, "SERF_USER_EVENT="+e.Name, fmt.Sprintf("SERF_USER_LTIME=%d", e.LTime))
-	case event.Asked:
+	case *serf.Query:
 		words = append(words, "SERF_QUERY_NAME="+e.Name, fmt.Sprintf("SERF_QUERY_LTIME=%d", e.LTime))
 	}
 	for i, word := range words {
@@ -58,16 +58,24 @@ func variable(key string) string {
 
 var cleaned = strings.NewReplacer("\t", `\t`, "\n", `\n`)
 
+// ended is a payload with a newline behind it where it has none.
+func ended(payload []byte) []byte {
+	if len(payload) > 0 && payload[len(payload)-1] != '\n' {
+		return append(append([]byte(nil), payload...), '\n')
+	}
+	return payload
+}
+
 // input is what a script reads: a line for each member, or the payload, with a newline behind it where it has none.
-func input(e *event.Event) []byte {
-	if !e.Kind.IsOfMembers() {
-		if len(e.Payload) > 0 && e.Payload[len(e.Payload)-1] != '\n' {
-			return append(append([]byte(nil), e.Payload...), '\n')
-		}
-		return e.Payload
+func input(e serf.Event) []byte {
+	switch e := e.(type) {
+	case serf.UserEvent:
+		return ended(e.Payload)
+	case *serf.Query:
+		return ended(e.Payload)
 	}
 	var lines strings.Builder
-	for _, member := range e.Members {
+	for _, member := range e.(serf.MemberEvent).Members {
 		pairs := make([]string, 0, len(member.Tags))
 		for _, key := range sorted(member.Tags) {
 			pairs = append(pairs, key+"="+member.Tags[key])

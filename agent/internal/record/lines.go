@@ -4,7 +4,6 @@ import (
 	"encoding/hex"
 	"strconv"
 
-	"kitchenrue.example/agent/internal/gossip"
 	"kitchenrue.example/serfagent"
 )
 
@@ -102,7 +101,7 @@ var reasons = []string{
 }
 
 // came is what came of a packet, or why it was refused.
-func (l *lines) came(packet []byte, outcome gossip.Outcome, number uint64) {
+func (l *lines) came(packet []byte, outcome serfagent.Outcome, number uint64) {
 	is := outcome.Received
 	if is == nil {
 		l.refused(outcome.Err, packet)

@@ -10,7 +10,7 @@ import (
 	"sync"
 	"time"
 
-	"kitchenrue.example/agent/internal/gossip"
+	"kitchenrue.example/serf"
 	"kitchenrue.example/serfagent"
 )
 
@@ -22,7 +22,7 @@ const goesOn = "# goes on\n"
 
 // Agent is a proved agent whose calls are recorded, in their order.
 type Agent struct {
-	gossip.Agent
+	serf.Agent
 	name     string
 	settings serfagent.Settings
 	log      *log.Logger
@@ -38,10 +38,10 @@ type Agent struct {
 	saved uint64
 }
 
-var _ gossip.Agent = &Agent{}
+var _ serf.Agent = &Agent{}
 
 // Start begins a life of this agent in a record.
-func Start(agent gossip.Agent, file *File, name string, settings serfagent.Settings, logger *log.Logger) (*Agent, error) {
+func Start(agent serf.Agent, file *File, name string, settings serfagent.Settings, logger *log.Logger) (*Agent, error) {
 	a := &Agent{Agent: agent, name: name, settings: settings, log: logger, file: file, handed: map[uint64]uint64{}}
 	if file.length > 0 {
 		// (the life before may have been cut off in a line)
@@ -123,26 +123,48 @@ func (a *Agent) number(query *serfagent.Handed) uint64 {
 	return number
 }
 
-// ReceiveAll records a delivery for each packet that was taken or refused.
-func (a *Agent) ReceiveAll(now uint64, packets [][]byte) ([]gossip.Outcome, error) {
+// TakeAll records a delivery for each packet, and a firing for each event, that was taken or refused.
+func (a *Agent) TakeAll(now uint64, packets []serf.Packet, firings []serf.Firing) ([]serfagent.Outcome, error) {
 	a.mu.Lock()
 	defer a.mu.Unlock()
-	outcomes, err := a.Agent.ReceiveAll(now, packets)
+	outcomes, err := a.Agent.TakeAll(now, packets, firings)
 	a.write(func(l *lines) {
 		for i, outcome := range outcomes {
-			var number uint64
-			if outcome.Received != nil {
-				number = a.number(outcome.Received.Query)
+			if i < len(packets) {
+				a.delivered(l, now, packets[i], outcome)
+			} else {
+				a.fired(l, firings[i-len(packets)], outcome)
 			}
-			l.line("deliver").bytes(packets[i]).number(now)
-			l.came(packets[i], outcome, number)
-			l.end()
 		}
 		if err != nil {
 			l.failed(err)
 		}
 	})
 	return outcomes, err
+}
+
+// delivered spells what came of a packet. The pipe knows no tags: a query by tags that this node passes stands without these filters.
+func (a *Agent) delivered(l *lines, now uint64, packet serf.Packet, outcome serfagent.Outcome) {
+	var number uint64
+	if outcome.Received != nil {
+		number = a.number(outcome.Received.Query)
+	}
+	data := packet.Data
+	if packet.TagsPass {
+		data = serf.WithoutTagFilters(data)
+	}
+	l.line("deliver").bytes(data).number(now)
+	l.came(data, outcome, number)
+	l.end()
+}
+
+// fired spells what came of a firing.
+func (a *Agent) fired(l *lines, firing serf.Firing, outcome serfagent.Outcome) {
+	l.line("fire").bytes(firing.Name).bytes(firing.Payload).truth(firing.Coalesce)
+	a.answer(l, outcome.Err, nil, func() {
+		l.line("fired").number(outcome.Fired.Event.Time).sent(outcome.Fired.Packet)
+		l.event(outcome.Fired.Event)
+	})
 }
 
 // Merge records a merge.
@@ -192,22 +214,7 @@ func (a *Agent) LocalState(statuses []serfagent.Status, left []string) ([]byte, 
 	return packet, err
 }
 
-// Fire records a firing.
-func (a *Agent) Fire(name, payload []byte, coalesce bool) (*serfagent.Event, []byte, error) {
-	a.mu.Lock()
-	defer a.mu.Unlock()
-	event, packet, err := a.Agent.Fire(name, payload, coalesce)
-	a.write(func(l *lines) {
-		l.line("fire").bytes(name).bytes(payload).truth(coalesce)
-		a.answer(l, err, nil, func() {
-			l.line("fired").number(event.Time).sent(packet)
-			l.event(event)
-		})
-	})
-	return event, packet, err
-}
-
-// Query records a query.
+// Query records a query. As of a packet, one by tags that this node passes stands without these filters.
 func (a *Agent) Query(now uint64, id uint32, name, payload []byte, params serfagent.QueryParams) (*serfagent.Asked, error) {
 	a.mu.Lock()
 	defer a.mu.Unlock()
@@ -222,10 +229,16 @@ func (a *Agent) Query(now uint64, id uint32, name, payload []byte, params serfag
 	a.write(func(l *lines) {
 		l.line("query").number(now).number(uint64(id)).bytes(name).bytes(payload).number(uint64(params.Timeout)).number(flags)
 		for _, filter := range params.Filters {
-			l.bytes(filter)
+			if !params.TagsPass || !serf.IsTagFilter(filter) {
+				l.bytes(filter)
+			}
 		}
 		a.answer(l, err, nil, func() {
-			l.line("queried").number(asked.Time).sent(asked.Packet)
+			packet := asked.Packet
+			if params.TagsPass {
+				packet = serf.WithoutTagFilters(packet)
+			}
+			l.line("queried").number(asked.Time).sent(packet)
 			l.sent(asked.Ack)
 			l.handed(asked.Query, a.number(asked.Query))
 		})

@@ -13,7 +13,7 @@ import (
 	"syscall"
 	"testing"
 
-	"kitchenrue.example/agent/internal/gossip"
+	"kitchenrue.example/serf"
 	"kitchenrue.example/serfagent"
 )
 
@@ -30,7 +30,7 @@ func opened(t *testing.T, name, folder string, limit int64, logger *log.Logger) 
 	if err != nil {
 		t.Fatal(err)
 	}
-	agent, err := Start(gossip.Proved{Agent: proved}, file, name, settings, logger)
+	agent, err := Start(serf.Proved(proved), file, name, settings, logger)
 	if err != nil {
 		t.Fatal(err)
 	}
@@ -50,6 +50,27 @@ func TestLimitsOfPackets(t *testing.T) {
 	}
 }
 
+// fire fires an event by an agent: its packet.
+func fire(a *Agent, name, payload string, coalesce bool) ([]byte, error) {
+	outcomes, err := a.TakeAll(0, nil, []serf.Firing{{Name: []byte(name), Payload: []byte(payload), Coalesce: coalesce}})
+	if err != nil {
+		return nil, err
+	}
+	if outcomes[0].Fired == nil {
+		return nil, outcomes[0].Err
+	}
+	return outcomes[0].Fired.Packet, nil
+}
+
+// receive takes packets by an agent.
+func receive(a *Agent, now uint64, packets ...[]byte) ([]serfagent.Outcome, error) {
+	var all []serf.Packet
+	for _, packet := range packets {
+		all = append(all, serf.Packet{Data: packet})
+	}
+	return a.TakeAll(now, all, nil)
+}
+
 var quiet = log.New(io.Discard, "", 0)
 
 // recorded is the text of a record, without its moments.
@@ -65,7 +86,7 @@ func recorded(t *testing.T, path string) string {
 func TestCallsAndReplies(t *testing.T) {
 	folder := t.TempDir()
 	a, b := opened(t, "a", folder, 1<<20, quiet), opened(t, "b", folder, 1<<20, quiet)
-	_, fired, err := a.Fire([]byte("deploy"), []byte("v1"), false)
+	fired, err := fire(a, "deploy", "v1", false)
 	if err != nil {
 		t.Fatal(err)
 	}
@@ -73,7 +94,7 @@ func TestCallsAndReplies(t *testing.T) {
 	if err != nil {
 		t.Fatal(err)
 	}
-	outcomes, err := b.ReceiveAll(9, [][]byte{fired, fired, asked.Packet, {}, []byte("\x03\x81\xa4Name\xa1"), {9}})
+	outcomes, err := receive(b, 9, fired, fired, asked.Packet, []byte{}, []byte("\x03\x81\xa4Name\xa1"), []byte{9})
 	if err != nil || len(outcomes) != 6 {
 		t.Fatal(outcomes, err)
 	}
@@ -87,10 +108,10 @@ func TestCallsAndReplies(t *testing.T) {
 	if _, err := b.Respond(10, 99, nil); err != serfagent.NotHanded {
 		t.Error(err)
 	}
-	if _, err := a.ReceiveAll(20, [][]byte{outcomes[2].Received.Ack, reply, reply}); err != nil {
+	if _, err := receive(a, 20, outcomes[2].Received.Ack, reply, reply); err != nil {
 		t.Error(err)
 	}
-	if _, _, err := a.Fire(bytes.Repeat([]byte("x"), 600), nil, true); err != serfagent.TooLarge {
+	if _, err := fire(a, strings.Repeat("x", 600), "", true); err != serfagent.TooLarge {
 		t.Error(err)
 	}
 	for i := uint64(0); i < 3; i++ {
@@ -123,7 +144,7 @@ func TestCallsAndReplies(t *testing.T) {
 func TestStatesClocksAndLives(t *testing.T) {
 	folder := t.TempDir()
 	a, b := opened(t, "a", folder, 1<<20, quiet), opened(t, "b", folder, 1<<20, quiet)
-	if _, _, err := a.Fire([]byte("x"), nil, false); err != nil {
+	if _, err := fire(a, "x", "", false); err != nil {
 		t.Fatal(err)
 	}
 	state, err := a.LocalState([]serfagent.Status{{Name: "a", Time: 3}}, nil)
@@ -170,7 +191,7 @@ func TestFilesTurnOver(t *testing.T) {
 	folder := t.TempDir()
 	a := opened(t, "a", folder, 1<<12, quiet)
 	for i := 0; i < 1000; i++ {
-		if _, _, err := a.Fire([]byte("x"), []byte("y"), false); err != nil {
+		if _, err := fire(a, "x", "y", false); err != nil {
 			t.Fatal(err)
 		}
 	}
@@ -239,7 +260,7 @@ func TestFullDisk(t *testing.T) {
 	a.file.file.Close()
 	a.file.file = full
 	for i := 0; i < 3; i++ {
-		if _, _, err := a.Fire([]byte("x"), nil, false); err != nil {
+		if _, err := fire(a, "x", "", false); err != nil {
 			t.Fatal(err)
 		}
 	}

@@ -10,8 +10,8 @@ import (
 	"sync"
 	"time"
 
-	"kitchenrue.example/agent/internal/event"
 	"kitchenrue.example/agent/internal/handlers"
+	"kitchenrue.example/serf"
 )
 
 // times are how long a client may take: to say who it is, to send the rest of a request, to take what is sent to it, to take what is
@@ -54,13 +54,13 @@ type client struct {
 	isLast, isOver bool
 	streams        map[uint64]handlers.Filters
 	stops          map[uint64]*follower
-	asked          map[uint64]*event.Event
+	asked          map[uint64]*serf.Query
 }
 
 func newClient(s *Server, conn net.Conn) *client {
 	c := &client{
 		server: s, conn: conn, in: &reader{in: bufio.NewReaderSize(conn, 4<<10)}, isKnown: s.auth == "", times: s.times, began: time.Now(),
-		streams: map[uint64]handlers.Filters{}, stops: map[uint64]*follower{}, asked: map[uint64]*event.Event{},
+		streams: map[uint64]handlers.Filters{}, stops: map[uint64]*follower{}, asked: map[uint64]*serf.Query{},
 	}
 	c.ctx, c.cancel = context.WithCancel(s.ctx)
 	c.changed = sync.NewCond(&c.mu)
@@ -299,7 +299,9 @@ func (c *client) follow(seq uint64, run func(ctx context.Context)) {
 
 // published is an event as streams have it.
 type published struct {
-	*event.Event
+	serf.Event
+	// number names it, where it is a query.
+	number uint64
 	record []byte
 }
 
@@ -307,7 +309,7 @@ type published struct {
 func (p *published) after(header answerHeader) ([]byte, error) {
 	var err error
 	if p.record == nil {
-		if p.record, err = encode(recordOf(p.Event)); err != nil {
+		if p.record, err = encode(recordOf(p.Event, p.number)); err != nil {
 			return nil, err
 		}
 	}
@@ -324,8 +326,8 @@ func (c *client) publish(e *published) {
 			seqs = append(seqs, seq)
 		}
 	}
-	if len(seqs) > 0 && e.Query != nil {
-		c.remember(e.Event)
+	if query, is := e.Event.(*serf.Query); is && len(seqs) > 0 {
+		c.remember(e.number, query)
 	}
 	c.mu.Unlock()
 	for _, seq := range seqs {
@@ -343,14 +345,14 @@ func (c *client) publish(e *published) {
 }
 
 // remember keeps a query that the client may answer, and forgets those whose time is over.
-func (c *client) remember(e *event.Event) {
+func (c *client) remember(number uint64, query *serf.Query) {
 	now := time.Now()
 	for number, one := range c.asked {
-		if now.After(one.Query.Deadline) {
+		if now.After(one.Deadline()) {
 			delete(c.asked, number)
 		}
 	}
 	if len(c.asked) < maxUnanswered {
-		c.asked[e.Query.Number] = e
+		c.asked[number] = query
 	}
 }

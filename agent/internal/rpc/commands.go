@@ -10,9 +10,11 @@ import (
 	"strings"
 	"time"
 
-	"kitchenrue.example/agent/internal/event"
+	"github.com/hashicorp/serf/coordinate"
+
 	"kitchenrue.example/agent/internal/handlers"
 	"kitchenrue.example/agent/internal/logs"
+	"kitchenrue.example/serf"
 )
 
 // command is what a request asks for: its body, where it has one, and what is done. An error ends the client.
@@ -50,18 +52,22 @@ func init() {
 		"leave":            alone((*client).leave),
 		"query":            with((*client).query),
 		"respond":          with((*client).respond),
-		"install-key":      keyed(InstallKey),
-		"use-key":          keyed(UseKey),
-		"remove-key":       keyed(RemoveKey),
-		"list-keys":        alone(func(c *client, seq uint64) error { return c.key(seq, ListKeys, "") }),
+		"install-key":      keyed((*serf.KeyManager).InstallKey),
+		"use-key":          keyed((*serf.KeyManager).UseKey),
+		"remove-key":       keyed((*serf.KeyManager).RemoveKey),
+		"list-keys":        alone((*client).keys),
 		"stats":            alone((*client).stats),
 		"get-coordinate":   with((*client).coordinate),
 	}
 }
 
-func keyed(what KeyCommand) command {
-	return with(func(c *client, seq uint64, body *keyBody) error { return c.key(seq, what, body.Key) })
+func keyed(does func(*serf.KeyManager, string) (*serf.KeyResponse, error)) command {
+	return with(func(c *client, seq uint64, body *keyBody) error {
+		return c.key(seq, func() (*serf.KeyResponse, error) { return does(c.server.backend.KeyManager(), body.Key) })
+	})
 }
+
+func (c *client) keys(seq uint64) error { return c.key(seq, c.server.backend.KeyManager().ListKeys) }
 
 func (c *client) handshake(seq uint64, body *handshakeBody) error {
 	switch {
@@ -95,14 +101,18 @@ func (c *client) forceLeave(seq uint64, body *forceLeaveBody) error {
 }
 
 func (c *client) join(seq uint64, body *joinBody) error {
-	// (a join may wait long for each address, and the end of the agent doesn't wait for it)
-	joined := make(chan func() error, 1)
-	go func() {
-		count, err := c.server.backend.Join(c.ctx, body.Existing, body.Replay)
-		joined <- func() error { return c.answer(seq, err, joinAnswer{int32(count)}) }
-	}()
+	return c.outlasted(func() func() error {
+		count, err := c.server.backend.Join(body.Existing, body.Replay)
+		return func() error { return c.answer(seq, err, joinAnswer{int32(count)}) }
+	})
+}
+
+// outlasted does what may last, and answers then. The end of the agent doesn't wait for it.
+func (c *client) outlasted(done func() (answer func() error)) error {
+	answers := make(chan func() error, 1)
+	go func() { answers <- done() }()
 	select {
-	case answer := <-joined:
+	case answer := <-answers:
 		return answer()
 	case <-c.server.ctx.Done():
 		return net.ErrClosed
@@ -131,30 +141,30 @@ func anchored(text string) (*regexp.Regexp, error) {
 	return found, nil
 }
 
-func filteredMembers(all []event.Member, by *filteredBody) ([]event.Member, error) {
-	var tests []func(*event.Member) bool
-	add := func(text string, of func(*event.Member) string) error {
+func filteredMembers(all []serf.Member, by *filteredBody) ([]serf.Member, error) {
+	var tests []func(*serf.Member) bool
+	add := func(text string, of func(*serf.Member) string) error {
 		expression, err := anchored(text)
-		tests = append(tests, func(one *event.Member) bool { return expression.MatchString(of(one)) })
+		tests = append(tests, func(one *serf.Member) bool { return expression.MatchString(of(one)) })
 		return err
 	}
 	for key, text := range by.Tags {
 		key := key
-		if err := add(text, func(one *event.Member) string { return one.Tags[key] }); err != nil {
+		if err := add(text, func(one *serf.Member) string { return one.Tags[key] }); err != nil {
 			return nil, err
 		}
 	}
 	if by.Status != "" {
-		if err := add(by.Status, func(one *event.Member) string { return one.Status.String() }); err != nil {
+		if err := add(by.Status, func(one *serf.Member) string { return one.Status.String() }); err != nil {
 			return nil, err
 		}
 	}
 	if by.Name != "" {
-		if err := add(by.Name, func(one *event.Member) string { return one.Name }); err != nil {
+		if err := add(by.Name, func(one *serf.Member) string { return one.Name }); err != nil {
 			return nil, err
 		}
 	}
-	var found []event.Member
+	var found []serf.Member
 next:
 	for i := range all {
 		for _, test := range tests {
@@ -233,7 +243,7 @@ func (c *client) stop(seq uint64, body *stopBody) error {
 
 func (c *client) leave(seq uint64) error {
 	// (the client's end doesn't end it)
-	err := c.server.backend.Leave(c.server.ctx)
+	err := c.server.backend.Leave()
 	answered := c.answer(seq, err)
 	if err == nil {
 		c.server.backend.Shutdown()
@@ -245,33 +255,44 @@ func (c *client) query(seq uint64, body *queryBody) error {
 	if c.isFull() {
 		return c.answer(seq, errFull)
 	}
-	asked, err := c.server.backend.Query(QueryParams{
-		Name: body.Name, Payload: body.Payload, Nodes: body.FilterNodes, Tags: body.FilterTags, WantAck: body.RequestAck,
-		RelayFactor: body.RelayFactor, Timeout: time.Duration(body.Timeout),
+	asked, err := c.server.backend.Query(body.Name, body.Payload, &serf.QueryParam{
+		FilterNodes: body.FilterNodes, FilterTags: body.FilterTags, RequestAck: body.RequestAck, RelayFactor: body.RelayFactor,
+		Timeout: time.Duration(body.Timeout),
 	})
 	if err := c.answer(seq, err); err != nil || asked == nil {
 		return err
 	}
 	c.follow(seq, func(ctx context.Context) {
-		for {
-			record := queryRecord{Type: "done"}
-			select {
-			case <-ctx.Done():
+		defer asked.Close()
+		for record, more := nextRecord(ctx, asked); ; record, more = nextRecord(ctx, asked) {
+			if ctx.Err() != nil || c.send(answerHeader{Seq: seq}, record) != nil || !more {
 				return
-			case answer, more := <-asked.Answers:
-				if more {
-					record = queryRecord{"response", answer.From, answer.Payload}
-				}
-				if more && answer.IsAck {
-					record = queryRecord{"ack", answer.From, nil}
-				}
-				if c.send(answerHeader{Seq: seq}, record) != nil || !more {
-					return
-				}
 			}
 		}
 	})
 	return nil
+}
+
+// nextRecord waits for what comes of a query next; false beside its last record.
+func nextRecord(ctx context.Context, asked *serf.QueryResponse) (queryRecord, bool) {
+	acks, responses := asked.AckCh(), asked.ResponseCh()
+	for acks != nil || responses != nil {
+		select {
+		case <-ctx.Done():
+			return queryRecord{}, false
+		case from, more := <-acks:
+			if more {
+				return queryRecord{"ack", from, nil}, true
+			}
+			acks = nil
+		case answer, more := <-responses:
+			if more {
+				return queryRecord{"response", answer.From, answer.Payload}, true
+			}
+			responses = nil
+		}
+	}
+	return queryRecord{Type: "done"}, false
 }
 
 func (c *client) respond(seq uint64, body *respondBody) error {
@@ -282,19 +303,27 @@ func (c *client) respond(seq uint64, body *respondBody) error {
 	if asked == nil {
 		return c.answer(seq, errors.New("No pending queries matching ID"))
 	}
-	return c.answer(seq, asked.Query.Respond(body.Payload))
+	return c.answer(seq, asked.Respond(body.Payload))
 }
 
-func (c *client) key(seq uint64, what KeyCommand, key string) error {
-	found, err := c.server.backend.Key(c.ctx, what, key)
-	return c.answer(seq, err, keyAnswer{found.Messages, found.Errors, found.Nodes, found.Answers, found.Keys})
+func (c *client) key(seq uint64, does func() (*serf.KeyResponse, error)) error {
+	return c.outlasted(func() func() error {
+		found, err := does()
+		return func() error {
+			return c.answer(seq, err, keyAnswer{found.Messages, found.NumErr, found.NumNodes, found.NumResp, found.Keys})
+		}
+	})
 }
 
 func (c *client) stats(seq uint64) error {
 	return c.answer(seq, nil, c.server.backend.Stats())
 }
 
-// coordinate knows none.
-func (c *client) coordinate(seq uint64, _ *coordinateBody) error {
-	return c.answer(seq, nil, coordinateAnswer{map[string]interface{}{"Adjustment": 0.0, "Error": 0.0, "Height": 0.0, "Vec": nil}, false})
+// coordinate says where a node is; of one that isn't known nothing but that.
+func (c *client) coordinate(seq uint64, body *coordinateBody) error {
+	at, is := c.server.backend.Coordinate(body.Node)
+	if !is {
+		at = &coordinate.Coordinate{}
+	}
+	return c.answer(seq, nil, coordinateAnswer{*at, is})
 }

@@ -1,17 +1,21 @@
 package rpc
 
 import (
-	"errors"
+	"encoding/base64"
 	"fmt"
 	"reflect"
+	"sort"
 	"testing"
 	"time"
 
-	"kitchenrue.example/agent/internal/event"
+	"github.com/hashicorp/serf/coordinate"
+
+	"kitchenrue.example/serf"
 )
 
 func TestCommands(t *testing.T) {
 	s, f, _ := start(t, "")
+	f.withNode(t)
 	p := dial(t, s).greet()
 	p.says(p.ask("handshake", handshakeBody{1}), "Handshake already performed")
 	p.says(p.ask("handshake", handshakeBody{2}), "Unsupported IPC version")
@@ -31,10 +35,10 @@ func TestCommands(t *testing.T) {
 	}
 	var keys keyAnswer
 	p.says(p.ask("list-keys"), "")
-	if p.read(&keys); keys.NumNodes != 2 || keys.Keys["list-keys"] != 1 {
+	if p.read(&keys); keys.NumNodes != 1 || keys.Keys[base64.StdEncoding.EncodeToString(make([]byte, 32))] != 1 {
 		t.Error(keys)
 	}
-	p.says(p.ask("install-key", keyBody{"xx"}), "illegal base64")
+	p.says(p.ask("install-key", keyBody{"%"}), "illegal base64 data at input byte 0")
 	p.read(&keys)
 	var stats map[string]map[string]string
 	p.says(p.ask("stats"), "")
@@ -42,9 +46,12 @@ func TestCommands(t *testing.T) {
 		t.Error(stats)
 	}
 	var place coordinateAnswer
-	p.says(p.ask("get-coordinate", coordinateBody{"alpha"}), "")
-	if p.read(&place); place.Ok {
-		t.Error(place)
+	for name, want := range map[string]coordinateAnswer{"alpha": {coordinate.Coordinate{Vec: []float64{1, 2}, Height: 3}, true}, "beta": {}} {
+		p.says(p.ask("get-coordinate", coordinateBody{name}), "")
+		place = coordinateAnswer{}
+		if p.read(&place); !reflect.DeepEqual(place, want) {
+			t.Error(name, place)
+		}
 	}
 	p.says(p.ask("respond", respondBody{ID: 9}), "No pending queries matching ID")
 	p.says(p.ask("stop", stopBody{77}), "")
@@ -96,7 +103,7 @@ func TestMembers(t *testing.T) {
 }
 
 func TestStreams(t *testing.T) {
-	s, _, _ := start(t, "")
+	s, f, _ := start(t, "")
 	p := dial(t, s).greet()
 	p.says(p.ask("stream", streamBody{"foo"}), "Invalid event filter")
 	users, queries := p.ask("stream", streamBody{"user:deploy"}), uint64(0)
@@ -104,15 +111,11 @@ func TestStreams(t *testing.T) {
 	queries = p.ask("stream", streamBody{"query,member-join"})
 	p.says(queries, "")
 	eventually(t, func() bool { return streams(s) == 2 })
-	var answered string
-	query := &event.Query{Number: 7, Deadline: time.Now().Add(time.Minute), Respond: func(payload []byte) error {
-		answered = string(payload)
-		return errors.New("said")
-	}}
-	s.Publish(&event.Event{Kind: event.User, Name: "other"})
-	s.Publish(&event.Event{Kind: event.User, Name: "deploy", LTime: 3, Payload: []byte("v1"), Coalesce: true})
-	s.Publish(&event.Event{Kind: event.MemberJoin, Members: []event.Member{{Name: "gamma"}}})
-	s.Publish(&event.Event{Kind: event.Asked, Name: "load", LTime: 4, Query: query})
+	one, answers := query(t, f, f.withNode(t))
+	s.Publish(serf.UserEvent{Name: "other"})
+	s.Publish(serf.UserEvent{Name: "deploy", LTime: 3, Payload: []byte("v1"), Coalesce: true})
+	s.Publish(serf.MemberEvent{Type: serf.EventMemberJoin, Members: []serf.Member{{Name: "gamma"}}})
+	s.Publish(one)
 	var user userRecord
 	p.says(users, "")
 	if p.read(&user); !reflect.DeepEqual(user, userRecord{"user", 3, "deploy", []byte("v1"), true}) {
@@ -125,16 +128,16 @@ func TestStreams(t *testing.T) {
 	}
 	var asked askedRecord
 	p.says(queries, "")
-	if p.read(&asked); asked.ID != 7 || asked.Name != "load" || asked.Event != "query" {
+	if p.read(&asked); asked.ID != 1 || asked.Name != "load" || asked.Event != "query" {
 		t.Error(asked)
 	}
-	p.says(p.ask("respond", respondBody{7, []byte("0.12")}), "said")
-	if answered != "0.12" {
-		t.Error(answered)
+	p.says(p.ask("respond", respondBody{1, []byte("0.12")}), "")
+	if answer := <-answers.ResponseCh(); string(answer.Payload) != "0.12" {
+		t.Error(answer)
 	}
-	p.says(p.ask("respond", respondBody{7, nil}), "No pending queries matching ID")
+	p.says(p.ask("respond", respondBody{1, nil}), "No pending queries matching ID")
 	p.says(p.ask("stop", stopBody{users}), "")
-	s.Publish(&event.Event{Kind: event.User, Name: "deploy"})
+	s.Publish(serf.UserEvent{Name: "deploy"})
 	p.says(p.ask("stop", stopBody{queries}), "")
 }
 
@@ -142,17 +145,28 @@ func TestQueries(t *testing.T) {
 	s, f, _ := start(t, "")
 	p := dial(t, s).greet()
 	p.says(p.ask("query", queryBody{Name: "large"}), "query exceeds limit of 1024 bytes")
-	f.answers <- Answer{true, "alpha", nil}
-	f.answers <- Answer{false, "alpha", []byte("x")}
-	close(f.answers)
-	seq := p.ask("query", queryBody{Name: "load"})
+	events := f.withNode(t)
+	seq := p.ask("query", queryBody{Name: "load", RequestAck: true, Timeout: int64(2 * time.Second)})
 	p.says(seq, "")
-	for _, want := range []queryRecord{{"ack", "alpha", nil}, {"response", "alpha", []byte("x")}, {"done", "", nil}} {
+	go func() {
+		for e := range events {
+			if one, is := e.(*serf.Query); is {
+				_ = one.Respond([]byte("x"))
+			}
+		}
+	}()
+	var found []string
+	for {
 		var record queryRecord
 		p.says(seq, "")
-		if p.read(&record); !reflect.DeepEqual(record, want) {
-			t.Errorf("%+v", record)
+		p.read(&record)
+		if found = append(found, fmt.Sprint(record.Type, record.From, string(record.Payload))); record.Type == "done" {
+			break
 		}
+	}
+	sort.Strings(found)
+	if !reflect.DeepEqual(found, []string{"ackalpha", "done", "responsealphax"}) {
+		t.Error(found)
 	}
 }
 

@@ -3,25 +3,29 @@ package rpc
 import (
 	"bufio"
 	"bytes"
-	"context"
 	"errors"
+	"io"
 	"net"
 	"sync"
 	"testing"
 	"time"
 
-	"kitchenrue.example/agent/internal/event"
+	"github.com/hashicorp/memberlist"
+	"github.com/hashicorp/serf/coordinate"
+
 	"kitchenrue.example/agent/internal/logs"
+	"kitchenrue.example/serf"
 )
 
 // fake is a backend that notes what it is asked for.
 type fake struct {
-	mu      sync.Mutex
-	calls   []string
-	answers chan Answer
-	isOver  bool
+	mu     sync.Mutex
+	calls  []string
+	isOver bool
+	// node answers queries and has keys, where a test has one.
+	node *serf.Serf
 	// more members, for long answers
-	more []event.Member
+	more []serf.Member
 	// Where it isn't nil, a join lasts until it is closed.
 	joins chan struct{}
 }
@@ -40,14 +44,14 @@ func (f *fake) Fire(name string, payload []byte, _ bool) error {
 	return nil
 }
 
-func (f *fake) Members() []event.Member {
-	return append([]event.Member{
-		{Name: "alpha", Addr: net.IPv4(127, 0, 0, 1), Port: 7946, Tags: map[string]string{"role": "web"}, Status: event.Alive, ProtocolMin: 1, DelegateCur: 5},
-		{Name: "beta", Addr: net.ParseIP("::1"), Status: event.Failed},
+func (f *fake) Members() []serf.Member {
+	return append([]serf.Member{
+		{Name: "alpha", Addr: net.IPv4(127, 0, 0, 1), Port: 7946, Tags: map[string]string{"role": "web"}, Status: serf.StatusAlive, ProtocolMin: 1, DelegateCur: 5},
+		{Name: "beta", Addr: net.ParseIP("::1"), Status: serf.StatusFailed},
 	}, f.more...)
 }
 
-func (f *fake) Join(_ context.Context, existing []string, replay bool) (int, error) {
+func (f *fake) Join(existing []string, replay bool) (int, error) {
 	if f.joins != nil {
 		<-f.joins
 	}
@@ -57,7 +61,7 @@ func (f *fake) Join(_ context.Context, existing []string, replay bool) (int, err
 	return len(existing), nil
 }
 
-func (f *fake) Leave(context.Context) error { f.call("leave"); return nil }
+func (f *fake) Leave() error { f.call("leave"); return nil }
 
 func (f *fake) Shutdown() { f.mu.Lock(); f.isOver = true; f.mu.Unlock() }
 
@@ -68,22 +72,52 @@ func (f *fake) UpdateTags(set map[string]string, remove []string) error {
 	return nil
 }
 
-func (f *fake) Query(params QueryParams) (*Asked, error) {
-	if params.Name == "large" {
+func (f *fake) Query(name string, payload []byte, params *serf.QueryParam) (*serf.QueryResponse, error) {
+	f.call("query " + name)
+	if name == "large" {
 		return nil, errors.New("query exceeds limit of 1024 bytes")
 	}
-	return &Asked{f.answers}, nil
+	return f.node.Query(name, payload, params)
 }
 
-func (f *fake) Key(_ context.Context, what KeyCommand, key string) (KeyResult, error) {
-	if key == "xx" {
-		return KeyResult{}, errors.New("illegal base64")
-	}
-	return KeyResult{Messages: map[string]string{"a": "b"}, Nodes: 2, Answers: 1, Keys: map[string]int{string(what): 1}}, nil
+func (f *fake) KeyManager() *serf.KeyManager { return f.node.KeyManager() }
+
+func (f *fake) Coordinate(node string) (*coordinate.Coordinate, bool) {
+	return &coordinate.Coordinate{Vec: []float64{1, 2}, Height: 3}, node == "alpha"
 }
 
 func (f *fake) Stats() map[string]map[string]string {
 	return map[string]map[string]string{"agent": {"name": "alpha"}}
+}
+
+// withNode gives the backend a node of its own, with a key: what it hands out.
+func (f *fake) withNode(t *testing.T) <-chan serf.Event {
+	t.Helper()
+	events := make(chan serf.Event, 64)
+	c := serf.DefaultConfig()
+	c.NodeName, c.EventCh, c.LogOutput, c.MemberlistConfig = "alpha", events, io.Discard, memberlist.DefaultLocalConfig()
+	c.MemberlistConfig.BindAddr, c.MemberlistConfig.BindPort, c.MemberlistConfig.SecretKey = "127.0.0.1", 0, make([]byte, 32)
+	var err error
+	if f.node, err = serf.Create(c); err != nil {
+		t.Fatal(err)
+	}
+	t.Cleanup(func() { _ = f.node.Shutdown() })
+	return events
+}
+
+// query is a query that a node hands out.
+func query(t *testing.T, f *fake, events <-chan serf.Event) (*serf.Query, *serf.QueryResponse) {
+	t.Helper()
+	asked, err := f.node.Query("load", nil, &serf.QueryParam{RequestAck: true, Timeout: 10 * time.Second})
+	if err != nil {
+		t.Fatal(err)
+	}
+	for e := range events {
+		if one, is := e.(*serf.Query); is {
+			return one, asked
+		}
+	}
+	return nil, nil
 }
 
 var quick = times{2 * time.Second, time.Second, time.Second, 200 * time.Millisecond, time.Millisecond}
@@ -96,7 +130,7 @@ func start(t *testing.T, token string) (*Server, *fake, *logs.Log) {
 
 func startBy(t *testing.T, token string, times times) (*Server, *fake, *logs.Log) {
 	t.Helper()
-	f := &fake{answers: make(chan Answer, 8)}
+	f := &fake{}
 	log := logs.New(&bytes.Buffer{}, logs.Trace)
 	s, err := listen("127.0.0.1:0", token, f, log, times)
 	if err != nil {

@@ -7,7 +7,7 @@ import (
 	"sync"
 	"testing"
 
-	"kitchenrue.example/agent/internal/event"
+	"kitchenrue.example/serf"
 )
 
 // What waits is written together, in order and within a bound; what is longer alone is written alone.
@@ -58,7 +58,7 @@ func TestAnEventOfManyStreams(t *testing.T) {
 	}
 	eventually(t, func() bool { return streams(s) == 3 })
 	for number := uint64(1); number <= 100; number++ {
-		s.Publish(&event.Event{Kind: event.User, Name: "deploy", LTime: number, Payload: []byte("v1")})
+		s.Publish(serf.UserEvent{Name: "deploy", LTime: serf.LamportTime(number), Payload: []byte("v1")})
 	}
 	for p, all := range seqs {
 		for number := uint64(1); number <= 100; number++ {
@@ -82,7 +82,7 @@ func TestAnEventOfManyStreams(t *testing.T) {
 
 // Text is written raw, and bytes as bin, as Serf's agents and clients have it; both are read as either.
 func TestBytesAreBin(t *testing.T) {
-	all := []event.Member{{Name: "a", Addr: net.IPv4(127, 0, 0, 1), Tags: map[string]string{"k": "v"}}}
+	all := []serf.Member{{Name: "a", Addr: net.IPv4(127, 0, 0, 1), Tags: map[string]string{"k": "v"}}}
 	for want, value := range map[string]interface{}{
 		"\xa7Payload\xc4\x03\xff\xfe\x00":  userRecord{Event: "user", Name: "x", Payload: []byte("\xff\xfe\x00")},
 		"\xa7Payload\xc4\x01\x80":          askedRecord{Event: "query", Name: "x", Payload: []byte("\x80")},

@@ -10,7 +10,7 @@ import (
 	"testing"
 	"time"
 
-	"kitchenrue.example/agent/internal/event"
+	"kitchenrue.example/serf"
 )
 
 func TestBeforeTheGreeting(t *testing.T) {
@@ -137,8 +137,9 @@ func TestTooManyStreams(t *testing.T) {
 	if len(f.calls) != 0 {
 		t.Error(f.calls)
 	}
+	one, _ := query(t, f, f.withNode(t))
 	for i := uint64(0); i < 2*maxUnanswered; i++ {
-		s.Publish(&event.Event{Kind: event.Asked, Query: &event.Query{Number: i, Deadline: time.Now().Add(time.Minute)}})
+		s.Publish(one)
 		if unanswered := counted(s, func(c *client) int { return len(c.asked) }); unanswered > maxUnanswered {
 			t.Fatal(unanswered)
 		}
@@ -159,7 +160,7 @@ func TestSlowClient(t *testing.T) {
 	payload := bytes.Repeat([]byte("x"), 4000)
 	began := time.Now()
 	for i := 0; i < 10000; i++ {
-		s.Publish(&event.Event{Kind: event.User, Name: "deploy", Payload: payload})
+		s.Publish(serf.UserEvent{Name: "deploy", Payload: payload})
 	}
 	if length := time.Since(began); length > 10*time.Second {
 		t.Errorf("it waited %v", length)
@@ -175,14 +176,14 @@ func TestClientThatTakesNothing(t *testing.T) {
 	p.says(p.ask("stream", streamBody{"user:deploy"}), "")
 	eventually(t, func() bool { return streams(s) == 1 })
 	for i := 0; i < 1800; i++ {
-		s.Publish(&event.Event{Kind: event.User, Name: "deploy", Payload: make([]byte, 4000)})
+		s.Publish(serf.UserEvent{Name: "deploy", Payload: make([]byte, 4000)})
 	}
 	eventually(t, func() bool { return clients(s) == 0 })
 }
 
 func TestAClientThatOnlyAsks(t *testing.T) {
 	s, f, _ := start(t, "")
-	f.more = make([]event.Member, 2000)
+	f.more = make([]serf.Member, 2000)
 	p := dial(t, s).greet()
 	data, err := encode(requestHeader{"members", 1})
 	if err != nil {

@@ -3,7 +3,9 @@ package rpc
 import (
 	"net"
 
-	"kitchenrue.example/agent/internal/event"
+	"github.com/hashicorp/serf/coordinate"
+
+	"kitchenrue.example/serf"
 )
 
 // What is asked and answered, with the names of the protocol.
@@ -78,7 +80,7 @@ type keyBody struct{ Key string }
 type coordinateBody struct{ Node string }
 
 type coordinateAnswer struct {
-	Coord interface{}
+	Coord coordinate.Coordinate
 	Ok    bool
 }
 
@@ -130,7 +132,7 @@ type member struct {
 	DelegateCur uint8
 }
 
-func membersOf(all []event.Member) []member {
+func membersOf(all []serf.Member) []member {
 	found := make([]member, 0, len(all))
 	for _, one := range all {
 		addr := one.Addr
@@ -149,13 +151,14 @@ func membersOf(all []event.Member) []member {
 	return found
 }
 
-// recordOf is what a stream says of an event.
-func recordOf(e *event.Event) interface{} {
-	switch e.Kind {
-	case event.User:
-		return userRecord{"user", e.LTime, e.Name, e.Payload, e.Coalesce}
-	case event.Asked:
-		return askedRecord{"query", e.Query.Number, e.LTime, e.Name, e.Payload}
+// recordOf is what a stream says of an event. A query has a number.
+func recordOf(e serf.Event, number uint64) interface{} {
+	switch e := e.(type) {
+	case serf.UserEvent:
+		return userRecord{"user", uint64(e.LTime), e.Name, e.Payload, e.Coalesce}
+	case *serf.Query:
+		return askedRecord{"query", number, uint64(e.LTime), e.Name, e.Payload}
 	}
-	return membersRecord{string(e.Kind), membersOf(e.Members)}
+	about := e.(serf.MemberEvent)
+	return membersRecord{about.Type.String(), membersOf(about.Members)}
 }

@@ -11,68 +11,32 @@ import (
 	"sync"
 	"time"
 
-	"kitchenrue.example/agent/internal/event"
+	"github.com/hashicorp/serf/coordinate"
+
 	"kitchenrue.example/agent/internal/logs"
+	"kitchenrue.example/serf"
 )
 
 // MaxClients is how many clients there may be at once.
 const MaxClients = 128
 
-// Backend is what requests ask for.
+// Backend is what requests ask for: a node, and what the agent has beside it.
 type Backend interface {
 	// Fire fires an event in the whole cluster.
 	Fire(name string, payload []byte, coalesce bool) error
-	Members() []event.Member
+	Members() []serf.Member
 	// Join joins by these addresses: how many were joined.
-	Join(ctx context.Context, existing []string, replay bool) (int, error)
+	Join(existing []string, replay bool) (int, error)
 	// Leave leaves the cluster. Shutdown, which comes behind it, ends the agent and doesn't wait.
-	Leave(ctx context.Context) error
+	Leave() error
 	Shutdown()
 	ForceLeave(name string, prune bool) error
 	UpdateTags(set map[string]string, remove []string) error
-	Query(params QueryParams) (*Asked, error)
-	// Key does this to the keys of all nodes.
-	Key(ctx context.Context, what KeyCommand, key string) (KeyResult, error)
+	Query(name string, payload []byte, params *serf.QueryParam) (*serf.QueryResponse, error)
+	KeyManager() *serf.KeyManager
 	Stats() map[string]map[string]string
-}
-
-// QueryParams are a query. A timeout of 0 is the cluster's own.
-type QueryParams struct {
-	Name        string
-	Payload     []byte
-	Nodes       []string
-	Tags        map[string]string
-	WantAck     bool
-	RelayFactor uint8
-	Timeout     time.Duration
-}
-
-// Asked is a query that was fired: Answers is closed when its time is over. Nobody waits until they are taken.
-type Asked struct{ Answers <-chan Answer }
-
-// Answer is an ack or a response of a node.
-type Answer struct {
-	IsAck   bool
-	From    string
-	Payload []byte
-}
-
-// KeyCommand is what is done to keys.
-type KeyCommand string
-
-// The commands.
-const (
-	InstallKey KeyCommand = "install-key"
-	UseKey     KeyCommand = "use-key"
-	RemoveKey  KeyCommand = "remove-key"
-	ListKeys   KeyCommand = "list-keys"
-)
-
-// KeyResult is what the nodes said: what was wrong at which, and how many have which key.
-type KeyResult struct {
-	Messages               map[string]string
-	Errors, Nodes, Answers int
-	Keys                   map[string]int
+	// Coordinate is the last one that is known of a node.
+	Coordinate(node string) (*coordinate.Coordinate, bool)
 }
 
 // Server takes requests.
@@ -88,6 +52,8 @@ type Server struct {
 
 	mu      sync.Mutex
 	clients map[*client]struct{}
+	// queries is how many queries were published, by which they are numbered.
+	queries uint64
 }
 
 // Listen begins to take requests. A token that isn't empty has to be said by each client.
@@ -157,10 +123,13 @@ func (s *Server) serve(conn net.Conn) {
 }
 
 // Publish tells all streams of an event. It doesn't wait.
-func (s *Server) Publish(e *event.Event) {
+func (s *Server) Publish(e serf.Event) {
 	s.mu.Lock()
 	defer s.mu.Unlock()
-	one := &published{Event: e}
+	if e.EventType() == serf.EventQuery {
+		s.queries++
+	}
+	one := &published{Event: e, number: s.queries}
 	for c := range s.clients {
 		c.publish(one)
 	}

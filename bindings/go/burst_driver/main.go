@@ -71,6 +71,15 @@ func done(agent *serfagent.Agent, burst *serfagent.Burst) []serfagent.Outcome {
 	end := "ok"
 	if err == serfagent.OutOfMemory {
 		end = fmt.Sprintf("out of memory %d", len(outcomes))
+		// (the burst may be filled anew, and no other is made before these outcomes are read)
+		burst.Reset()
+		left, err := agent.UnreadOutcomes()
+		check(err)
+		if left > 0 {
+			if _, err := agent.Burst(burst); err != serfagent.ErrUnread {
+				log.Fatal("a burst is made behind one that nobody read: ", err)
+			}
+		}
 		more, err := agent.Outcomes()
 		check(err)
 		outcomes = append(outcomes, more...)
@@ -95,7 +104,7 @@ func starve(third *serfagent.Agent, events [][]byte, load []byte) {
 		}
 		burst.Receive(5, load)
 		burst.Fire([]byte("own"), nil, false)
-		filters := [][]byte{[]byte("\x00\x91\xa5third")}
+		filters := [][]byte{[]byte("\x00\x91\xa5" + []string{"other", "third"}[i])}
 		burst.Query(5, 9, []byte("load"), nil, serfagent.QueryParams{Timeout: 9, WantAck: true, Filters: filters})
 		burst.Receive(5, events[0])
 		done(third, &burst)

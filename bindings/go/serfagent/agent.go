@@ -28,7 +28,7 @@ import (
 type Agent struct {
 	mu     sync.Mutex
 	handle *C.struct_serf_agent // in C's memory, which Go neither moves nor copies
-	store  *Store
+	store  keeper
 	// whether a call that failed may have left filters, or members, which the next one would take
 	staleFilters, staleMembers bool
 	// the calls of bursts whose outcomes nobody has read yet
@@ -56,6 +56,13 @@ func ptr(data []byte) *C.uint8_t {
 
 func size(data []byte) C.size_t { return C.size_t(len(data)) }
 
+// keeper is what keeps an agent's text: a Store, or nothing at all.
+type keeper interface {
+	Append(data []byte) error
+	Replace(data []byte) error
+	Close() error
+}
+
 // Open opens the file, or makes it, and an agent of this name on its text.
 func Open(name, path string, settings Settings) (*Agent, error) {
 	store, err := OpenStore(path)
@@ -67,6 +74,24 @@ func Open(name, path string, settings Settings) (*Agent, error) {
 		store.Close()
 		return nil, err
 	}
+	return open(name, store, text, settings)
+}
+
+// forgetful keeps nothing.
+type forgetful struct{}
+
+func (forgetful) Append([]byte) error  { return nil }
+func (forgetful) Replace([]byte) error { return nil }
+func (forgetful) Close() error         { return nil }
+
+// OpenInMemory makes an agent of this name without a file: its clocks end with it, and a later one of this name may hand out an event
+// again.
+func OpenInMemory(name string, settings Settings) (*Agent, error) {
+	return open(name, forgetful{}, nil, settings)
+}
+
+// open opens an agent on a text. It owns what keeps the text.
+func open(name string, store keeper, text []byte, settings Settings) (*Agent, error) {
 	agent := &Agent{store: store, room: make([]byte, allRoom), handle: (*C.struct_serf_agent)(C.calloc(1, C.sizeof_struct_serf_agent))}
 	runtime.SetFinalizer(agent, (*Agent).free)
 	set := C.struct_serf_agent_settings{

@@ -61,14 +61,15 @@ fn done(agent: &mut Agent, calls: &[Call]) -> Result<Vec<CallOutcome>, Error> {
 }
 
 fn starve(third: &mut Agent, events: &[Vec<u8>], load: &[u8]) -> Result<(), Error> {
-    let params = QueryParams { timeout: 9, want_ack: true, filters: vec![b"\0\x91\xa5third".to_vec()], ..QueryParams::default() };
-    let mut calls: Vec<_> = events.iter().map(|packet| Call::Receive { now: 5, packet }).collect();
-    calls.push(Call::Receive { now: 5, packet: load });
-    calls.push(Call::Fire { name: b"own", payload: b"", coalesce: false });
-    calls.push(Call::Query { now: 5, id: 9, name: b"load", payload: b"", params: &params });
-    calls.push(Call::Receive { now: 5, packet: &events[0] });
-    done(third, &calls)?;
-    done(third, &calls)?;
+    for filter in [b"\0\x91\xa5other", b"\0\x91\xa5third"] {
+        let params = QueryParams { timeout: 9, want_ack: true, filters: vec![filter.to_vec()], ..QueryParams::default() };
+        let mut calls: Vec<_> = events.iter().map(|packet| Call::Receive { now: 5, packet }).collect();
+        calls.push(Call::Receive { now: 5, packet: load });
+        calls.push(Call::Fire { name: b"own", payload: b"", coalesce: false });
+        calls.push(Call::Query { now: 5, id: 9, name: b"load", payload: b"", params: &params });
+        calls.push(Call::Receive { now: 5, packet: &events[0] });
+        done(third, &calls)?;
+    }
     Ok(())
 }
 

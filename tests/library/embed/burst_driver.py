@@ -59,16 +59,16 @@ def done(agent, fill):
 
 
 def starve(third, events, load):
-    def fill(burst):
+    def fill(burst, filter):
         for packet in events:
             burst.receive(5, packet)
         burst.receive(5, load)
         burst.fire(b"own")
-        burst.query(5, 9, b"load", timeout=9, want_ack=True, filters=[b"\0\x91\xa5third"])
+        burst.query(5, 9, b"load", timeout=9, want_ack=True, filters=[filter])
         burst.receive(5, events[0])
 
-    done(third, fill)
-    done(third, fill)
+    for filter in (b"\0\x91\xa5other", b"\0\x91\xa5third"):
+        done(third, lambda burst: fill(burst, filter))
 
 
 def take_all(one, other, events, load, whole):

@@ -12,7 +12,7 @@ import sys
 import threading
 
 sys.path.insert(0, os.path.join(os.path.dirname(os.path.abspath(__file__)), "..", "..", "..", "bindings", "python"))
-from serf_agent import Agent, AgentError, Broken, Code, Forked, Kind, Library, Locked, Settings, Store
+from serf_agent import Agent, AgentError, Broken, Code, Forked, Kind, Library, Locked, MissingFolder, Settings, Store
 
 FOLDER = sys.argv[1]
 passed = failed = 0
@@ -242,6 +242,45 @@ def fork_in_a_call():
         check("that call ends well", agent.clocks().event == 2)
 
 
+def folders():
+    """A store that is closed, or that was never opened, has no descriptor of its file or its folder."""
+
+    def descriptors():
+        gc.collect()
+        return len(os.listdir("/proc/self/fd"))
+
+    before = descriptors()
+    for _ in range(3):
+        with Store(path("closed")) as store:
+            store.replace(b"x")
+            check("a store has its file and its folder", descriptors() == before + 2, descriptors())
+        check("a closed store has nothing", descriptors() == before, (before, descriptors()))
+    refused("a folder that isn't there", MissingFolder, Store, path("none/file"))
+    with Store(path("closed")):
+        refused("a file that another has", Locked, Store, path("closed"))
+    check("what wasn't opened has nothing", descriptors() == before, (before, descriptors()))
+
+
+class Starved(Library):
+    """A library in which a member of this name has no memory."""
+
+    def __init__(self):
+        super().__init__()
+        self.whole, self.add_status = self.add_status, self.starved
+
+    def starved(self, handle, name, *words):
+        return Code.OUT_OF_MEMORY if bytes(name) == b"full" else self.whole(handle, name, *words)
+
+
+def stale_members():
+    """The members of a state that failed aren't in the next one, whether somebody left or not."""
+    with Agent(b"s", path("s"), library=Starved()) as agent:
+        wanted = agent.local_state([(b"b", 2)])
+        for left in ([], [b"gone"]):
+            refused("a state without memory", AgentError, agent.local_state, [(b"stale", 1), (b"full", 1)], left)
+            check("the next state has its own members", agent.local_state([(b"b", 2)]) == wanted, left)
+
+
 # A parent whose child is forked, and lives on; it says which one.
 PARENT = """
 import os, sys, time
@@ -273,7 +312,7 @@ def lock_of_a_parent():
         os.kill(child, signal.SIGKILL)
 
 
-for part in (settings, numbers, flags_and_bytes, moments, let_go, forks, fork_in_a_call, lock_of_a_parent):
+for part in (settings, numbers, flags_and_bytes, moments, let_go, forks, fork_in_a_call, folders, stale_members, lock_of_a_parent):
     part()
 print(f"{passed} passed, {failed} failed")
 sys.exit(1 if failed else 0)

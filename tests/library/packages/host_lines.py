@@ -1,12 +1,12 @@
 """Programs around the lines of hosts that README shows: each fires `deploy v1` at an agent beta, and gives its packet to those
-lines, whose handler prints what it is handed. The one in Go is compiled alone."""
+lines, whose handler prints what it is handed. The one in Go is a node of a cluster, and is compiled alone."""
 
 import textwrap
 
 import pages
 
 # How the lines of each language begin, as tests/pages.py tells them.
-BEGINS = {"c": "serf_agent_receive(&agent,", "python": "with", "rust": "let", "go": "agent,"}
+BEGINS = {"c": "serf_agent_receive(&agent,", "python": "with", "rust": "let", "go": "node,"}
 
 SAYS = "deploy v1\n"
 
@@ -77,15 +77,17 @@ LINES
 import (
 	"fmt"
 
-	"github.com/hashicorp/memberlist"
-	"kitchenrue.example/serfagent"
-	"kitchenrue.example/serfdelegate"
+	"kitchenrue.example/serf"
 )
 
-func handle(event *serfagent.Event) { fmt.Println(event.Name, event.Payload) }
-
 func main() {
-	config := memberlist.DefaultLANConfig()
+	events, config := make(chan serf.Event), serf.DefaultConfig()
+	config.EventCh, config.SnapshotPath = events, "alpha.snapshot"
+	go func() {
+		for event := range events {
+			fmt.Println(event)
+		}
+	}()
 LINES
 	fmt.Println(err)
 }

@@ -1,11 +1,11 @@
-// A node of ours for a cluster with Serf's own agents: a host of serfdelegate that does what is said on standard input, a line
-// each, and answers each by a line that begins with "ok" or "error".
+// A node of ours for a cluster with Serf's own agents: a program over the package serf that does what is said on standard input, a
+// line each, and answers each by a line that begins with "ok" or "error".
 //
-//	node -name NAME -bind ADDRESS -snapshot FILE -log FILE [-tags K=V,..] [-lost N] [-repeated N] [-late N] [-burst N]
+//	node -name NAME -bind ADDRESS -snapshot FILE -log FILE [-tags K=V,..] [-lost N] [-repeated N] [-late N] [-seed N]
 //	     [-keep] [-states DURATION] [-cut ADDRESS,..]
 //
 //	join ADDRESS..    joins these
-//	fire NAME TEXT    fires an event
+//	fire NAME TEXT    fires an event: its time
 //	query NAME        asks all; who answers is noted
 //	answers           who acked and who answered since the last time, or "-" for nobody
 //	tags K=V,..       changes the tags
@@ -14,18 +14,18 @@
 //	cut [ADDRESS..]   is cut off from these, and from no others
 //	leave             leaves
 //
-// Its log has a line for each handler that ran, as `serf-replay judge` reads it. Of 100 packets so many are lost, repeated and
-// late, both ways.
+// Its log has a line for each event and each query that came, as `serf-replay judge` reads it. Of 100 packets so many are lost,
+// repeated and late, both ways.
 package main
 
 import (
 	"bufio"
-	"context"
 	"flag"
 	"fmt"
 	"io"
 	"log"
 	"os"
+	"reflect"
 	"sort"
 	"strings"
 	"sync"
@@ -33,19 +33,21 @@ import (
 
 	"github.com/hashicorp/memberlist"
 
-	"kitchenrue.example/serfagent"
-	"kitchenrue.example/serfdelegate"
+	"kitchenrue.example/serf"
 )
 
 // port is memberlist's, of every node: each has an address of its own.
 const port = 7946
 
-// wait is how long a command may take.
-const wait = 20 * time.Second
+// wait is how long a command may wait until it is sent, and asked how long a query is open.
+const (
+	wait  = 20 * time.Second
+	asked = 3 * time.Second
+)
 
-// node is the host.
+// node is the program's node.
 type node struct {
-	*serfdelegate.Delegate
+	*serf.Serf
 	network         *lossy
 	name            string
 	handled         io.Writer
@@ -58,13 +60,13 @@ type names struct {
 	all map[string]bool
 }
 
-func (n *names) add(name []byte) {
+func (n *names) add(name string) {
 	n.mu.Lock()
 	defer n.mu.Unlock()
 	if n.all == nil {
 		n.all = map[string]bool{}
 	}
-	n.all[string(name)] = true
+	n.all[name] = true
 }
 
 // take gives them in order, with commas between them, and forgets them.
@@ -101,53 +103,65 @@ func tagsOf(text string) map[string]string {
 }
 
 // escaped is a text as a log has it.
-func escaped(text []byte) string {
-	if len(text) == 0 {
+func escaped(text string) string {
+	if text == "" {
 		return "-"
 	}
-	return strings.NewReplacer("%", "%25", " ", "%20", "\n", "%0A").Replace(string(text))
+	return strings.NewReplacer("%", "%25", " ", "%20", "\n", "%0A").Replace(text)
 }
 
-func (n *node) handlers() serfdelegate.Handlers {
-	return serfdelegate.Handlers{
-		Event: func(event *serfagent.Event) {
-			fmt.Fprintf(n.handled, "event %s %d %s %s\n", n.name, event.Time, escaped(event.Name), escaped(event.Payload))
-		},
-		Query: func(query *serfagent.Handed) {
-			fmt.Fprintf(n.handled, "query %s %d %d\n", n.name, query.Time, query.ID)
-			if err := n.Respond(query, []byte(n.name)); err != nil {
+// handle logs what comes, and answers queries by this node's name.
+func (n *node) handle(events <-chan serf.Event) {
+	for event := range events {
+		switch event := event.(type) {
+		case serf.UserEvent:
+			fmt.Fprintf(n.handled, "event %s %d %s %s\n", n.name, event.LTime, escaped(event.Name), escaped(string(event.Payload)))
+		case *serf.Query:
+			// (the package shows nobody which of the queries of one time it is)
+			id := reflect.ValueOf(event).Elem().FieldByName("handed").Elem().FieldByName("ID").Uint()
+			fmt.Fprintf(n.handled, "query %s %d %d\n", n.name, event.LTime, id)
+			if err := event.Respond([]byte(n.name)); err != nil {
 				log.Print(err)
 			}
-		},
-		Answer: func(kind serfagent.Kind, answer *serfagent.Answer) {
-			if kind == serfagent.Ack {
-				n.acks.add(answer.From)
-			} else {
-				n.responses.add(answer.From)
-			}
-		},
-		Fault: func(err error) { log.Print(err) },
+		}
 	}
+}
+
+// ask asks all, and notes who answers.
+func (n *node) ask(name string) error {
+	answers, err := n.Query(name, nil, &serf.QueryParam{RequestAck: true, Timeout: asked})
+	if err != nil {
+		return err
+	}
+	go func() {
+		for from := range answers.AckCh() {
+			n.acks.add(from)
+		}
+	}()
+	go func() {
+		for answer := range answers.ResponseCh() {
+			n.responses.add(answer.From)
+		}
+	}()
+	return nil
 }
 
 // did does what a line says.
 func (n *node) did(line string) (string, error) {
-	ctx, cancel := context.WithTimeout(context.Background(), wait)
-	defer cancel()
 	words := strings.Fields(line)
 	switch {
 	case len(words) > 1 && words[0] == "join":
-		count, err := n.Join(ctx, words[1:])
+		count, err := n.Join(words[1:], false)
 		return fmt.Sprint(count), err
 	case len(words) == 3 && words[0] == "fire":
 		at, err := n.Fire(words[1], []byte(words[2]), false)
 		return fmt.Sprint(at), err
 	case len(words) == 2 && words[0] == "query":
-		return "", n.Query(words[1], nil, 3*time.Second, true)
+		return "", n.ask(words[1])
 	case line == "answers":
 		return n.acks.take() + " " + n.responses.take(), nil
 	case len(words) == 2 && words[0] == "tags":
-		return "", n.SetTags(ctx, tagsOf(words[1]))
+		return "", n.SetTags(tagsOf(words[1]))
 	case line == "members":
 		var all []string
 		for _, one := range n.Members() {
@@ -155,48 +169,50 @@ func (n *node) did(line string) (string, error) {
 		}
 		return strings.Join(all, " "), nil
 	case line == "stats":
-		return fmt.Sprintf("%+v", n.Stats()), nil
+		return fmt.Sprint(n.Stats()), nil
 	case len(words) > 0 && words[0] == "cut":
 		n.network.cut(words[1:])
 		return "", nil
 	case line == "leave":
-		return "", n.Leave(ctx)
+		return "", n.Leave()
 	}
 	return "", fmt.Errorf("no such command: %q", line)
 }
 
-func main() {
-	name, bind := flag.String("name", "", "the node's name"), flag.String("bind", "", "its address")
-	snapshot, handled := flag.String("snapshot", "", "its file"), flag.String("log", "", "its handlers' log")
-	tags, seed := flag.String("tags", "", "its tags"), flag.Int64("seed", 1, "of the losses")
+// made is the node that the flags say.
+func made() *node {
+	config := serf.DefaultConfig()
+	list := config.MemberlistConfig
+	flag.StringVar(&config.NodeName, "name", "", "the node's name")
+	flag.StringVar(&list.BindAddr, "bind", "", "its address")
+	flag.StringVar(&config.SnapshotPath, "snapshot", "", "its file")
+	flag.BoolVar(&config.KeepEvents, "keep", false, "whether its file keeps events")
+	flag.DurationVar(&list.PushPullInterval, "states", list.PushPullInterval, "how often it exchanges its state with another node")
+	handled, tags := flag.String("log", "", "the log of what came"), flag.String("tags", "", "its tags")
+	cut, seed := flag.String("cut", "", "addresses that it is cut off from at first"), flag.Int64("seed", 1, "of the losses")
 	var of chances
 	flag.IntVar(&of.lost, "lost", 0, "packets of 100 that are lost")
 	flag.IntVar(&of.repeated, "repeated", 0, "packets of 100 that come twice")
 	flag.IntVar(&of.late, "late", 0, "packets of 100 that come late")
-	burst := flag.Int("burst", 0, "calls behind one flush at most")
-	settings := serfagent.DefaultSettings()
-	flag.BoolVar(&settings.KeepEvents, "keep", false, "whether its file keeps events")
-	config := memberlist.DefaultLANConfig()
-	cut := flag.String("cut", "", "addresses that it is cut off from at first")
-	flag.DurationVar(&config.PushPullInterval, "states", config.PushPullInterval, "how often it exchanges its state with another node")
 	flag.Parse()
-
-	log.SetPrefix(*name + " ")
+	log.SetPrefix(config.NodeName + " ")
 	file, err := os.OpenFile(*handled, os.O_CREATE|os.O_APPEND|os.O_WRONLY, 0o600)
 	check(err)
-	agent, err := serfagent.Open(*name, *snapshot, settings)
-	check(err)
-	config.Name, config.BindAddr, config.BindPort, config.AdvertiseAddr, config.AdvertisePort = *name, *bind, port, *bind, port
-	config.LogOutput = os.Stderr
-	network, err := newLossy(&memberlist.NetTransportConfig{
-		BindAddrs: []string{*bind}, BindPort: port, Logger: log.Default(),
-	}, of, *seed)
+	network, err := newLossy(&memberlist.NetTransportConfig{BindAddrs: []string{list.BindAddr}, BindPort: port, Logger: log.Default()}, of, *seed)
 	check(err)
 	network.cut(strings.Split(*cut, ","))
-	config.Transport = network
-	n := &node{name: *name, handled: file, network: network}
-	n.Delegate, err = serfdelegate.CreateWith(config, agent, n.handlers(), serfdelegate.Options{Tags: tagsOf(*tags), Burst: *burst})
+	list.Transport, list.BindPort, list.AdvertiseAddr, list.AdvertisePort = network, port, list.BindAddr, port
+	events := make(chan serf.Event)
+	config.EventCh, config.Tags, config.BroadcastTimeout, config.Logger, config.LogOutput = events, tagsOf(*tags), wait, log.Default(), nil
+	n := &node{name: config.NodeName, handled: file, network: network}
+	go n.handle(events)
+	n.Serf, err = serf.Create(config)
 	check(err)
+	return n
+}
+
+func main() {
+	n := made()
 	fmt.Println("ok")
 	for lines := bufio.NewScanner(os.Stdin); lines.Scan(); {
 		if said, err := n.did(lines.Text()); err != nil {
@@ -205,8 +221,5 @@ func main() {
 			fmt.Println("ok", said)
 		}
 	}
-	ctx, cancel := context.WithTimeout(context.Background(), wait)
-	defer cancel()
-	check(n.Close(ctx))
-	check(agent.Close())
+	check(n.Shutdown())
 }

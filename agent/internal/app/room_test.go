@@ -1,0 +1,50 @@
+package app
+
+import (
+	"io"
+	"log"
+	"os"
+	"path/filepath"
+	"testing"
+	"time"
+
+	"kitchenrue.example/agent/internal/handlers"
+	"kitchenrue.example/serf"
+)
+
+// Where the handlers have no room nothing more is given to them, until they have; at the end all is.
+func TestTheHandlersHaveNoRoom(t *testing.T) {
+	file := filepath.Join(t.TempDir(), "file")
+	scripts, err := handlers.ParseScripts([]string{"while [ ! -e " + file + " ]; do sleep 0.1; done"})
+	if err != nil {
+		t.Fatal(err)
+	}
+	a := &App{runner: handlers.New(log.New(io.Discard, "", 0), 0, scripts, func() handlers.Self { return handlers.Self{} }), ending: make(chan struct{})}
+	defer a.runner.Close(0)
+	a.runner.Add(serf.UserEvent{Name: "deploy"})
+	eventually(t, "a handler runs", func() bool { events, _ := a.runner.Waiting(); return events == 0 })
+	for a.runner.HasRoom() {
+		a.runner.Add(serf.UserEvent{Name: "deploy"})
+	}
+	waited := make(chan struct{})
+	go func() { a.waitForRoom(); close(waited) }()
+	select {
+	case <-waited:
+		t.Fatal("they have no room")
+	case <-time.After(100 * time.Millisecond):
+	}
+	a.runner.SetScripts(nil)
+	if err := os.WriteFile(file, nil, 0o600); err != nil {
+		t.Fatal(err)
+	}
+	eventually(t, "they have room", func() bool { return isClosed(waited) })
+}
+
+func isClosed(waited <-chan struct{}) bool {
+	select {
+	case <-waited:
+		return true
+	default:
+		return false
+	}
+}

@@ -1,8 +1,0 @@
-//go:build !faults
-
-package gossip
-
-import "github.com/hashicorp/memberlist"
-
-// withFaults is for tests alone (faults.go): here memberlist makes its own transport.
-func withFaults(*memberlist.Config) error { return nil }

@@ -1,0 +1,305 @@
+package serf
+
+import (
+	"errors"
+	"fmt"
+	"net"
+	"reflect"
+	"strings"
+	"testing"
+	"time"
+
+	"github.com/hashicorp/memberlist"
+
+	"kitchenrue.example/serfagent"
+)
+
+// Nothing that memberlist calls waits for the disk.
+func TestFlushHoldsNobody(t *testing.T) {
+	f := &fake{flush: make(chan struct{})}
+	a := start(t, "a", "", withAgent(f))
+	a.own().NotifyMsg([]byte{3})
+	eventually(t, "the agent flushes", f.isBusy)
+	node := &memberlist.Node{Name: "b", Addr: []byte{127, 0, 0, 1}, Meta: []byte("\xff\x80")}
+	soon(t, "NotifyMsg", func() { a.own().NotifyMsg([]byte{3}) })
+	soon(t, "MergeRemoteState", func() { a.own().MergeRemoteState([]byte{2}, true) })
+	soon(t, "LocalState", func() { a.own().LocalState(false) })
+	soon(t, "GetBroadcasts", func() { a.own().GetBroadcasts(0, 1000) })
+	soon(t, "NodeMeta", func() { a.own().NodeMeta(512) })
+	soon(t, "NotifyJoin", func() { a.own().NotifyJoin(node) })
+	soon(t, "NotifyUpdate", func() { a.own().NotifyUpdate(node) })
+	soon(t, "NotifyConflict", func() { a.own().NotifyConflict(node, node) })
+	soon(t, "NotifyLeave", func() { a.own().NotifyLeave(node) })
+	close(f.flush)
+}
+
+// A state waits for a flush of 200 milliseconds. In a longer flush it is the last that was made, and after it the present one.
+func TestAStateWaitsForAFlush(t *testing.T) {
+	f := &fake{flush: make(chan struct{})}
+	a := start(t, "a", "", withAgent(f))
+	a.own().NotifyMsg([]byte{3, 0})
+	eventually(t, "the agent flushes", f.isBusy)
+	began := time.Now()
+	state := a.own().LocalState(false)
+	if waited := time.Since(began); waited < 200*time.Millisecond || string(state) != "state 0" {
+		t.Errorf("%q, after %v", state, waited)
+	}
+	close(f.flush)
+	eventually(t, "the present state after the flush", func() bool { return string(a.own().LocalState(false)) == "state 1" })
+}
+
+// A flood of intents leaves room for queries and events.
+func TestRoomForAll(t *testing.T) {
+	a := start(t, "a", "", withAgent(&fake{}))
+	kinds := func() (kinds [3]int) {
+		for _, packet := range a.own().GetBroadcasts(2, 1400) {
+			kinds[packet[0]]++
+		}
+		return kinds
+	}
+	for i := 0; i < 1000; i++ {
+		a.gossip(a.intents, make([]byte, 30), nil)
+	}
+	if found := kinds(); found[0] < 40 {
+		t.Error(found)
+	}
+	for i := 0; i < 1000; i++ {
+		a.gossip(a.queries, append([]byte{1}, make([]byte, 29)...), nil)
+		a.gossip(a.Serf.events, append([]byte{2}, make([]byte, 29)...), nil)
+	}
+	if found := kinds(); found[0] < 20 || found[1] < 10 || found[2] < 10 {
+		t.Error(found)
+	}
+	// queries that are longer than half of the room, and events without end, hold up neither
+	b := start(t, "b", "", withAgent(&fake{}), func(m *made) { m.MemberlistConfig.RetransmitMult = 100 })
+	b.gossip(b.queries, append([]byte{1}, make([]byte, 1023)...), nil)
+	b.gossip(b.Serf.events, append([]byte{2}, make([]byte, 700)...), nil)
+	sent := map[byte]int{}
+	for i := 0; i < 20; i++ {
+		for _, packet := range b.own().GetBroadcasts(2, 1400) {
+			sent[packet[0]]++
+		}
+	}
+	if sent[1] != 10 || sent[2] != 10 {
+		t.Error(sent)
+	}
+}
+
+func TestBounds(t *testing.T) {
+	f := &fake{flush: make(chan struct{})}
+	a := start(t, "a", "", withAgent(f))
+	for i := 0; i < 3*Waiting; i++ {
+		a.own().NotifyMsg([]byte{3, byte(i)})
+		a.own().MergeRemoteState(make([]byte, 1<<16), false)
+	}
+	if len(a.packets.pieces) > Waiting || a.states.bytes > waitingBytes || a.dropped.Load() < 2*Waiting-1 {
+		t.Error(len(a.packets.pieces), a.states.bytes, a.dropped.Load())
+	}
+	close(f.flush)
+	for i := 0; i < 2*Waiting; i++ {
+		if err := a.UserEvent("x", nil, false); err != nil {
+			t.Fatal(err)
+		}
+	}
+	if events := a.Serf.events.NumQueued(); events > Waiting {
+		t.Error(events)
+	}
+	waiting := newLines()
+	for i := 0; i < 2*maxLines; i++ {
+		waiting.add("alive: x 1:1\n")
+	}
+	if all, isTooMany := waiting.take(); len(all) != maxLines || !isTooMany {
+		t.Error(len(all), isTooMany)
+	}
+}
+
+// A packet that is longer than any which memberlist sends isn't kept, and whoever waits for it goes on.
+func TestLongPackets(t *testing.T) {
+	// (memberlist leaves so many bytes of 1,400 for packets, and takes three for each)
+	for _, one := range []struct {
+		key  []byte
+		room int
+	}{{nil, 1398}, {make([]byte, 16), 1369}} {
+		a := start(t, "a", "", withAgent(&fake{}), func(m *made) { m.MemberlistConfig.SecretKey = one.key })
+		sent := make(chan struct{})
+		a.gossip(a.Serf.events, make([]byte, one.room-3), nil)
+		a.gossip(a.Serf.events, make([]byte, one.room-2), sent)
+		soon(t, "the word is sent", func() { <-sent })
+		if a.Serf.events.NumQueued() != 1 || a.dropped.Load() != 1 || len(a.own().GetBroadcasts(3, one.room)) != 1 {
+			t.Error(one.room, a.Serf.events.NumQueued(), a.dropped.Load())
+		}
+	}
+}
+
+// The proved agent keeps a query until it is answered: one that nobody answered is forgotten behind so many others.
+func TestQueriesThatNobodyAnswers(t *testing.T) {
+	f := &fake{}
+	a := start(t, "a", "", withAgent(f))
+	for number := uint64(1); number <= unanswered+3; number++ {
+		a.handQuery(&serfagent.Handed{Number: number, Name: []byte("x")})
+	}
+	f.mu.Lock()
+	defer f.mu.Unlock()
+	if !reflect.DeepEqual(f.answered, []uint64{1, 2, 3}) {
+		t.Error(f.answered)
+	}
+}
+
+// An answer goes to an address of IP alone: no name is looked up.
+func TestNoAddress(t *testing.T) {
+	said := &logged{}
+	a := start(t, "a", "", withAgent(&fake{}), withLog(said))
+	for _, addr := range []string{"", "abc", "localhost", strings.Repeat("x", 300)} {
+		a.sendTo("b", net.IP(addr), 9, []byte("x"))
+		if !strings.Contains(said.String(), fmt.Sprintf(": %x is no address", addr)) {
+			t.Errorf("%q: %s", addr, said.String())
+		}
+	}
+}
+
+// Packets that wait while the agent is busy are given to it together, and go on in order.
+func TestBursts(t *testing.T) {
+	f := &fake{flush: make(chan struct{})}
+	a := start(t, "a", "", withAgent(f))
+	a.own().NotifyMsg([]byte{3, 'a'})
+	eventually(t, "the agent is busy", func() bool { return len(a.packets.came) == 0 })
+	var want []string
+	for i := 0; i < 600; i++ {
+		want = append(want, fmt.Sprintf("%03d", i))
+		a.own().NotifyMsg(append([]byte{3}, want[i]...))
+		a.own().NotifyMsg([]byte{3})
+		a.own().NotifyMsg(intent(t, 1, "x", false))
+	}
+	close(f.flush)
+	eventually(t, "all are taken", func() bool { return len(a.got("fake")) == 601 })
+	if found := a.got("fake")[1:]; !reflect.DeepEqual(found, want) {
+		t.Error(found)
+	}
+	f.mu.Lock()
+	defer f.mu.Unlock()
+	if len(f.bursts) > 10 || f.bursts[1] != Burst {
+		t.Error(f.bursts)
+	}
+	if events := a.Serf.events.NumQueued(); events != 601 {
+		t.Error(events)
+	}
+}
+
+// Where nobody takes what is handed out, nothing is taken and nothing is fired; and nothing that was handed out is lost.
+func TestASlowReader(t *testing.T) {
+	f := &fake{}
+	a := start(t, "a", "", withAgent(f), func(m *made) { m.BroadcastTimeout = 50 * time.Millisecond })
+	a.hold(true)
+	for i := 0; i < 3*Waiting; i++ {
+		a.own().NotifyMsg([]byte{3, byte(i >> 8), byte(i)})
+		if i%256 == 0 {
+			time.Sleep(time.Millisecond)
+		}
+	}
+	eventually(t, "it is full", func() bool { return a.pipe.length() >= Waiting })
+	if err := a.UserEvent("x", nil, false); err != ErrBusy {
+		t.Error(err)
+	}
+	if _, err := a.Query("x", nil, nil); err != ErrBusy {
+		t.Error(err)
+	}
+	if length := a.pipe.length(); length > Waiting+Burst {
+		t.Error(length)
+	}
+	a.hold(false)
+	f.mu.Lock()
+	time.Sleep(10 * time.Millisecond)
+	f.mu.Unlock()
+	eventually(t, "all is taken", func() bool {
+		f.mu.Lock()
+		defer f.mu.Unlock()
+		return len(a.packets.came) == 0 && a.pipe.length() == 0 && uint64(len(a.got("fake"))) == f.time
+	})
+	for i, payload := range a.got("fake")[:Waiting] {
+		if payload != string([]byte{byte(i >> 8), byte(i)}) {
+			t.Fatalf("%d: %x", i, payload)
+		}
+	}
+	if err := a.UserEvent("x", nil, false); err != nil {
+		t.Error(err)
+	}
+}
+
+// A member that changes often behind a reader that takes nothing is told of once.
+func TestMembersBehindASlowReader(t *testing.T) {
+	p := newPipe()
+	for i := 0; i < Waiting; i++ {
+		p.add(UserEvent{LTime: LamportTime(i)})
+	}
+	for i := 0; i < 10*Waiting; i++ {
+		name := fmt.Sprint("n", i%3)
+		p.add(MemberEvent{EventMemberUpdate, []Member{{Name: name, Port: uint16(i)}}})
+	}
+	p.add(MemberEvent{EventMemberJoin, []Member{{Name: "new"}}})
+	p.add(MemberEvent{EventMemberUpdate, []Member{{Name: "new", Port: 9}}})
+	if length := p.length(); length != Waiting+4 || len(p.waiting) > 3*Waiting {
+		t.Error(length, len(p.waiting))
+	}
+	var found []string
+	for e, is := p.next(); is; e, is = p.next() {
+		if about, is := e.(MemberEvent); is {
+			found = append(found, fmt.Sprint(about, about.Members[0].Name, about.Members[0].Port))
+		} else if len(found) > 0 {
+			t.Fatal("out of order")
+		}
+	}
+	last := 10*Waiting - 1
+	want := []string{}
+	for i := last - 2; i <= last; i++ {
+		want = append(want, fmt.Sprint("member-update", fmt.Sprint("n", i%3), uint16(i)))
+	}
+	if want = append(want, "member-joinnew9"); fmt.Sprint(found) != fmt.Sprint(want) {
+		t.Error(found, want)
+	}
+	if p.length() != 0 || !p.hasRoom() {
+		t.Error(p.length())
+	}
+}
+
+// Events that are fired at once share a flush.
+func TestFiringsShareAFlush(t *testing.T) {
+	f := &fake{flush: make(chan struct{})}
+	a := start(t, "a", "", withAgent(f))
+	fired := make(chan error, 100)
+	for i := 0; i < 100; i++ {
+		go func() { fired <- a.UserEvent("x", nil, false) }()
+	}
+	eventually(t, "all wait", func() bool {
+		a.firings.mu.Lock()
+		defer a.firings.mu.Unlock()
+		return f.isBusy() && len(a.firings.waiting) >= 90
+	})
+	close(f.flush)
+	for i := 0; i < 100; i++ {
+		if err := <-fired; err != nil {
+			t.Error(err)
+		}
+	}
+	if len(f.firings) > 12 || len(a.got("x")) > 100 {
+		t.Error(f.firings)
+	}
+	eventually(t, "all are handed out", func() bool { return len(a.got("x")) == 100 })
+}
+
+// A disk that fails ends the node, and ShutdownCh says it.
+func TestFaultOfTheFile(t *testing.T) {
+	f := &fake{receive: serfagent.ErrFull}
+	a := start(t, "a", "", withAgent(f))
+	a.own().NotifyMsg([]byte{3})
+	select {
+	case <-a.ShutdownCh():
+	case <-time.After(time.Minute):
+		t.Fatal("it goes on")
+	}
+	if err := a.Fault(); !errors.Is(err, serfagent.ErrFull) || a.State() != SerfShutdown {
+		t.Error(err, a.State())
+	}
+	if err := a.UserEvent("x", nil, false); !errors.Is(err, ErrEnded) {
+		t.Error(err)
+	}
+}

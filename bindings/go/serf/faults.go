@@ -1,0 +1,192 @@
+//go:build faults
+
+// Built by `-tags faults`, for tests alone: a transport that loses packets, repeats them, and is cut off from addresses, as the
+// file says that KITCHENRUE_FAULTS names. It is read again each tenth of a second. Its lines are `lose SHARE`, `repeat SHARE`
+// and `cut ADDRESS..`.
+
+package serf
+
+import (
+	"errors"
+	"fmt"
+	"math/rand"
+	"net"
+	"os"
+	"strings"
+	"sync/atomic"
+	"time"
+
+	"github.com/hashicorp/memberlist"
+)
+
+// faultsTime is how often the file is read.
+const faultsTime = 100 * time.Millisecond
+
+var errCut = errors.New("the link is cut")
+
+// faults say what becomes of packets and streams.
+type faults struct {
+	lose, repeat float64
+	cut          map[string]bool
+}
+
+func readFaults(text string) *faults {
+	f := &faults{cut: map[string]bool{}}
+	for _, line := range strings.Split(text, "\n") {
+		words := strings.Fields(line)
+		if len(words) < 2 {
+			continue
+		}
+		switch words[0] {
+		case "lose":
+			fmt.Sscan(words[1], &f.lose)
+		case "repeat":
+			fmt.Sscan(words[1], &f.repeat)
+		case "cut":
+			for _, address := range words[1:] {
+				f.cut[address] = true
+			}
+		}
+	}
+	return f
+}
+
+// isCut says whether an address, with its port or without, is beyond the cut.
+func (f *faults) isCut(address string) bool {
+	if host, _, err := net.SplitHostPort(address); err == nil {
+		address = host
+	}
+	return f.cut[address]
+}
+
+// count is how often a packet comes, for an address.
+func (f *faults) count(address string) int {
+	switch {
+	case f.isCut(address) || rand.Float64() < f.lose:
+		return 0
+	case rand.Float64() < f.repeat:
+		return 2
+	}
+	return 1
+}
+
+// faulty is memberlist's transport with faults.
+type faulty struct {
+	*memberlist.NetTransport
+	now     atomic.Pointer[faults]
+	packets chan *memberlist.Packet
+	streams chan net.Conn
+	over    chan struct{}
+}
+
+var _ memberlist.NodeAwareTransport = &faulty{}
+
+func withFaults(conf *memberlist.Config) error {
+	path := os.Getenv("KITCHENRUE_FAULTS")
+	if path == "" {
+		return nil
+	}
+	whole, err := memberlist.NewNetTransport(&memberlist.NetTransportConfig{BindAddrs: []string{conf.BindAddr}, BindPort: conf.BindPort, Logger: conf.Logger})
+	if err != nil {
+		return err
+	}
+	if conf.BindPort == 0 {
+		conf.BindPort, conf.AdvertisePort = whole.GetAutoBindPort(), whole.GetAutoBindPort()
+	}
+	t := &faulty{NetTransport: whole, packets: make(chan *memberlist.Packet), streams: make(chan net.Conn), over: make(chan struct{})}
+	t.read(path)
+	go func() {
+		ticker := time.NewTicker(faultsTime)
+		defer ticker.Stop()
+		for {
+			select {
+			case <-t.over:
+				return
+			case <-ticker.C:
+				t.read(path)
+			}
+		}
+	}()
+	go t.pass()
+	conf.Transport = t
+	return nil
+}
+
+func (t *faulty) read(path string) {
+	// (a file that isn't there says nothing)
+	text, _ := os.ReadFile(path)
+	t.now.Store(readFaults(string(text)))
+}
+
+// pass lets in what isn't lost. Whose a stream is its address doesn't say, so while anything is cut none comes in.
+func (t *faulty) pass() {
+	for {
+		select {
+		case <-t.over:
+			return
+		case packet := <-t.NetTransport.PacketCh():
+			for count := t.now.Load().count(packet.From.String()); count > 0; count-- {
+				again := *packet
+				again.Buf = append([]byte(nil), packet.Buf...)
+				select {
+				case t.packets <- &again:
+				case <-t.over:
+					return
+				}
+			}
+		case stream := <-t.NetTransport.StreamCh():
+			if len(t.now.Load().cut) > 0 {
+				stream.Close()
+				continue
+			}
+			select {
+			case t.streams <- stream:
+			case <-t.over:
+				stream.Close()
+				return
+			}
+		}
+	}
+}
+
+func (t *faulty) PacketCh() <-chan *memberlist.Packet { return t.packets }
+func (t *faulty) StreamCh() <-chan net.Conn           { return t.streams }
+
+func (t *faulty) WriteTo(b []byte, address string) (time.Time, error) {
+	return t.WriteToAddress(b, memberlist.Address{Addr: address})
+}
+
+func (t *faulty) WriteToAddress(b []byte, address memberlist.Address) (sent time.Time, err error) {
+	sent = time.Now()
+	for count := t.now.Load().count(address.Addr); count > 0 && err == nil; count-- {
+		sent, err = t.NetTransport.WriteToAddress(b, address)
+	}
+	return sent, err
+}
+
+func (t *faulty) DialTimeout(address string, timeout time.Duration) (net.Conn, error) {
+	return t.DialAddressTimeout(memberlist.Address{Addr: address}, timeout)
+}
+
+func (t *faulty) DialAddressTimeout(address memberlist.Address, timeout time.Duration) (net.Conn, error) {
+	if t.now.Load().isCut(address.Addr) {
+		return nil, errCut
+	}
+	return t.NetTransport.DialAddressTimeout(address, timeout)
+}
+
+func (t *faulty) Shutdown() error {
+	close(t.over)
+	// (what listens may wait for somebody to take what came)
+	rest := make(chan error, 1)
+	go func() { rest <- t.NetTransport.Shutdown() }()
+	for {
+		select {
+		case err := <-rest:
+			return err
+		case <-t.NetTransport.PacketCh():
+		case stream := <-t.NetTransport.StreamCh():
+			stream.Close()
+		}
+	}
+}

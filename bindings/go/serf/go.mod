@@ -1,0 +1,12 @@
+module kitchenrue.example/serf
+
+go 1.19
+
+require (
+	github.com/hashicorp/go-msgpack v0.5.5
+	github.com/hashicorp/memberlist v0.2.2
+	github.com/hashicorp/serf v0.9.4
+	kitchenrue.example/serfagent v0.0.0
+)
+
+replace kitchenrue.example/serfagent => ../serfagent

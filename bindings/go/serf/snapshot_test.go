@@ -1,0 +1,197 @@
+package serf
+
+import (
+	"errors"
+	"fmt"
+	"os"
+	"path/filepath"
+	"strings"
+	"testing"
+)
+
+func write(t *testing.T, path, text string) {
+	t.Helper()
+	if err := os.WriteFile(path, []byte(text), 0o600); err != nil {
+		t.Fatal(err)
+	}
+}
+
+func read(t *testing.T, path string) string {
+	t.Helper()
+	data, err := os.ReadFile(path)
+	if err != nil {
+		t.Fatal(err)
+	}
+	return string(data)
+}
+
+func TestMembersOfATextAreFound(t *testing.T) {
+	for _, one := range []struct {
+		text        string
+		isRejoining bool
+		want        string
+	}{
+		{"", false, "[]"},
+		{"alive: a 1.2.3.4:5\nclock: 3\n", false, "[a: 1.2.3.4:5]"},
+		{"alive: a 1:1\nalive: b 2:2\nnot-alive: a\n", false, "[b: 2:2]"},
+		{"alive: a 1:1\nalive: b 2:2\nalive: a 3:3\n", false, "[a: 3:3 b: 2:2]"},
+		{"alive: a b 1:1\nnot-alive: a\n", false, "[a b: 1:1]"},
+		{"alive: a 1:1\nleave\nalive: b 2:2\n", false, "[b: 2:2]"},
+		{"alive: a 1:1\nleave\n", true, "[a: 1:1]"},
+		{"alive: a\nalive:  1:1\nalive: \n# alive: c 1:1\ncoordinate: {}\nxalive: d 1:1\n", false, "[]"},
+		{"alive: a 1:1\nalive: b 2:", false, "[b: 2: a: 1:1]"},
+	} {
+		if found := fmt.Sprint(leftAlive(one.text, one.isRejoining)); found != one.want {
+			t.Errorf("%q: %s", one.text, found)
+		}
+	}
+}
+
+func TestCompaction(t *testing.T) {
+	path := filepath.Join(t.TempDir(), "file")
+	write(t, path, "alive: a 1:1\nevent-clock: 3\n")
+	f, _, err := openSnapshot(path, false)
+	if err != nil {
+		t.Fatal(err)
+	}
+	defer f.close()
+	lines := []string{"alive: a 1:1\n", "alive: b 2:2\n"}
+	for !f.shouldCompact(lines) {
+		if err := f.append("alive: b 2:2\n", "not-alive: b\n"); err != nil {
+			t.Fatal(err)
+		}
+	}
+	if size := len(read(t, path)); size < snapshotLimit || size > snapshotLimit+100 {
+		t.Error(size)
+	}
+	// the library replaces the file, under its name
+	library := func() error {
+		if text := read(t, path+".members"); text != strings.Join(lines, "") {
+			t.Errorf("%q waits", text)
+		}
+		write(t, path+".new", "event-clock: 3\n")
+		return os.Rename(path+".new", path)
+	}
+	if err := f.compact(lines, library); err != nil {
+		t.Fatal(err)
+	}
+	if err := f.append("not-alive: b\n"); err != nil {
+		t.Fatal(err)
+	}
+	if text := read(t, path); text != "event-clock: 3\nalive: a 1:1\nalive: b 2:2\nnot-alive: b\n" {
+		t.Errorf("%q", text)
+	}
+	if _, err := os.Stat(path + ".members"); !errors.Is(err, os.ErrNotExist) {
+		t.Error(err)
+	}
+}
+
+// What the library keeps of events is counted as it was at the last replacement, so a file isn't replaced again for nothing.
+func TestCompactionOfAFileThatKeepsEvents(t *testing.T) {
+	path := filepath.Join(t.TempDir(), "file")
+	kept := "event-clock: 03\n" + strings.Repeat("#event 3 61 62\n", snapshotLimit/15)
+	write(t, path, kept+kept)
+	f, _, err := openSnapshot(path, false)
+	if err != nil {
+		t.Fatal(err)
+	}
+	defer f.close()
+	lines := []string{"alive: a 1:1\n"}
+	if !f.knowsEvents || !f.shouldCompact(lines) {
+		t.Error("nothing is known of what a compaction leaves")
+	}
+	library := func() error {
+		write(t, path+".new", kept)
+		return os.Rename(path+".new", path)
+	}
+	if err := f.compact(lines, library); err != nil {
+		t.Fatal(err)
+	}
+	size, left := len(kept)+len(lines[0]), len(kept)+len(lines[0])
+	for ; size < 2*left; size += len(lines[0]) {
+		if f.shouldCompact(lines) {
+			t.Fatalf("%d bytes, and %d of them stay", size, left)
+		}
+		if err := f.append(lines...); err != nil {
+			t.Fatal(err)
+		}
+	}
+	if !f.shouldCompact(lines) {
+		t.Errorf("%d bytes, and %d of them stay", size, left)
+	}
+}
+
+// A crash at each point of a compaction leaves the clocks and the members.
+func TestCrashes(t *testing.T) {
+	for name, left := range map[string]struct{ file, beside string }{
+		"before the library":  {"alive: a 1:1\nevent-clock: 3\n", "alive: a 1:1\n"},
+		"behind the library":  {"event-clock: 3\n", "alive: a 1:1\n"},
+		"behind the members":  {"event-clock: 3\nalive: a 1:1\n", "alive: a 1:1\n"},
+		"in the middle of it": {"event-clock: 3\nalive: a", "alive: a 1:1\n"},
+	} {
+		path := filepath.Join(t.TempDir(), "file")
+		write(t, path, left.file)
+		write(t, path+".members", left.beside)
+		// (the library ends a torn line as it opens)
+		if !strings.HasSuffix(left.file, "\n") {
+			write(t, path, left.file+"\n")
+		}
+		f, found, err := openSnapshot(path, false)
+		if err != nil {
+			t.Fatal(err)
+		}
+		f.close()
+		if fmt.Sprint(found) != "[a: 1:1]" || !strings.Contains(read(t, path), "event-clock: 3\n") {
+			t.Errorf("%s: %v", name, found)
+		}
+		if _, err := os.Stat(path + ".members"); !errors.Is(err, os.ErrNotExist) {
+			t.Errorf("%s: %v", name, err)
+		}
+		f, found, err = openSnapshot(path, false)
+		if err != nil || fmt.Sprint(found) != "[a: 1:1]" {
+			t.Errorf("%s: again %v %v", name, found, err)
+		}
+		f.close()
+	}
+}
+
+func TestFaults(t *testing.T) {
+	folder := t.TempDir()
+	if _, _, err := openSnapshot(filepath.Join(folder, "none"), false); !errors.Is(err, os.ErrNotExist) {
+		t.Error(err)
+	}
+	if _, _, err := openSnapshot(folder, false); err == nil {
+		t.Error("a folder is no file")
+	}
+	path := filepath.Join(folder, "file")
+	write(t, path, "")
+	f, _, err := openSnapshot(path, false)
+	if err != nil {
+		t.Fatal(err)
+	}
+	defer f.close()
+	bad := []string{"alive: a\x00b 1:1\n", "alive: a 1:1\r\n", "alive: a\nevent-clock: 9 1:1\n", "alive: a 1:1", "", "\n\n"}
+	if err := f.append(bad...); err != nil || read(t, path) != "" {
+		t.Errorf("%q %v", read(t, path), err)
+	}
+	failed := errors.New("failed")
+	if err := f.compact([]string{"alive: a 1:1\n"}, func() error { return failed }); !errors.Is(err, failed) {
+		t.Error(err)
+	}
+	if _, found, err := openSnapshot(path, false); err != nil || fmt.Sprint(found) != "[a: 1:1]" {
+		t.Error(found, err)
+	}
+}
+
+// A disk that is full in the middle of a line leaves no line that the library's next one would be glued to.
+func TestFullDisk(t *testing.T) {
+	file, err := os.OpenFile("/dev/full", os.O_WRONLY, 0)
+	if err != nil {
+		t.Skip(err)
+	}
+	f := &snapshotFile{file: file}
+	defer f.close()
+	if err := f.append("alive: a 1:1\n"); err == nil {
+		t.Error("the disk is full")
+	}
+}

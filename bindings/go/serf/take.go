@@ -1,0 +1,267 @@
+package serf
+
+import (
+	"strings"
+	"time"
+
+	"kitchenrue.example/serfagent"
+)
+
+// take takes packets and states, and closes the queries whose time is over, while there is room for what that hands out.
+func (s *Serf) take() {
+	second := time.NewTicker(time.Second)
+	defer second.Stop()
+	var told told
+	for {
+		var err error
+		packets, states := s.packets.came, s.states.came
+		room := s.pipe.room()
+		select {
+		case <-room:
+			room = nil
+		default:
+			packets, states = nil, nil
+		}
+		select {
+		case <-s.ctx.Done():
+			return
+		case <-room:
+		case <-states:
+			err = s.inOrder(func() error { return nil })
+		case <-packets:
+			err = s.takePackets()
+		case <-s.due:
+			err = s.closeDue()
+		case <-second.C:
+			s.tellDropped(&told)
+			s.states.again()
+			err = s.closeDue()
+		}
+		if isOver(err) {
+			return
+		}
+	}
+}
+
+// told is how much of what was dropped was told.
+type told struct{ dropped, far int64 }
+
+// tellDropped tells of what was dropped since it was last told.
+func (s *Serf) tellDropped(before *told) {
+	now := told{s.dropped.Load(), s.far.Load()}
+	if now.dropped > before.dropped {
+		s.log.Printf("[WARN] serf: %d packets or states were dropped, since too many wait", now.dropped-before.dropped)
+	}
+	if now.far > before.far {
+		s.log.Printf("[WARN] serf: %d packets or states were dropped, since a time in them is from 2^63 on, which no honest clock reaches", now.far-before.far)
+	}
+	*before = now
+}
+
+// merge merges another node's state: its events, and what it says of members. order is held.
+func (s *Serf) merge(state piece) error {
+	if s.isFar(state.data) {
+		s.far.Add(1)
+		return nil
+	}
+	events, err := s.agent.Merge(state.data, state.isJoin)
+	// (some may have entered before the memory was out)
+	s.hand(events...)
+	if err != nil {
+		s.log.Printf("[WARN] serf: a state was not taken: %v", err)
+		return err
+	}
+	said, err := serfagent.MembersOf(state.data)
+	if err != nil {
+		s.log.Printf("[WARN] serf: what a state says of members was not taken: %v", err)
+		return nil
+	}
+	if said != nil && s.members.merged(said) {
+		s.wronged()
+	}
+	return nil
+}
+
+// atOnce is how many packets are taken until those of the proved agent among them are given to it, however many intents and relays the
+// network brings.
+const atOnce = 4 * Burst
+
+// takePackets takes packets that wait: those of the proved agent as many at once as a burst has.
+func (s *Serf) takePackets() error {
+	var burst [][]byte
+	for count := 0; count < atOnce && len(burst) < Burst; count++ {
+		packet, is := s.packets.next()
+		if !is {
+			break
+		}
+		if s.isFar(packet.data) {
+			s.far.Add(1)
+			continue
+		}
+		switch packet.data[0] {
+		case leaveType, joinType:
+			if err := s.takeIntent(packet.data); err != nil {
+				return err
+			}
+		case relayType:
+			s.passOn(packet.data)
+		default:
+			burst = append(burst, packet.data)
+		}
+	}
+	if len(burst) == 0 {
+		return nil
+	}
+	return s.takeBurst(burst)
+}
+
+// takeBurst takes packets and the firings that wait behind one flush. The error says that nothing more can be taken, or that nothing came
+// of packets for want of memory.
+func (s *Serf) takeBurst(packets [][]byte) error {
+	given := make([]Packet, len(packets))
+	for i, packet := range packets {
+		given[i] = Packet{packet, s.tagsPass(packet)}
+	}
+	var outcomes []serfagent.Outcome
+	err := s.inOrder(func() (err error) {
+		outcomes, err = s.makeBurst(given)
+		return err
+	})
+	if left := len(packets) - len(outcomes); left > 0 && err == serfagent.OutOfMemory {
+		s.log.Printf("[WARN] serf: %d packets were not taken: %v", left, err)
+	}
+	for i, outcome := range outcomes {
+		if i >= len(packets) {
+			break
+		}
+		if outcome.Received == nil {
+			s.log.Printf("[DEBUG] serf: a packet of type %d was not taken: %v", packets[i][0], outcome.Err)
+			continue
+		}
+		s.sendOn(packets[i], outcome.Received)
+	}
+	return err
+}
+
+// makeBurst makes a burst of packets and of the firings that wait, and hands out what comes of it. order is held.
+func (s *Serf) makeBurst(packets []Packet) ([]serfagent.Outcome, error) {
+	var firings []*firing
+	if s.pipe.hasRoom() {
+		firings = s.firings.first(Burst)
+	} else {
+		s.firings.refuse(s.firings.first(Waiting), ErrBusy)
+	}
+	if len(packets)+len(firings) == 0 {
+		return nil, nil
+	}
+	fired := make([]Firing, len(firings))
+	for i, one := range firings {
+		fired[i] = one.Firing
+	}
+	outcomes, err := s.agent.TakeAll(s.now(), packets, fired)
+	for i, outcome := range outcomes {
+		if i < len(packets) && outcome.Received != nil {
+			s.hand(outcome.Received.Event)
+			s.handQuery(outcome.Received.Query)
+			s.counted(outcome.Received)
+		}
+	}
+	for i, one := range firings {
+		one.err = err
+		if at := len(packets) + i; at < len(outcomes) {
+			one.fired, one.err = outcomes[at].Fired, outcomes[at].Err
+		}
+		if one.fired != nil {
+			s.hand(one.fired.Event)
+			s.gossip(s.events, one.fired.Packet, nil)
+		}
+	}
+	s.firings.done(firings)
+	return outcomes, err
+}
+
+// takeIntent takes an intent. The error says that nothing more can be taken.
+func (s *Serf) takeIntent(packet []byte) error {
+	intent, err := intentOf(packet)
+	if err != nil {
+		s.log.Printf("[DEBUG] serf: a packet was not taken: %v", err)
+		return nil
+	}
+	if err := s.inOrder(func() error { return s.agent.ObserveMember(intent.Time) }); isOver(err) {
+		return err
+	} else if err != nil {
+		s.log.Printf("[WARN] serf: an intent was not taken: %v", err)
+		return nil
+	}
+	outcome := s.members.take(intent)
+	if outcome.isNew {
+		s.gossip(s.intents, packet, nil)
+	}
+	if outcome.isWrong {
+		s.wronged()
+	}
+	return nil
+}
+
+// intentOf is the intent of a packet, or its fault.
+func intentOf(packet []byte) (serfagent.Intent, error) {
+	intent, err := serfagent.IntentOf(packet)
+	if intent != nil {
+		return *intent, nil
+	}
+	if fault, is := serfagent.IntentFaultOf(packet); is {
+		return serfagent.Intent{}, fault
+	}
+	return serfagent.Intent{}, err
+}
+
+// sendOn sends this node's ack of a query, and the packet to others where they are to have it.
+func (s *Serf) sendOn(packet []byte, received *serfagent.Received) {
+	if received.Query != nil && received.Ack != nil {
+		s.send(received.Query, received.Ack)
+	}
+	if received.Rebroadcast {
+		queue := s.events
+		if packet[0] == queryType {
+			queue = s.queries
+		}
+		s.gossip(queue, packet, nil)
+	}
+}
+
+// hand lets events go on that were handed out.
+func (s *Serf) hand(events ...*serfagent.Event) {
+	for _, one := range events {
+		if one != nil {
+			s.out(UserEvent{LamportTime(one.Time), string(one.Name), one.Payload, one.Coalesce})
+		}
+	}
+}
+
+// unanswered is how many queries may be answered, of those that were handed out last: as many as wait for EventCh at most, and as many
+// again.
+const unanswered = 2 * Waiting
+
+// InternalQueryPrefix begins the names of the queries of the agents among themselves, which never come on EventCh.
+const InternalQueryPrefix = "_serf_"
+
+// handQuery lets a query go on that was handed out.
+func (s *Serf) handQuery(query *serfagent.Handed) {
+	if query == nil {
+		return
+	}
+	if query.Number > unanswered {
+		// (the proved agent keeps a query until it is answered: the answer to this one is thrown away)
+		_, _ = s.agent.Respond(0, query.Number-unanswered, nil)
+	}
+	name := string(query.Name)
+	if strings.HasPrefix(name, InternalQueryPrefix) {
+		select {
+		case s.internal <- query:
+		default:
+			s.log.Printf("[WARN] serf: the query %s was dropped, since too many wait", name)
+		}
+		return
+	}
+	s.out(&Query{LTime: LamportTime(query.Time), Name: name, Payload: query.Payload, serf: s, handed: query})
+}

@@ -1,0 +1,90 @@
+"""By hand, since it needs Go and Serf's sources: how many events a second a node of our package `serf` fires, beside Serf's own.
+
+    tests/by_hand/package_speed.py [--rounds N] [--on FOLDER] [--library FOLDER]
+
+`bindings/go/beside_serf/firing` is compiled with either package. By turns each fires with 1, 8 and 32 callers on a snapshot in the
+folder, and with 8 callers in memory. A line has the median of the rounds, the least and the greatest, how many of the events never came
+on EventCh, and the memory behind 100,000 events.
+
+Then 32 connections fire by the RPC of an agent of either kind, on snapshots.
+"""
+
+import argparse
+import os
+import shutil
+import statistics
+import subprocess
+import sys
+import tempfile
+
+sys.path.insert(0, os.path.dirname(os.path.abspath(__file__)))
+sys.dont_write_bytecode = True
+import agent_cluster_kit as kit
+import c_library
+import serf_package
+from agent_cluster_kit import Agent
+
+FIRING = os.path.join(kit.TOP, "bindings", "go", "beside_serf", "firing", "main.go")
+
+# How many callers, whether on a snapshot, and how many events.
+RUNS = [(1, True, 6000), (8, True, 40000), (32, True, 100000), (8, False, 100000)]
+
+CONNECTIONS, BY_RPC = 32, 50000
+
+
+def build(folder, library):
+    """The program over each package."""
+    ours = serf_package.laid(folder, os.path.join(library, "libserf_agent_c.a"))
+    programs = {}
+    for kind, env in (("stock", {**ours, "GOPATH": kit.GOCODE}), ("ours", ours)):
+        programs[kind] = os.path.join(folder, f"firing-{kind}")
+        subprocess.run(["go", "build", "-o", programs[kind], FIRING], check=True, env=env, cwd=folder)
+    return programs
+
+
+def fired(program, folder, callers, on_file, events):
+    path = os.path.join(tempfile.mkdtemp(dir=folder), "snapshot") if on_file else "-"
+    said = subprocess.run([program, path, str(callers), str(events)], check=True, stdout=subprocess.PIPE, text=True).stdout.split()
+    return float(said[0]), events - int(said[1]), int(said[2]) / 1024
+
+
+def by_rpc(programs, kind, agent):
+    """Events a second by so many connections to an agent, alone on a snapshot."""
+    agent.words = ["-snapshot", agent.snapshot, "-log-level", "err"]
+    agent.start()
+    try:
+        said = subprocess.run([programs[kind], f"rpc:{agent.rpc}", str(CONNECTIONS), str(BY_RPC)], check=True, stdout=subprocess.PIPE, text=True).stdout
+        return float(said)
+    finally:
+        agent.end()
+
+
+def main():
+    parser = argparse.ArgumentParser(description=__doc__, formatter_class=argparse.RawDescriptionHelpFormatter)
+    parser.add_argument("--rounds", type=int, default=3)
+    parser.add_argument("--on", help="the folder, and so the disk, of the snapshots")
+    parser.add_argument("--library", default=os.path.dirname(c_library.LIBRARY))
+    asked = parser.parse_args()
+    missing = kit.needed()
+    if missing:
+        sys.exit(f"it needs {missing}")
+    folder = tempfile.mkdtemp(prefix="package-speed-", dir=asked.on)
+    try:
+        programs = build(folder, asked.library)
+        for callers, on_file, events in RUNS:
+            for kind, program in programs.items():
+                found = [fired(program, folder, callers, on_file, events) for _ in range(asked.rounds)]
+                speeds, lost, memory = zip(*found)
+                where = "on a snapshot" if on_file else "in memory"
+                print(f"{kind}, {callers} callers {where}: {statistics.median(speeds):.0f} events a second ({min(speeds):.0f} to {max(speeds):.0f}), {max(lost)} of {events} never came, {max(memory):.1f} MiB", flush=True)
+        agents = {"stock": ["serf", "agent"], "ours": [kit.build(folder, asked.library, [])]}
+        for kind, program in agents.items():
+            speeds = [by_rpc(programs, kind, Agent(folder, program, f"{kind}{at}", at, net="127.0.10")) for at in range(1, asked.rounds + 1)]
+            print(f"{kind}, {CONNECTIONS} connections by RPC: {statistics.median(speeds):.0f} events a second ({min(speeds):.0f} to {max(speeds):.0f})")
+    finally:
+        shutil.rmtree(folder)
+    return 0
+
+
+if __name__ == "__main__":
+    sys.exit(main())
