@@ -10,6 +10,7 @@ import (
 
 	"github.com/hashicorp/memberlist"
 
+	"kitchenrue.example/guard"
 	"kitchenrue.example/serfagent"
 )
 
@@ -147,6 +148,10 @@ type Config struct {
 	// KeepEvents keeps events and queries in the file too, so that a restart goes on with the window of the life before. Serf has no
 	// such field.
 	KeepEvents bool
+
+	// Guard has the bounds of what memberlist is given to read, and of how many members are known (8,192); each that is 0 is that of
+	// guard.Defaults. Where MemberlistConfig has a Transport, that is taken, and no guard. Serf has no such field.
+	Guard guard.Settings
 
 	// Wrap, where it isn't nil, is given the proved agent before its first call, and what it gives is called in its place: so a
 	// program may record the calls. Serf has no such field.

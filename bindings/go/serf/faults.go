@@ -70,9 +70,9 @@ func (f *faults) count(address string) int {
 	return 1
 }
 
-// faulty is memberlist's transport with faults.
+// faulty is a transport with faults.
 type faulty struct {
-	*memberlist.NetTransport
+	memberlist.NodeAwareTransport
 	now     atomic.Pointer[faults]
 	packets chan *memberlist.Packet
 	streams chan net.Conn
@@ -81,19 +81,12 @@ type faulty struct {
 
 var _ memberlist.NodeAwareTransport = &faulty{}
 
-func withFaults(conf *memberlist.Config) error {
+func withFaults(whole memberlist.NodeAwareTransport) (memberlist.Transport, error) {
 	path := os.Getenv("KITCHENRUE_FAULTS")
 	if path == "" {
-		return nil
+		return whole, nil
 	}
-	whole, err := memberlist.NewNetTransport(&memberlist.NetTransportConfig{BindAddrs: []string{conf.BindAddr}, BindPort: conf.BindPort, Logger: conf.Logger})
-	if err != nil {
-		return err
-	}
-	if conf.BindPort == 0 {
-		conf.BindPort, conf.AdvertisePort = whole.GetAutoBindPort(), whole.GetAutoBindPort()
-	}
-	t := &faulty{NetTransport: whole, packets: make(chan *memberlist.Packet), streams: make(chan net.Conn), over: make(chan struct{})}
+	t := &faulty{NodeAwareTransport: whole, packets: make(chan *memberlist.Packet), streams: make(chan net.Conn), over: make(chan struct{})}
 	t.read(path)
 	go func() {
 		ticker := time.NewTicker(faultsTime)
@@ -108,8 +101,7 @@ func withFaults(conf *memberlist.Config) error {
 		}
 	}()
 	go t.pass()
-	conf.Transport = t
-	return nil
+	return t, nil
 }
 
 func (t *faulty) read(path string) {
@@ -124,7 +116,7 @@ func (t *faulty) pass() {
 		select {
 		case <-t.over:
 			return
-		case packet := <-t.NetTransport.PacketCh():
+		case packet := <-t.NodeAwareTransport.PacketCh():
 			for count := t.now.Load().count(packet.From.String()); count > 0; count-- {
 				again := *packet
 				again.Buf = append([]byte(nil), packet.Buf...)
@@ -134,7 +126,7 @@ func (t *faulty) pass() {
 					return
 				}
 			}
-		case stream := <-t.NetTransport.StreamCh():
+		case stream := <-t.NodeAwareTransport.StreamCh():
 			if len(t.now.Load().cut) > 0 {
 				stream.Close()
 				continue
@@ -159,7 +151,7 @@ func (t *faulty) WriteTo(b []byte, address string) (time.Time, error) {
 func (t *faulty) WriteToAddress(b []byte, address memberlist.Address) (sent time.Time, err error) {
 	sent = time.Now()
 	for count := t.now.Load().count(address.Addr); count > 0 && err == nil; count-- {
-		sent, err = t.NetTransport.WriteToAddress(b, address)
+		sent, err = t.NodeAwareTransport.WriteToAddress(b, address)
 	}
 	return sent, err
 }
@@ -172,20 +164,20 @@ func (t *faulty) DialAddressTimeout(address memberlist.Address, timeout time.Dur
 	if t.now.Load().isCut(address.Addr) {
 		return nil, errCut
 	}
-	return t.NetTransport.DialAddressTimeout(address, timeout)
+	return t.NodeAwareTransport.DialAddressTimeout(address, timeout)
 }
 
 func (t *faulty) Shutdown() error {
 	close(t.over)
 	// (what listens may wait for somebody to take what came)
 	rest := make(chan error, 1)
-	go func() { rest <- t.NetTransport.Shutdown() }()
+	go func() { rest <- t.NodeAwareTransport.Shutdown() }()
 	for {
 		select {
 		case err := <-rest:
 			return err
-		case <-t.NetTransport.PacketCh():
-		case stream := <-t.NetTransport.StreamCh():
+		case <-t.NodeAwareTransport.PacketCh():
+		case stream := <-t.NodeAwareTransport.StreamCh():
 			stream.Close()
 		}
 	}

@@ -6,7 +6,10 @@ require (
 	github.com/hashicorp/go-msgpack v0.5.5
 	github.com/hashicorp/memberlist v0.2.2
 	github.com/hashicorp/serf v0.9.4
+	kitchenrue.example/guard v0.0.0
 	kitchenrue.example/serfagent v0.0.0
 )
+
+replace kitchenrue.example/guard => ../guard
 
 replace kitchenrue.example/serfagent => ../serfagent

@@ -19,6 +19,7 @@ import (
 
 	"github.com/hashicorp/memberlist"
 
+	"kitchenrue.example/guard"
 	"kitchenrue.example/serfagent"
 )
 
@@ -63,6 +64,7 @@ type Serf struct {
 	snapshot *snapshotFile
 	previous []PreviousNode
 	list     atomic.Pointer[memberlist.Memberlist]
+	guard    *guard.Transport
 	began    time.Time
 
 	ctx  context.Context
@@ -225,7 +227,7 @@ func (s *Serf) listen() error {
 	conf.DelegateProtocolMin, conf.DelegateProtocolMax = ProtocolVersionMin, ProtocolVersionMax
 	conf.DelegateProtocolVersion, conf.ProtocolVersion = s.config.ProtocolVersion, ProtocolVersionMap[s.config.ProtocolVersion]
 	conf.Logger, conf.LogOutput = s.log, nil
-	if err := withFaults(conf); err != nil {
+	if err := s.guardIt(conf); err != nil {
 		return err
 	}
 	for _, queue := range []**memberlist.TransmitLimitedQueue{&s.intents, &s.queries, &s.events} {
@@ -233,7 +235,13 @@ func (s *Serf) listen() error {
 	}
 	list, err := memberlist.Create(conf)
 	if err != nil {
+		if s.guard != nil {
+			_ = conf.Transport.Shutdown()
+		}
 		return fmt.Errorf("memberlist: %w", err)
+	}
+	if own := list.LocalNode(); !conf.EncryptionEnabled() && !own.Addr.IsLoopback() {
+		s.log.Printf("[WARN] serf: there is no key, so whoever reaches %s may join and speak as any node", own.Address())
 	}
 	s.longest = conf.UDPBufferSize - gossipOverhead
 	if conf.EncryptionEnabled() {

@@ -44,16 +44,23 @@ func (s *Serf) take() {
 }
 
 // told is how much of what was dropped was told.
-type told struct{ dropped, far int64 }
+type told struct {
+	dropped, far int64
+	refused      uint64
+}
 
 // tellDropped tells of what was dropped since it was last told.
 func (s *Serf) tellDropped(before *told) {
-	now := told{s.dropped.Load(), s.far.Load()}
+	refused, reasons := s.refused()
+	now := told{s.dropped.Load(), s.far.Load(), refused}
 	if now.dropped > before.dropped {
 		s.log.Printf("[WARN] serf: %d packets or states were dropped, since too many wait", now.dropped-before.dropped)
 	}
 	if now.far > before.far {
 		s.log.Printf("[WARN] serf: %d packets or states were dropped, since a time in them is from 2^63 on, which no honest clock reaches", now.far-before.far)
+	}
+	if now.refused > before.refused {
+		s.log.Printf("[WARN] serf: %d packets, streams or parts of them were refused; by reason since the start: %s", now.refused-before.refused, reasons)
 	}
 	*before = now
 }

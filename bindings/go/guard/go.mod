@@ -1,0 +1,3 @@
+module kitchenrue.example/guard
+
+go 1.19
