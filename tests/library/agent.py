@@ -69,6 +69,22 @@ def built(count, library, folder):
     count.check("the package has the program", os.access(os.path.join(folder, "package", "usr", "bin", "kitchenrue-agent"), os.X_OK), (status, said))
     notice = checks.text_of(os.path.join(folder, "package", "usr", "share", "doc", "kitchenrue-agent", "copyright"))
     count.check("the package names the licences", all(word in notice for word in ("Apache License", "MPL-2.0", "memberlist", "coordinate")), notice[:2000])
+    installed(count, package)
+
+
+def installed(count, package):
+    """The package installed, upgraded, removed and purged, with its own scripts, in a copy of this system."""
+    if shutil.which("apt-get") is None or os.geteuid() != 0:
+        print("not run: the package's installation, which needs apt-get and root")
+        return
+    said = c_library.ran(["sh", os.path.join(TOP, "tests", "library", "agent", "install.sh"), package])[1]
+    if said.strip() in ("", "unable") or said.startswith("unshare: "):
+        print("not run: the package's installation, since this system lets nobody mount an overlay")
+        return
+    for line in said.splitlines():
+        end, what = line.split(" ", 1)
+        count.check(f"package: {what.split(': ')[0]}", end == "pass", line)
+    count.check("package: all was tried", said.splitlines()[-1].endswith("and no files"), said)
 
 
 SCRIPT = os.path.join(TOP, "examples", "schedule_of_records.py")

@@ -76,7 +76,7 @@ TOKENS = {"TestRPCClientAuth": "foobar"}
 NOT_TRIED = {"TestRPCClientMonitor": "its first line of the log has to be of a client, and an agent that is a process has begun before"}
 
 # The tests that pass at a stock agent alone, and why.
-FAILING = {"TestRPCClientGetCoordinate": "ours has no coordinates"}
+FAILING = {}
 
 
 class Row:
@@ -91,8 +91,7 @@ class Row:
 
 
 DIFFERENT = (
-    Row("coordinate of [ab] is there", "true", "false", "ours has no coordinates"),
-    Row("stats, agent (program|handlers_waiting|queries_waiting)|stats, serf dropped(_far)?", None, ".+", "ours says more of itself"),
+    Row("stats, agent (program|handlers_waiting|queries_waiting)|stats, serf (dropped(_far|_kept)?|events_waiting)", None, ".+", "ours says more of itself"),
     Row("members by a bad expression of a .*, error", "client closed", "Failed to compile regex: .*", "a stock agent ends the client"),
     Row("answer that is too long, error", "failed to respond to key query: (response exceeds .*)", "response exceeds .*", "a stock agent calls each query one of keys"),
     Row("second answer, error", ".*response already sent", "No pending queries matching ID", "ours forgets a query that was answered"),

@@ -31,6 +31,8 @@ type App struct {
 	ends chan error
 	// ending is closed when the agent ends, and pumped behind the last event.
 	ending, pumped chan struct{}
+	// unlog ends what goes to syslog.
+	unlog func()
 }
 
 // Start starts an agent. It joins nobody yet but those that its snapshot names.
@@ -39,7 +41,14 @@ func Start(conf config.Config, out io.Writer) (*App, error) {
 		return nil, err
 	}
 	level, _ := logs.LevelOf(conf.LogLevel)
-	a := &App{config: conf, log: logs.New(out, level), ends: make(chan error, 1), ending: make(chan struct{}), pumped: make(chan struct{})}
+	a := &App{config: conf, log: logs.New(out, level), ends: make(chan error, 1), ending: make(chan struct{}), pumped: make(chan struct{}), unlog: func() {}}
+	if conf.Syslog {
+		end, err := a.log.ToSyslog("", "", conf.SyslogFacility)
+		if err != nil {
+			return nil, fmt.Errorf("-syslog: %w", err)
+		}
+		a.unlog = end
+	}
 	scripts, err := handlers.ParseScripts(conf.EventHandlers)
 	if err != nil {
 		return nil, err
@@ -120,17 +129,21 @@ func (a *App) end(why error) {
 	}
 }
 
-// Close ends the agent: the node at once, and the handlers that wait soon.
+// Close ends the agent: the node at once, and the handlers that wait soon. Where the node has ended by itself, it says why.
 func (a *App) Close() error {
 	a.log.Print("[INFO] agent: requesting serf shutdown")
 	close(a.ending)
 	err := a.node.Shutdown()
+	if err == nil {
+		err = a.node.Fault()
+	}
 	<-a.pumped
 	a.runner.Close(handlersGrace)
 	if server := a.server.Load(); server != nil {
 		server.Close()
 	}
 	a.log.Print("[INFO] agent: shutdown complete")
+	a.unlog()
 	return err
 }
 
@@ -160,7 +173,8 @@ func (a *App) retryJoin(ctx context.Context) {
 			a.log.Printf("[INFO] agent: Join completed. Synced with %d initial agents", count)
 			return
 		}
-		if a.config.RetryMax > 0 && tried >= a.config.RetryMax {
+		// (the first try is no retry)
+		if a.config.RetryMax > 0 && tried > a.config.RetryMax {
 			a.end(fmt.Errorf("-retry-join: nobody was joined in %d tries: %w", tried, err))
 			return
 		}

@@ -6,7 +6,9 @@ import (
 	"encoding/json"
 	"errors"
 	"fmt"
+	"io"
 	"net"
+	"net/http"
 	"os"
 	"path/filepath"
 	"reflect"
@@ -97,7 +99,7 @@ func TestALife(t *testing.T) {
 	if err := a.Fire("deploy", []byte("v2"), true); err != nil {
 		t.Fatal(err)
 	}
-	if stats := a.Stats(); stats["serf"]["event_time"] != "3" || stats["tags"]["size"] != "big" || stats["event_handlers"]["user"] == "" {
+	if stats := a.Stats(); stats["serf"]["event_time"] != "3" || stats["tags"]["size"] != "big" || stats["event_handlers"]["user:"] == "" {
 		t.Error(stats)
 	}
 	// (what waits to be coalesced goes on at the end)
@@ -256,7 +258,7 @@ func TestJoining(t *testing.T) {
 	if err := c.JoinAtStart(context.Background()); err != nil {
 		t.Fatal(err)
 	}
-	if err := <-c.ends; err == nil || !strings.Contains(err.Error(), "in 2 tries") {
+	if err := <-c.ends; err == nil || !strings.Contains(err.Error(), "in 3 tries") {
 		t.Error(err)
 	}
 	d, _ := start(t, "-node", "d", "-join", "127.0.0.1:1")
@@ -312,6 +314,10 @@ func TestFarClocksAreTold(t *testing.T) {
 }
 
 func TestMainsStatuses(t *testing.T) {
+	faulty := filepath.Join(t.TempDir(), "faulty.json")
+	if err := os.WriteFile(faulty, []byte(`{"enable_syslog": true, "syslog_facility": "local9"}`), 0o600); err != nil {
+		t.Fatal(err)
+	}
 	for _, one := range []struct {
 		words  string
 		status int
@@ -321,6 +327,7 @@ func TestMainsStatuses(t *testing.T) {
 		{"-help", 0, "usage: kitchenrue-agent", ""},
 		{"-version", 0, "kitchenrue-agent " + config.Version, ""},
 		{"-foo", 1, "", "kitchenrue-agent: flag provided but not defined: -foo\n"},
+		{"-node a -bind 127.0.0.1:0 -rpc-addr 127.0.0.1:0 -config-file " + faulty, 1, "", "kitchenrue-agent: -syslog: syslog has no facility \"local9\"\n"},
 		{"-node a -bind 127.0.0.1:0 -rpc-addr 127.0.0.1:0 -join 127.0.0.1:1", 1, "", "connection refused"},
 	} {
 		var out, errs said
@@ -333,22 +340,68 @@ func TestMainsStatuses(t *testing.T) {
 	}
 }
 
+// The page for Prometheus has the agent's own figures, and what the node counts.
+func TestMainsMetrics(t *testing.T) {
+	free, err := net.Listen("tcp", "127.0.0.1:0")
+	if err != nil {
+		t.Fatal(err)
+	}
+	at := free.Addr().String()
+	free.Close()
+	var out, errs said
+	ended := make(chan int, 1)
+	go func() {
+		ended <- Main([]string{"-node", "a", "-bind", "127.0.0.1:0", "-rpc-addr", "127.0.0.1:0", "-prometheus-addr", at}, &out, &errs)
+	}()
+	eventually(t, "it runs", func() bool { return strings.Contains(out.String(), "Log data will now stream") })
+	for _, what := range []string{"\nserf_members 1\n", "\nagent_handlers_waiting 0\n", "\nserf_member_join 1\n", "\nserf_dropped_far 0\n"} {
+		eventually(t, what, func() bool {
+			answer, err := http.Get("http://" + at + "/metrics")
+			if err != nil {
+				return false
+			}
+			defer answer.Body.Close()
+			text, err := io.ReadAll(answer.Body)
+			return err == nil && strings.Contains(string(text), what)
+		})
+	}
+	if err := syscall.Kill(os.Getpid(), syscall.SIGTERM); err != nil {
+		t.Fatal(err)
+	}
+	if status := <-ended; status != 1 || errs.String() != "" {
+		t.Error(status, errs.String())
+	}
+}
+
 func TestMainsSignals(t *testing.T) {
 	for _, one := range []struct {
 		signal syscall.Signal
 		words  []string
 		status int
 		says   string
+		fault  string
 	}{
-		{syscall.SIGINT, nil, 0, "graceful leave"},
-		{syscall.SIGTERM, nil, 1, "Shutdown without a Leave"},
+		{syscall.SIGINT, nil, 0, "graceful leave", ""},
+		{syscall.SIGTERM, nil, 1, "Shutdown without a Leave", ""},
+		{syscall.SIGTERM, []string{"-snapshot"}, 3, "Shutdown without a Leave", "kitchenrue-agent: the snapshot was changed from outside: "},
+		{syscall.SIGINT, []string{"-snapshot"}, 3, "graceful leave", "isn't there any more\n"},
 	} {
 		var out, errs said
 		ended := make(chan int, 1)
+		path := filepath.Join(t.TempDir(), "snapshot")
+		words := append([]string{"-node", "a", "-bind", "127.0.0.1:0", "-rpc-addr", "127.0.0.1:0"}, one.words...)
+		if one.words != nil {
+			words = append(words, path)
+		}
 		go func() {
-			ended <- Main(append([]string{"-node", "a", "-bind", "127.0.0.1:0", "-rpc-addr", "127.0.0.1:0"}, one.words...), &out, &errs)
+			ended <- Main(words, &out, &errs)
 		}()
 		eventually(t, "it runs", func() bool { return strings.Contains(out.String(), "Log data will now stream") })
+		if one.words != nil {
+			if err := os.Remove(path); err != nil {
+				t.Fatal(err)
+			}
+		}
 		for _, signal := range []syscall.Signal{syscall.SIGHUP, one.signal} {
 			if err := syscall.Kill(os.Getpid(), signal); err != nil {
 				t.Fatal(err)
@@ -358,7 +411,7 @@ func TestMainsSignals(t *testing.T) {
 		}
 		select {
 		case status := <-ended:
-			if status != one.status || !strings.Contains(out.String(), one.says) || errs.String() != "" {
+			if status != one.status || !strings.Contains(out.String(), one.says) || !strings.Contains(errs.String(), one.fault) || (one.fault == "") != (errs.String() == "") {
 				t.Errorf("%v: %d %s %s", one.signal, status, &out, &errs)
 			}
 		case <-time.After(30 * time.Second):
@@ -367,13 +420,17 @@ func TestMainsSignals(t *testing.T) {
 	}
 }
 
-// The limits of the configuration are those of the node.
+// What the configuration says of limits, the protocol and what is off goes to the node.
 func TestLimitsOfTheNode(t *testing.T) {
 	conf := conf(t)
 	conf.UserEventSizeLimit, conf.QuerySizeLimit, conf.QueryResponseSizeLimit = 700, 2000, 3000
+	conf.Protocol, conf.DisableCoordinates, conf.DisableNameResolution, conf.KeepEventsSize = 4, true, true, 1<<20
 	a := &App{config: conf, tags: &tags{}, log: logs.New(&said{}, logs.Trace)}
 	found, _, err := a.nodeConfig(nil)
 	if err != nil || found.UserEventSizeLimit != 700 || found.QuerySizeLimit != 2000 || found.QueryResponseSizeLimit != 3000 || found.KeepEvents {
 		t.Errorf("%+v %v", found, err)
+	}
+	if found.ProtocolVersion != 4 || !found.DisableCoordinates || found.EnableNameConflictResolution || found.KeepEventsSize != 1<<20 {
+		t.Errorf("%+v", found)
 	}
 }

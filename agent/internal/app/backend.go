@@ -78,10 +78,7 @@ func (a *App) Stats() map[string]map[string]string {
 	handlers := map[string]string{}
 	for _, script := range a.runner.Scripts() {
 		for _, filter := range script.Filters {
-			name := filter.Kind
-			if filter.Name != "" {
-				name += ":" + filter.Name
-			}
+			name := filter.Kind + ":" + filter.Name
 			if handlers[name] != "" {
 				handlers[name] += ", "
 			}

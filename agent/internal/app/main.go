@@ -11,6 +11,8 @@ import (
 	"syscall"
 
 	"kitchenrue.example/agent/internal/config"
+	"kitchenrue.example/agent/internal/measure"
+	"kitchenrue.example/serf"
 )
 
 // Main runs an agent until it ends: the program's status. Faults are a sentence on errs.
@@ -30,10 +32,19 @@ func Main(words []string, out, errs io.Writer) int {
 	signal.Notify(signals, syscall.SIGINT, syscall.SIGTERM, syscall.SIGHUP)
 	defer signal.Stop(signals)
 	fmt.Fprintln(out, "==> Starting the agent...")
+	if err := conf.Resolve(); err != nil {
+		return failed(errs, err)
+	}
+	measures, err := measure.Start(conf.StatsiteAddr, conf.StatsdAddr, conf.PrometheusAddr, errs)
+	if err != nil {
+		return failed(errs, err)
+	}
+	defer measures.Close()
 	a, err := Start(conf, out)
 	if err != nil {
 		return failed(errs, err)
 	}
+	measures.Watch(a.Stats)
 	a.banner(out)
 	ctx, cancel := context.WithCancel(context.Background())
 	defer cancel()
@@ -44,9 +55,16 @@ func Main(words []string, out, errs io.Writer) int {
 	return a.run(words, signals, out, errs)
 }
 
+// changedStatus is the status behind a snapshot that was changed from outside. A start behind it may run events again, so somebody has to
+// look first: the unit doesn't start the agent again.
+const changedStatus = 3
+
 // failed says what failed, in one line.
 func failed(errs io.Writer, err error) int {
 	fmt.Fprintf(errs, "kitchenrue-agent: %s\n", strings.Join(strings.Fields(err.Error()), " "))
+	if errors.Is(err, serf.ErrSnapshotChanged) {
+		return changedStatus
+	}
 	return 1
 }
 
@@ -81,7 +99,11 @@ func (a *App) run(words []string, signals <-chan os.Signal, out, errs io.Writer)
 	for {
 		select {
 		case err := <-a.ends:
-			return both(errs, err, a.Close())
+			closed := a.Close()
+			if closed == err {
+				closed = nil
+			}
+			return both(errs, err, closed)
 		case one := <-signals:
 			fmt.Fprintf(out, "==> Caught signal: %v\n", one)
 			if one == syscall.SIGHUP {
@@ -90,7 +112,9 @@ func (a *App) run(words []string, signals <-chan os.Signal, out, errs io.Writer)
 			}
 			if one == syscall.SIGINT && a.config.SkipLeaveOnInterrupt || one == syscall.SIGTERM && !a.config.LeaveOnTerminate {
 				// (Serf's own status of an agent that ends without a leave)
-				_ = both(errs, a.Close())
+				if both(errs, a.Close()) == changedStatus {
+					return changedStatus
+				}
 				return 1
 			}
 			return a.leave(signals, out, errs)

@@ -23,7 +23,8 @@ const (
 func (a *App) nodeConfig(events chan<- serf.Event) (*serf.Config, func(), error) {
 	c := &a.config
 	own := serf.DefaultConfig()
-	own.NodeName, own.Tags, own.EventCh, own.ProtocolVersion = c.NodeName, a.tags.all(), events, serf.ProtocolVersionMax
+	own.NodeName, own.Tags, own.EventCh, own.ProtocolVersion = c.NodeName, a.tags.all(), events, uint8(c.Protocol)
+	own.DisableCoordinates, own.EnableNameConflictResolution = c.DisableCoordinates, !c.DisableNameResolution
 	own.Logger, own.LogOutput = a.log.Logger, nil
 	own.CoalescePeriod, own.QuiescentPeriod = coalescePeriod, quietPeriod
 	own.UserCoalescePeriod, own.UserQuiescentPeriod = coalescePeriod, quietPeriod
@@ -31,6 +32,7 @@ func (a *App) nodeConfig(events chan<- serf.Event) (*serf.Config, func(), error)
 	own.BroadcastTimeout, own.UserEventSizeLimit = c.BroadcastTimeout, c.UserEventSizeLimit
 	own.QuerySizeLimit, own.QueryResponseSizeLimit = c.QuerySizeLimit, c.QueryResponseSizeLimit
 	own.SnapshotPath, own.RejoinAfterLeave, own.KeepEvents, own.KeyringFile = c.Snapshot, c.Rejoin, c.KeepEvents, c.KeyringFile
+	own.KeepEventsSize = c.KeepEventsSize
 	list, err := listConfig(c)
 	if err != nil {
 		return nil, nil, err

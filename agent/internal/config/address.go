@@ -153,6 +153,14 @@ func (c *Config) Resolve() error {
 		return fmt.Errorf("-rpc-addr: %w", err)
 	}
 	c.RPCAddr = rpc.String()
+	if c.PrometheusAddr == "" {
+		return nil
+	}
+	prometheus, err := resolved(c.PrometheusAddr, PrometheusPort)
+	if err != nil {
+		return fmt.Errorf("-prometheus-addr: %w", err)
+	}
+	c.PrometheusAddr = prometheus.String()
 	return nil
 }
 

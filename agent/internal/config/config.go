@@ -11,10 +11,11 @@ import (
 // Version is what the agent calls itself.
 const Version = "0.1.0"
 
-// Default ports, as Serf has them.
+// Default ports, as Serf has them, and that of the page for Prometheus.
 const (
-	BindPort = 7946
-	RPCPort  = 7373
+	BindPort       = 7946
+	RPCPort        = 7373
+	PrometheusPort = 7374
 )
 
 // Config is what the agent is started with.
@@ -33,6 +34,13 @@ type Config struct {
 	EncryptKey, KeyringFile string
 	// LogLevel is TRACE, DEBUG, INFO, WARN or ERR.
 	LogLevel string
+	// Syslog sends the log to the machine's syslog too, under SyslogFacility.
+	Syslog         bool
+	SyslogFacility string
+	// StatsiteAddr and StatsdAddr are told what is counted, and at PrometheusAddr it can be read, where they aren't empty.
+	StatsiteAddr, StatsdAddr, PrometheusAddr string
+	// Protocol is the version of Serf's protocol that is spoken.
+	Protocol int
 	// RPCAddr is where the command line's requests are taken, and RPCAuth what they have to know, where it isn't empty.
 	RPCAddr, RPCAuth string
 	// EventHandlers are texts of the form FILTERS=SCRIPT, or SCRIPT.
@@ -40,7 +48,7 @@ type Config struct {
 	// StartJoin are joined once at the start, RetryJoin until one is joined.
 	StartJoin, RetryJoin []string
 	RetryInterval        time.Duration
-	// RetryMax is how often RetryJoin is tried; 0 is without end.
+	// RetryMax is how often RetryJoin is tried behind the first time; 0 is without end.
 	RetryMax int
 	// Replay takes the events from before a join, too.
 	Replay bool
@@ -50,6 +58,8 @@ type Config struct {
 	Snapshot string
 	// KeepEvents keeps events and queries in the snapshot too, so that a restart goes on with them.
 	KeepEvents bool
+	// KeepEventsSize is how many bytes of the snapshot these may have.
+	KeepEventsSize int
 	// Record is the file of what comes and goes, and RecordSize how many bytes it may have before it turns over.
 	Record     string
 	RecordSize int
@@ -61,6 +71,8 @@ type Config struct {
 	ReconnectInterval, ReconnectTimeout, TombstoneTimeout time.Duration
 	// BroadcastTimeout is how long a leave waits until it is sent.
 	BroadcastTimeout time.Duration
+	// DisableCoordinates keeps no coordinates, and DisableNameResolution asks nobody about a name that two nodes have.
+	DisableCoordinates, DisableNameResolution bool
 	// Compression packs gossip.
 	Compression bool
 	// UserEventSizeLimit is the greatest size of an event that is fired here, in bytes.
@@ -87,8 +99,15 @@ func Default() Config {
 		RetryInterval: 30 * time.Second, ReconnectInterval: 30 * time.Second, ReconnectTimeout: 24 * time.Hour,
 		TombstoneTimeout: 24 * time.Hour, BroadcastTimeout: 5 * time.Second, Compression: true, UserEventSizeLimit: 512,
 		HandlerTimeout: 10 * time.Minute, RecordSize: 64 << 20, QuerySizeLimit: querySize, QueryResponseSizeLimit: querySize,
+		KeepEventsSize: 32 << 20, SyslogFacility: "LOCAL0", Protocol: maxProtocol,
 	}
 }
+
+// The versions of Serf's protocol, as Serf has them.
+const (
+	minProtocol = 2
+	maxProtocol = 5
+)
 
 // Levels are the levels of the log, the most talkative first.
 var Levels = []string{"TRACE", "DEBUG", "INFO", "WARN", "ERR"}
@@ -105,6 +124,12 @@ func IsLevel(level string) bool {
 
 // MaxName is how many bytes a node's name may have.
 const MaxName = 128
+
+// How many bytes of a snapshot kept events may have, at least and at most.
+const (
+	minKeepEvents = 1 << 20
+	maxKeepEvents = 1 << 30
+)
 
 // MinRecord is the least number of bytes at which a record turns over.
 const MinRecord = 1 << 12
@@ -138,8 +163,10 @@ func (c *Config) validate() error {
 }
 
 func (c *Config) validateAddresses() error {
-	for _, one := range []struct{ flag, text string }{{"-bind", c.Bind}, {"-advertise", c.Advertise}, {"-rpc-addr", c.RPCAddr}} {
-		if one.text == "" && one.flag == "-advertise" {
+	for _, one := range []struct{ flag, text string }{
+		{"-bind", c.Bind}, {"-advertise", c.Advertise}, {"-rpc-addr", c.RPCAddr}, {"-prometheus-addr", c.PrometheusAddr},
+	} {
+		if one.text == "" && (one.flag == "-advertise" || one.flag == "-prometheus-addr") {
 			continue
 		}
 		if _, err := parseNamed(one.text, BindPort); err != nil {
@@ -204,6 +231,9 @@ func (c *Config) validateNumbers() error {
 	if err := c.validateSizes(); err != nil {
 		return err
 	}
+	if c.Protocol < minProtocol || c.Protocol > maxProtocol {
+		return fmt.Errorf("-protocol: %d is not between %d and %d", c.Protocol, minProtocol, maxProtocol)
+	}
 	if c.RetryMax < 0 {
 		return fmt.Errorf("-retry-max: %d is below 0", c.RetryMax)
 	}
@@ -231,6 +261,9 @@ func (c *Config) validateFiles() error {
 	}
 	if c.KeepEvents && c.Snapshot == "" {
 		return fmt.Errorf("-keep-events: it needs -snapshot")
+	}
+	if c.KeepEventsSize < minKeepEvents || c.KeepEventsSize > maxKeepEvents {
+		return fmt.Errorf("-keep-events-size: %d is not between %d and %d", c.KeepEventsSize, minKeepEvents, maxKeepEvents)
 	}
 	if c.KeepEvents && c.Record != "" {
 		return fmt.Errorf("-keep-events and -record: a record doesn't say what a restart goes on with, so one of them has to go")

@@ -72,7 +72,8 @@ func TestRefusals(t *testing.T) {
 	}
 	for _, one := range []struct{ words, says string }{
 		{"-foo", "-foo"},
-		{"word", `"word" is no flag`},
+		{"word", `"word" stands alone`},
+		{"-rejoin true -snapshot s", `"true" stands alone`},
 		{"-node " + strings.Repeat("x", 129), "at most 128 bytes"},
 		{"-bind a:b", "-bind"},
 		{"-bind 1.2.3.4:70000", "no port"},
@@ -80,7 +81,9 @@ func TestRefusals(t *testing.T) {
 		{"-advertise a:b", "-advertise"},
 		{"-log-level loud", `"LOUD"`},
 		{"-profile fast", "-profile"},
-		{"-protocol 4", "-protocol"},
+		{"-protocol 6", "-protocol: 6 is not between 2 and 5"},
+		{"-protocol 1", "-protocol: 1 is not between 2 and 5"},
+		{"-protocol x", "no number"},
 		{"-tag k", "key=value"},
 		{"-tag =v", "key=value"},
 		{"-tag k=v -tags-file f", "-tags-file"},
@@ -91,6 +94,7 @@ func TestRefusals(t *testing.T) {
 		{"-keep-events", "-keep-events: it needs -snapshot"},
 		{"-keep-events -snapshot s -record r", "-keep-events and -record: "},
 		{"-keep-events=maybe -snapshot s", "neither true nor false"},
+		{"-keep-events-size 1048575", "-keep-events-size: 1048575 is not between 1048576 and 1073741824"},
 		{"-record-size 4095", "-record-size: 4095 is below 4096"},
 		{"-record-size much", "no number"},
 		{"-retry-max x", "no number"},
@@ -103,14 +107,15 @@ func TestRefusals(t *testing.T) {
 		{"-bind :7946", `-bind: ":7946" names no host; 0.0.0.0:7946 would be all`},
 		{"-bind []:1", "names no host"},
 		{"-rpc-addr :7373", `-rpc-addr: ":7373" names no host; 0.0.0.0:7373 would be all`},
+		{"-prometheus-addr :7374", `-prometheus-addr: ":7374" names no host`},
 		{"-advertise :7946", "-advertise: \":7946\" names no host"},
-		{"-syslog", "standard output"},
 		{"-config-file /nowhere", "no such file"},
 		{"-config-file /", "is a directory"},
 		{"-config-dir /nowhere", "no such file"},
 		{file(`[]`), "no JSON object"},
 		{file(`{"foo": 1}`), `"foo"`},
-		{file(`{"statsd_addr": "x"}`), "serf info"},
+		{file(`{"discover": "x"}`), `"discover": it isn't taken: peers aren't`},
+		{file(`{"mdns": {}}`), `"mdns" isn't taken: peers aren't`},
 		{file(`{"retry_max_attempts": "x"}`), "no number"},
 		{file(`{"tags": {"k": {}}}`), "neither a text"},
 		{file(`{"start_join": [[]]}`), "neither a text"},
@@ -124,6 +129,37 @@ func TestRefusals(t *testing.T) {
 		_, err := Parse(strings.Fields(one.words), io.Discard)
 		if err == nil || !strings.Contains(err.Error(), one.says) {
 			t.Errorf("%s: %v", one.words, err)
+		}
+	}
+}
+
+// What asks for nothing is taken, and so is what Serf takes.
+func TestNothingIsNotRefused(t *testing.T) {
+	path := filepath.Join(t.TempDir(), "file")
+	for text, holds := range map[string]func(c Config) bool{
+		`{"disable_coordinates": true}`:      func(c Config) bool { return c.DisableCoordinates },
+		`{"disable_coordinates": false}`:     func(c Config) bool { return !c.DisableCoordinates },
+		`{"disable_name_resolution": false}`: func(c Config) bool { return !c.DisableNameResolution },
+		`{"disable_name_resolution": true}`:  func(c Config) bool { return c.DisableNameResolution },
+		`{"enable_syslog": false, "syslog_facility": "", "discover": "", "interface": "", "role": "", "advertise": ""}`: func(c Config) bool { return !c.Syslog && c.SyslogFacility == "LOCAL0" },
+		`{"enable_syslog": true, "syslog_facility": "DAEMON"}`:                                                          func(c Config) bool { return c.Syslog && c.SyslogFacility == "DAEMON" },
+		`{"statsd_addr": "", "statsite_addr": "", "prometheus_addr": ""}`:                                               func(c Config) bool { return c.StatsdAddr+c.StatsiteAddr+c.PrometheusAddr == "" },
+		`{"statsd_addr": "a:1", "statsite_addr": "b:2", "prometheus_addr": "c:3"}`: func(c Config) bool {
+			return c.StatsdAddr == "a:1" && c.StatsiteAddr == "b:2" && c.PrometheusAddr == "c:3"
+		},
+		`{"protocol": 4}`: func(c Config) bool { return c.Protocol == 4 },
+	} {
+		found, err := Parse([]string{"-config-file", write(t, path, text)}, io.Discard)
+		if err != nil || !holds(found) {
+			t.Error(text, err)
+		}
+	}
+	for words, holds := range map[string]func(c Config) bool{
+		"-syslog": func(c Config) bool { return c.Syslog }, "-protocol 2": func(c Config) bool { return c.Protocol == 2 },
+		"-discover= -syslog=false": func(c Config) bool { return !c.Syslog && c.Protocol == 5 },
+	} {
+		if found, err := Parse(strings.Fields(words), io.Discard); err != nil || !holds(found) {
+			t.Error(words, err)
 		}
 	}
 }

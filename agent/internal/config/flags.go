@@ -5,7 +5,6 @@ import (
 	"flag"
 	"fmt"
 	"io"
-	"strings"
 )
 
 // ErrHelp: the flags asked for help, which was printed.
@@ -31,11 +30,6 @@ func Parse(words []string, out io.Writer) (Config, error) {
 			flags.Var(&value{one, &all}, one.flag, one.help)
 		}
 	}
-	for name, why := range refused {
-		if !strings.Contains(name, "_") {
-			flags.Var(refusal(why), name, "")
-		}
-	}
 	take := func(read func(string) ([]string, error)) func(string) error {
 		return func(path string) error {
 			found, err := read(path)
@@ -52,7 +46,7 @@ func Parse(words []string, out io.Writer) (Config, error) {
 		return Config{}, err
 	}
 	if flags.NArg() > 0 {
-		return Config{}, fmt.Errorf("%q is no flag", flags.Arg(0))
+		return Config{}, fmt.Errorf("%q stands alone, and nothing behind it would be read: a flag is -FLAG VALUE, and one without a value -FLAG or -FLAG=false", flags.Arg(0))
 	}
 	config := Default()
 	for _, path := range files {
@@ -91,10 +85,3 @@ func (v *value) Set(text string) error {
 	*v.all = append(*v.all, said{v.setting, text})
 	return nil
 }
-
-// refusal is a flag that isn't taken.
-type refusal string
-
-func (r refusal) String() string   { return "" }
-func (r refusal) IsBoolFlag() bool { return true }
-func (r refusal) Set(string) error { return fmt.Errorf("it isn't taken: %s", string(r)) }

@@ -91,11 +91,14 @@ func level(c *Config, value string) error {
 	return nil
 }
 
-func protocol(_ *Config, value string) error {
-	if value != "5" {
-		return fmt.Errorf("only 5 is spoken, not %q", value)
+// nothing is a setting that may be there where it asks for nothing: a text where it is empty, a truth where it is false.
+func nothing(why string) func(*Config, string) error {
+	return func(_ *Config, value string) error {
+		if value == "" || value == "false" {
+			return nil
+		}
+		return fmt.Errorf("it isn't taken: %s", why)
 	}
-	return nil
 }
 
 func noCompression(c *Config, value string) error {
@@ -116,11 +119,12 @@ var settings = []setting{
 	{"join", "start_join", "agent to join at the start (repeatable)", false, list(func(c *Config) *[]string { return &c.StartJoin })},
 	{"retry-join", "retry_join", "agent to join, tried until it works (repeatable)", false, list(func(c *Config) *[]string { return &c.RetryJoin })},
 	{"retry-interval", "retry_interval", "time between two tries, 30s", false, length(func(c *Config) *time.Duration { return &c.RetryInterval })},
-	{"retry-max", "retry_max_attempts", "greatest number of tries, 0 for no end", false, number(func(c *Config) *int { return &c.RetryMax })},
+	{"retry-max", "retry_max_attempts", "greatest number of tries behind the first, 0 for no end", false, number(func(c *Config) *int { return &c.RetryMax })},
 	{"replay", "replay_on_join", "take the events from before a join, too", true, truth(func(c *Config) *bool { return &c.Replay })},
 	{"rejoin", "rejoin_after_leave", "join again by the snapshot after a leave", true, truth(func(c *Config) *bool { return &c.Rejoin })},
 	{"snapshot", "snapshot_path", "file that keeps clocks and members", false, text(func(c *Config) *string { return &c.Snapshot })},
 	{"keep-events", "keep_events", "keep events in that file too: a restart goes on with them", true, truth(func(c *Config) *bool { return &c.KeepEvents })},
+	{"keep-events-size", "keep_events_size", "bytes of that file that these may have, 33554432", false, number(func(c *Config) *int { return &c.KeepEventsSize })},
 	{"record", "record", "file of what comes and goes, as calls and replies", false, text(func(c *Config) *string { return &c.Record })},
 	{"record-size", "record_size", "bytes of that file before it turns over, 67108864", false, number(func(c *Config) *int { return &c.RecordSize })},
 	{"event-handler", "event_handlers", "SCRIPT, or FILTERS=SCRIPT (repeatable)", false, list(func(c *Config) *[]string { return &c.EventHandlers })},
@@ -133,12 +137,20 @@ var settings = []setting{
 	{"rpc-addr", "rpc_addr", "address or name of the command line's requests, 127.0.0.1:7373", false, unlessEmpty(text(func(c *Config) *string { return &c.RPCAddr }))},
 	{"rpc-auth", "rpc_auth", "token that the command line has to know", false, text(func(c *Config) *string { return &c.RPCAuth })},
 	{"log-level", "log_level", "trace, debug, info, warn or err", false, level},
+	{"syslog", "enable_syslog", "send the log to the machine's syslog too", true, truth(func(c *Config) *bool { return &c.Syslog })},
+	{"", "syslog_facility", "", false, unlessEmpty(text(func(c *Config) *string { return &c.SyslogFacility }))},
 	{"profile", "profile", "lan, wan or local", false, text(func(c *Config) *string { return &c.Profile })},
-	{"protocol", "protocol", "5", false, protocol},
+	{"protocol", "protocol", "version of Serf's protocol, 2 to 5", false, number(func(c *Config) *int { return &c.Protocol })},
 	{"broadcast-timeout", "broadcast_timeout", "how long a leave waits until it is sent, 5s", false, length(func(c *Config) *time.Duration { return &c.BroadcastTimeout })},
 	{"disable-compression", "", "don't pack gossip", true, noCompression},
+	{"prometheus-addr", "prometheus_addr", "address of a page for Prometheus, none; its port is 7374", false, text(func(c *Config) *string { return &c.PrometheusAddr })},
+	{"", "statsite_addr", "", false, text(func(c *Config) *string { return &c.StatsiteAddr })},
+	{"", "statsd_addr", "", false, text(func(c *Config) *string { return &c.StatsdAddr })},
 	{"version", "", "print the version", true, truth(func(c *Config) *bool { return &c.ShowVersion })},
 	{"", "enable_compression", "", false, truth(func(c *Config) *bool { return &c.Compression })},
+	{"", "disable_coordinates", "", false, truth(func(c *Config) *bool { return &c.DisableCoordinates })},
+	{"", "disable_name_resolution", "", false, truth(func(c *Config) *bool { return &c.DisableNameResolution })},
+	{"discover", "discover", "taken where it is empty", false, nothing(noMulticast)},
 	{"", "leave_on_terminate", "", false, truth(func(c *Config) *bool { return &c.LeaveOnTerminate })},
 	{"", "skip_leave_on_interrupt", "", false, truth(func(c *Config) *bool { return &c.SkipLeaveOnInterrupt })},
 	{"", "reconnect_interval", "", false, length(func(c *Config) *time.Duration { return &c.ReconnectInterval })},
@@ -149,17 +161,10 @@ var settings = []setting{
 	{"", "query_response_size_limit", "", false, number(func(c *Config) *int { return &c.QueryResponseSizeLimit })},
 }
 
-// refused are the flags and keys of `serf agent` that aren't taken, with the reason.
+const noMulticast = "peers aren't looked for by multicast; name some by -join or -retry-join"
+
+// refused are keys that aren't taken, whatever they say, with the reason.
 var refused = map[string]string{
-	"discover":                        "peers aren't looked for by multicast; name some by -join or -retry-join",
-	"mdns":                            "peers aren't looked for by multicast; name some by -join or -retry-join",
-	"syslog":                          "the log goes to standard output; let the service manager take it",
-	"enable_syslog":                   "the log goes to standard output; let the service manager take it",
-	"syslog_facility":                 "the log goes to standard output; let the service manager take it",
-	"statsite_addr":                   "no metrics are sent; read `serf info`",
-	"statsd_addr":                     "no metrics are sent; read `serf info`",
-	"disable_coordinates":             "no coordinates are kept, so leave it out",
-	"disable_name_resolution":         "a name conflict is always settled by the cluster, so leave it out",
-	"enable_name_conflict_resolution": "a name conflict is always settled by the cluster, so leave it out",
-	"keyring_pass":                    "keys are kept in plain",
+	"mdns":         noMulticast,
+	"keyring_pass": "keys are kept in plain",
 }

@@ -8,6 +8,8 @@ import (
 	"sync"
 	"time"
 
+	"github.com/armon/go-metrics"
+
 	"kitchenrue.example/serf"
 )
 
@@ -132,6 +134,7 @@ func (r *Runner) run(ctx context.Context, script Script, e serf.Event) {
 		defer cancel()
 	}
 	began := time.Now()
+	defer metrics.MeasureSince([]string{"agent", "invoke", script.Command}, began)
 	done := runScript(ctx, script.Command, environment(r.self(), e), input(e))
 	if length := time.Since(began); length > slow {
 		r.log.Printf("[WARN] agent: the handler %q of %s lasted %v", script.Command, e, length.Round(time.Millisecond))

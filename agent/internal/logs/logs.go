@@ -78,6 +78,8 @@ type Log struct {
 	ring      []string
 	next      int
 	followers map[*Follower]struct{}
+	// syslog gets the lines that are written; none where it is nil.
+	syslog chan string
 }
 
 // New makes a log that writes the lines of this level and above.
@@ -115,6 +117,10 @@ func (l *Log) Write(line []byte) (int, error) {
 		follower.take(level, text)
 	}
 	if level >= l.level {
+		select {
+		case l.syslog <- text:
+		default:
+		}
 		// (a log that can't be written has nobody to tell)
 		_, _ = fmt.Fprintf(l.out, "    %s\n", strings.ReplaceAll(text, "\n", "\n    | "))
 	}

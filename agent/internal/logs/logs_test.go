@@ -3,6 +3,8 @@ package logs
 import (
 	"bytes"
 	"fmt"
+	"net"
+	"path/filepath"
 	"strings"
 	"testing"
 )
@@ -81,5 +83,42 @@ func TestNamesForgeNothing(t *testing.T) {
 	l.Print("[INFO] a\n[ERR] forged")
 	if out.String() != "    [WARN] a\n    |     [ERR] forged?[2J??\tb\n" {
 		t.Errorf("%q", out.String())
+	}
+}
+
+// Syslog gets the lines of the log's level with Serf's severities, without their moment and their level.
+func TestSyslog(t *testing.T) {
+	path := filepath.Join(t.TempDir(), "log")
+	syslogd, err := net.ListenUnixgram("unixgram", &net.UnixAddr{Name: path, Net: "unixgram"})
+	if err != nil {
+		t.Fatal(err)
+	}
+	defer syslogd.Close()
+	l := New(&bytes.Buffer{}, Debug)
+	l.Print("[ERR] too early")
+	end, err := l.ToSyslog("unixgram", path, "local3")
+	if err != nil {
+		t.Fatal(err)
+	}
+	for _, line := range []string{"[TRACE] x", "[DEBUG] a: b", "[INFO] serf: [WARN] c", "none", "[WARN] d\n[ERR] e", "[ERR] f"} {
+		l.Print(line)
+	}
+	l.SetLevel(Trace)
+	l.Print("[TRACE] g")
+	end()
+	// (local3 is 19 * 8)
+	for _, want := range []string{"<158> a: b", "<157> serf: [WARN] c", "<157> none", "<156> d | [ERR] e", "<155> f", "<159> g"} {
+		room := make([]byte, 1024)
+		count, err := syslogd.Read(room)
+		said := string(room[:count])
+		head, text, _ := strings.Cut(want, " ")
+		if err != nil || !strings.HasPrefix(said, head) || !strings.HasSuffix(strings.TrimSpace(said), text) || !strings.Contains(said, " serf[") {
+			t.Errorf("%q: %q %v", want, said, err)
+		}
+	}
+	for _, one := range [][2]string{{path, "local9"}, {path + ".none", "local0"}} {
+		if _, err := l.ToSyslog("unixgram", one[0], one[1]); err == nil {
+			t.Error(one)
+		}
 	}
 }

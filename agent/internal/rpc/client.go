@@ -10,6 +10,8 @@ import (
 	"sync"
 	"time"
 
+	"github.com/armon/go-metrics"
+
 	"kitchenrue.example/agent/internal/handlers"
 	"kitchenrue.example/serf"
 )
@@ -48,8 +50,11 @@ type client struct {
 
 	mu      sync.Mutex
 	changed *sync.Cond
-	frames  [][]byte
-	bytes   int
+	// isBusy: a request of it is being done. last is when the last one began.
+	isBusy bool
+	last   time.Time
+	frames [][]byte
+	bytes  int
 	// isLast: what waits is the last. isOver: nothing is written any more.
 	isLast, isOver bool
 	streams        map[uint64]handlers.Filters
@@ -59,7 +64,7 @@ type client struct {
 
 func newClient(s *Server, conn net.Conn) *client {
 	c := &client{
-		server: s, conn: conn, in: &reader{in: bufio.NewReaderSize(conn, 4<<10)}, isKnown: s.auth == "", times: s.times, began: time.Now(),
+		server: s, conn: conn, in: &reader{in: bufio.NewReaderSize(conn, 4<<10)}, isKnown: s.auth == "", times: s.times, began: time.Now(), last: time.Now(),
 		streams: map[uint64]handlers.Filters{}, stops: map[uint64]*follower{}, asked: map[uint64]*serf.Query{},
 	}
 	c.ctx, c.cancel = context.WithCancel(s.ctx)
@@ -113,6 +118,8 @@ func (c *client) request() error {
 	if err := c.conn.SetReadDeadline(time.Now().Add(c.times.rest)); err != nil {
 		return err
 	}
+	c.busy(true)
+	defer c.busy(false)
 	value, err := c.in.next(maxHeader)
 	if err != nil {
 		return err
@@ -121,6 +128,7 @@ func (c *client) request() error {
 	if err := decode(value, &header); err != nil {
 		return err
 	}
+	metrics.IncrCounter([]string{"agent", "ipc", "command"}, 1)
 	command, is := commands[header.Command]
 	if refusal := c.refusal(header.Command, is); refusal != "" {
 		c.server.log.Printf("[WARN] agent.ipc: %v asked for %.40q: %s", c.conn.RemoteAddr(), header.Command, refusal)
@@ -145,6 +153,22 @@ func (c *client) request() error {
 		}
 	}
 	return command.run(c, header.Seq, body)
+}
+
+// busy notes that a request begins, or is over.
+func (c *client) busy(is bool) {
+	c.mu.Lock()
+	defer c.mu.Unlock()
+	if c.isBusy = is; is {
+		c.last = time.Now()
+	}
+}
+
+// idleSince is since when the client asks for nothing; false where it follows or waits for something.
+func (c *client) idleSince() (time.Time, bool) {
+	c.mu.Lock()
+	defer c.mu.Unlock()
+	return c.last, !c.isBusy && len(c.streams) == 0 && len(c.stops) == 0 && len(c.frames) == 0
 }
 
 // refusal is why a command isn't taken now.

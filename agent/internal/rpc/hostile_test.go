@@ -116,9 +116,33 @@ func TestTooManyClients(t *testing.T) {
 	patient := quick
 	patient.greet = time.Hour
 	s, _, _ := startBy(t, "", patient)
-	for i := 0; i < MaxClients; i++ {
-		dial(t, s).greet()
+	stream := func(p *peer) { p.says(p.ask("stream", streamBody{"*"}), "") }
+	all := []*peer{dial(t, s), dial(t, s).greet()}
+	stream(all[1])
+	for len(all) < MaxClients {
+		all = append(all, dial(t, s).greet())
 	}
+	// (the oldest asked for something, so it isn't the one that is idle for longest)
+	all[0].greet()
+	eventually(t, func() bool {
+		return counted(s, func(c *client) int {
+			if c.isBusy {
+				return 1
+			}
+			return 0
+		}) == 0
+	})
+	late := dial(t, s).greet()
+	all[2].isEnded()
+	if clients(s) != MaxClients {
+		t.Error(clients(s))
+	}
+	for i, p := range append(all, late) {
+		if i != 1 && i != 2 {
+			stream(p)
+		}
+	}
+	eventually(t, func() bool { return streams(s) == MaxClients })
 	dial(t, s).isEnded()
 	if clients(s) != MaxClients {
 		t.Error(clients(s))

@@ -11,6 +11,7 @@ import (
 	"sync"
 	"time"
 
+	"github.com/armon/go-metrics"
 	"github.com/hashicorp/serf/coordinate"
 
 	"kitchenrue.example/agent/internal/logs"
@@ -96,15 +97,17 @@ func (s *Server) accept() {
 	}
 }
 
-// serve begins to serve a client, where there aren't too many.
+// serve begins to serve a client. Where there are too many, the one that asked for nothing for longest goes; where each follows or waits
+// for something, this one is turned away.
 func (s *Server) serve(conn net.Conn) {
 	s.mu.Lock()
 	defer s.mu.Unlock()
-	if len(s.clients) >= MaxClients {
+	if len(s.clients) >= MaxClients && !s.makeRoom() {
 		s.log.Printf("[WARN] agent.ipc: %v was turned away: there are %d clients", conn.RemoteAddr(), MaxClients)
 		conn.Close()
 		return
 	}
+	metrics.IncrCounter([]string{"agent", "ipc", "accept"}, 1)
 	c := newClient(s, conn)
 	s.clients[c] = struct{}{}
 	s.log.Printf("[INFO] agent.ipc: Accepted client: %v", conn.RemoteAddr())
@@ -120,6 +123,24 @@ func (s *Server) serve(conn net.Conn) {
 		defer s.over.Done()
 		c.write()
 	}()
+}
+
+// makeRoom ends the client that is idle for longest; false where none is. mu is held.
+func (s *Server) makeRoom() bool {
+	var longest *client
+	var since time.Time
+	for c := range s.clients {
+		if last, isIdle := c.idleSince(); isIdle && (longest == nil || last.Before(since)) {
+			longest, since = c, last
+		}
+	}
+	if longest == nil {
+		return false
+	}
+	s.log.Printf("[WARN] agent.ipc: %v was ended: there are %d clients, and it is idle for longest", longest.conn.RemoteAddr(), MaxClients)
+	delete(s.clients, longest)
+	longest.end()
+	return true
 }
 
 // Publish tells all streams of an event. It doesn't wait.

@@ -86,7 +86,7 @@ type Config struct {
 	ReconnectTimeout  time.Duration
 	TombstoneTimeout  time.Duration
 
-	// FlapTimeout serves Serf's telemetry alone, and nothing here.
+	// FlapTimeout is how soon a member that failed has to be back, so that it counts as flapping in the metrics.
 	FlapTimeout time.Duration
 
 	// QueueCheckInterval is how often the packets that wait to be sent are counted, and told where they are more than
@@ -123,7 +123,8 @@ type Config struct {
 	Logger    *log.Logger
 
 	// SnapshotPath is the file that keeps the clocks and the members. Each event's line is flushed to it before the event comes, and
-	// Create joins the members that it names. Without a path all is kept in memory, and the next life may take an event again.
+	// Create joins the members that it names. Without a path all is kept in memory, and the next life may take an event again. Each ten
+	// seconds the file is looked at: where it was taken away, replaced or cut off, the node ends with ErrSnapshotChanged.
 	SnapshotPath string
 
 	// RejoinAfterLeave joins the members of the file behind a leave too.
@@ -149,6 +150,11 @@ type Config struct {
 	// such field.
 	KeepEvents bool
 
+	// KeepEventsSize is how many bytes of the file the kept events may have: 1 MiB to 1 GiB, and 32 MiB where it is 0. Half of it is shared
+	// by the times of EventBuffer, each its own part, and half is for whichever come. What has no room is dropped, and not taken. Serf has
+	// no such field.
+	KeepEventsSize int
+
 	// Guard has the bounds of what memberlist is given to read, and of how many members are known (8,192); each that is 0 is that of
 	// guard.Defaults. Where MemberlistConfig has a Transport, that is taken, and no guard. Serf has no such field.
 	Guard guard.Settings
@@ -156,6 +162,9 @@ type Config struct {
 	// Wrap, where it isn't nil, is given the proved agent before its first call, and what it gives is called in its place: so a
 	// program may record the calls. Serf has no such field.
 	Wrap func(agent Agent, settings serfagent.Settings) (Agent, error)
+
+	// lookTime is how often the file is looked at; shorter in tests.
+	lookTime time.Duration
 }
 
 // Init makes the map of the tags, where there is none.
@@ -201,6 +210,12 @@ func (c *Config) copied() (*Config, error) {
 		}
 		own.NodeName = name
 	}
+	if own.KeepEventsSize == 0 {
+		own.KeepEventsSize = DefaultKeepEventsSize
+	}
+	if own.lookTime == 0 {
+		own.lookTime = lookTime
+	}
 	least := DefaultConfig()
 	for _, one := range []struct{ length, where *time.Duration }{
 		{&least.BroadcastTimeout, &own.BroadcastTimeout}, {&least.ReapInterval, &own.ReapInterval},
@@ -228,6 +243,7 @@ func (c *Config) check() error {
 		{"ProtocolVersion", int(c.ProtocolVersion), int(ProtocolVersionMin), ProtocolVersionMax}, {"EventBuffer", c.EventBuffer, 1, greatestBuffer}, {"QueryBuffer", c.QueryBuffer, 1, greatestBuffer},
 		{"UserEventSizeLimit", c.UserEventSizeLimit, 0, UserEventSizeLimit}, {"QuerySizeLimit", c.QuerySizeLimit, 0, UserEventSizeLimit},
 		{"QueryResponseSizeLimit", c.QueryResponseSizeLimit, 0, UserEventSizeLimit},
+		{"KeepEventsSize", c.KeepEventsSize, MinKeepEventsSize, MaxKeepEventsSize},
 	} {
 		if one.is < one.from || one.is > one.until {
 			return &FieldError{one.field, fmt.Errorf("%d is not between %d and %d", one.is, one.from, one.until)}

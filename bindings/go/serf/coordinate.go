@@ -6,6 +6,7 @@ import (
 	"sync"
 	"time"
 
+	"github.com/armon/go-metrics"
 	"github.com/hashicorp/go-msgpack/codec"
 	"github.com/hashicorp/memberlist"
 	"github.com/hashicorp/serf/coordinate"
@@ -78,6 +79,7 @@ func (d delegate) NotifyPingComplete(other *memberlist.Node, rtt time.Duration, 
 		err = d.places.take(d.config.NodeName, other.Name, at, rtt)
 	}
 	if err != nil {
+		countOf("coordinate", "rejected")
 		d.log.Printf("[DEBUG] serf: the coordinate of %q was not taken: %v", other.Name, err)
 	}
 }
@@ -102,10 +104,12 @@ func readPlace(payload []byte) (*coordinate.Coordinate, error) {
 
 // take moves this node's coordinate by another's.
 func (p *places) take(self, other string, at *coordinate.Coordinate, rtt time.Duration) error {
+	before := p.client.GetCoordinate()
 	own, err := p.client.Update(other, at, rtt)
 	if err != nil {
 		return err
 	}
+	metrics.AddSample([]string{"serf", "coordinate", "adjustment-ms"}, float32(before.DistanceTo(own).Seconds()*1000))
 	p.mu.Lock()
 	defer p.mu.Unlock()
 	p.others[other], p.others[self] = at, own

@@ -32,6 +32,7 @@ func (d delegate) NodeMeta(int) []byte {
 
 // NotifyMsg takes a packet.
 func (d delegate) NotifyMsg(packet []byte) {
+	sample(len(packet), "msgs", "received")
 	if len(packet) > longestPacket || len(packet) > 0 && !d.packets.add(packet, false) {
 		d.dropped.Add(1)
 	}
@@ -63,6 +64,7 @@ func (d delegate) GetBroadcasts(overhead, limit int) [][]byte {
 		}
 		for _, packet := range packets {
 			limit -= overhead + len(packet)
+			sample(len(packet), "msgs", "sent")
 			all = append(all, packet)
 		}
 	}
@@ -223,7 +225,9 @@ func (s *Serf) checkQueues() {
 		case <-ticker.C:
 		}
 		for name, queue := range map[string]*memberlist.TransmitLimitedQueue{"Intent": s.intents, "Event": s.events, "Query": s.queries} {
-			if depth := queue.NumQueued(); depth >= s.config.QueueDepthWarning && depth > 0 {
+			depth := queue.NumQueued()
+			sample(depth, "queue", name)
+			if depth >= s.config.QueueDepthWarning && depth > 0 {
 				s.log.Printf("[WARN] serf: %s queue depth: %d", name, depth)
 			}
 		}

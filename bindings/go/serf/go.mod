@@ -3,6 +3,7 @@ module kitchenrue.example/serf
 go 1.19
 
 require (
+	github.com/armon/go-metrics v0.0.0-20180917152333-f0300d1749da
 	github.com/hashicorp/go-msgpack v0.5.5
 	github.com/hashicorp/memberlist v0.2.2
 	github.com/hashicorp/serf v0.9.4

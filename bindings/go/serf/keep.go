@@ -2,7 +2,8 @@ package serf
 
 import "time"
 
-// keepTime is how often lines are written at most, and lookTime how often the file's length is looked at.
+// keepTime is how often lines are written at most, and lookTime how often the file is looked at: how long it is, and whether it is the
+// node's still.
 const (
 	keepTime = 500 * time.Millisecond
 	lookTime = 10 * time.Second
@@ -10,7 +11,7 @@ const (
 
 // keep writes lines of members to the snapshot, and the members' clock behind them.
 func (s *Serf) keep() {
-	ticker := time.NewTicker(lookTime)
+	ticker := time.NewTicker(s.config.lookTime)
 	defer ticker.Stop()
 	for {
 		select {
@@ -35,6 +36,12 @@ func (s *Serf) keep() {
 
 // writeLines writes the lines that wait, and compacts the file where that is worth its while. order is held.
 func (s *Serf) writeLines() error {
+	s.grown = 0
+	if s.snapshot != nil {
+		if err := s.snapshot.look(); err != nil {
+			return err
+		}
+	}
 	// (where memory is wanting the lines go on waiting)
 	if err := s.agent.SaveMemberClock(); err != nil {
 		return err
@@ -51,6 +58,7 @@ func (s *Serf) writeLines() error {
 	if !isTooMany && !s.snapshot.shouldCompact(alive) {
 		return nil
 	}
+	defer lasted(time.Now(), "snapshot", "compact")
 	err := s.snapshot.compact(alive, s.agent.Compact)
 	if err != nil && isTooMany {
 		s.lines.lost()

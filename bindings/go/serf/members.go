@@ -23,6 +23,8 @@ type memberList struct {
 	log  *log.Logger
 	// intentTime is how long an intent of a member that isn't known waits for it.
 	intentTime time.Duration
+	// flapTime is how soon a member that failed has to be back so that it flaps.
+	flapTime time.Duration
 	// tell gets each event, and keep each line for the snapshot. Neither may wait.
 	tell func(MemberEvent)
 	keep func(line string)
@@ -60,7 +62,7 @@ type toldOf struct {
 // newMembers makes an empty list.
 func newMembers(c *Config, logger *log.Logger, tell func(MemberEvent), keep func(string)) *memberList {
 	return &memberList{
-		self: c.NodeName, log: logger, intentTime: c.RecentIntentTimeout, tell: tell, keep: keep, members: map[string]*member{}, intents: map[string]heldIntent{},
+		self: c.NodeName, log: logger, intentTime: c.RecentIntentTimeout, flapTime: c.FlapTimeout, tell: tell, keep: keep, members: map[string]*member{}, intents: map[string]heldIntent{},
 	}
 }
 
@@ -84,9 +86,15 @@ func (l *memberList) change(made func()) {
 }
 
 func (l *memberList) note(kind EventType, m *member, line string) {
+	if word, is := countedChanges[kind]; is {
+		countOf("member", word)
+	}
 	l.known.Store(int64(len(l.members)))
 	l.waiting = append(l.waiting, toldOf{MemberEvent{kind, []Member{m.Member}}, line})
 }
+
+// countedChanges are Serf's names for what happens to members.
+var countedChanges = map[EventType]string{EventMemberJoin: "join", EventMemberLeave: "left", EventMemberFailed: "failed", EventMemberUpdate: "update"}
 
 func alive(m *member) string {
 	return "alive: " + m.Name + " " + net.JoinHostPort(m.Addr.String(), strconv.Itoa(int(m.Port))) + "\n"
@@ -101,6 +109,9 @@ func (l *memberList) joined(is Member) {
 		if m == nil {
 			m = &member{}
 			l.members[is.Name] = m
+		}
+		if m.Status == StatusFailed && time.Since(m.since) < l.flapTime {
+			countOf("member", "flap")
 		}
 		m.Member, m.since, m.isPruned = is, time.Time{}, false
 		m.Status = StatusAlive

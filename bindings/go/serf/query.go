@@ -162,6 +162,7 @@ func (s *Serf) ask(name string, payload []byte, params QueryParam) (*QueryRespon
 		}
 		response = s.opened(asking{asked.Time, id}, params)
 		s.handQuery(asked.Query)
+		s.queryNames.tell()
 		return nil
 	})
 	if errors.Is(err, serfagent.TooLarge) {
@@ -215,7 +216,13 @@ func (s *Serf) counted(received *serfagent.Received) {
 	if answer == nil {
 		return
 	}
-	if one := s.open[asking{answer.Time, answer.ID}]; one != nil && !one.take(answer, received.Kind == serfagent.Ack) {
+	isAck := received.Kind == serfagent.Ack
+	if isAck {
+		countOf("query_acks")
+	} else {
+		countOf("query_responses")
+	}
+	if one := s.open[asking{answer.Time, answer.ID}]; one != nil && !one.take(answer, isAck) {
 		s.dropped.Add(1)
 	}
 }

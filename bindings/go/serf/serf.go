@@ -122,6 +122,15 @@ type Serf struct {
 	asked     chan chan<- []byte
 
 	lines *lines
+
+	// kept bounds what is kept of events; nil where none is. grown is how much the file has grown since it was last looked at: order is
+	// held.
+	kept   *kept
+	unkept atomic.Int64
+	grown  int
+
+	// Names of events, and of queries, that are counted.
+	eventNames, queryNames *names
 }
 
 // Create makes a node, and joins the members that its snapshot names. The configuration is copied.
@@ -173,7 +182,8 @@ func create(c *Config, agent Agent, file *snapshotFile, keys *keyring, data []by
 		config: c, log: c.logger(), agent: agent, keys: keys, snapshot: file, previous: previous, began: time.Now(), ctx: ctx, stop: stop,
 		shutdown: make(chan struct{}), pipe: newPipe(), left: make(chan int, 1), open: map[asking]*QueryResponse{}, firings: newFirings(), packets: newQueue(),
 		states: newQueue(), due: make(chan struct{}, 1), internal: make(chan *serfagent.Handed, 64), conflicts: make(chan struct{}, 1),
-		joined: make(chan struct{}, 1), tags: c.Tags, data: data, asked: make(chan chan<- []byte), lines: newLines(),
+		joined: make(chan struct{}, 1), tags: c.Tags, data: data, asked: make(chan chan<- []byte), lines: newLines(), eventNames: namesOf("events"),
+		queryNames: namesOf("queries"),
 	}
 	s.coalescer = newCoalescer(c, s.pipe.add)
 	s.members = newMembers(c, s.log, func(e MemberEvent) { s.out(e) }, s.lines.add)
@@ -187,6 +197,10 @@ func create(c *Config, agent Agent, file *snapshotFile, keys *keyring, data []by
 		return nil, err
 	}
 	s.tellOfFarClocks()
+	if err := s.boundKept(); err != nil {
+		stop()
+		return nil, err
+	}
 	if err := s.listen(); err != nil {
 		stop()
 		return nil, err

@@ -1,6 +1,7 @@
 package serf
 
 import (
+	"bytes"
 	"errors"
 	"fmt"
 	"os"
@@ -11,10 +12,10 @@ import (
 // snapshotLimit is how many bytes the file may have before it is worth a compaction: Serf's own number.
 const snapshotLimit = 128 << 10
 
-// maxSnapshot is how long a file may be whose members are read, and maxMembers how many of them are taken.
+// maxMembers is how many members of a file are taken, and maxBeside how long the file of members may be that waits beside it.
 const (
-	maxSnapshot = 256 << 20
-	maxMembers  = 1 << 16
+	maxMembers = 1 << 16
+	maxBeside  = 256 << 20
 )
 
 // PreviousNode is a member that the file of the last life left alive, and where it was.
@@ -29,8 +30,12 @@ func (p PreviousNode) String() string { return p.Name + ": " + p.Addr }
 // can take over each other's file. The library holds the file's lock, and writes its own lines. The lines of members are written beside
 // them, whole, never while the library writes: who calls sees to that. They are brought to the disk with the library's next line.
 type snapshotFile struct {
-	path string
-	file *os.File
+	// name is the path as it was said, and path the same without links.
+	name, path string
+	file       *os.File
+	// seen is where the text ended when it was last looked at, and tail its last bytes there.
+	seen int64
+	tail []byte
 	// own is how many bytes the library's own lines had when it replaced the file last, or those of its clocks before that.
 	own int64
 	// knowsEvents: the text that was opened says of events which are old. A life before took some, or joined and ignored what was old.
@@ -53,62 +58,72 @@ func openSnapshot(path string, isRejoining bool) (*snapshotFile, []PreviousNode,
 	if err != nil {
 		return nil, nil, err
 	}
-	text, err := readFile(real, maxSnapshot)
-	if err != nil {
+	f := &snapshotFile{name: path, path: real, own: clockLines}
+	alive := aliveOf{isRejoining: isRejoining, addrs: map[string]string{}}
+	if err := readLinesOf(real, func(line string) {
+		alive.line(line)
+		f.knowsEvents = f.knowsEvents || saysOfEvents(line)
+	}); err != nil {
 		return nil, nil, err
 	}
-	f := &snapshotFile{path: real, own: clockLines, knowsEvents: saysOfEvents(string(text))}
 	if err := f.reopen(); err != nil {
 		return nil, nil, err
 	}
-	beside, err := readFile(f.beside(), maxSnapshot)
+	beside, err := readFile(f.beside(), maxBeside)
 	if err == nil {
-		text = append(text, beside...)
+		_ = readLines(bytes.NewReader(beside), alive.line)
 		err = f.restore(beside)
 	}
-	if err != nil && !errors.Is(err, os.ErrNotExist) {
+	if errors.Is(err, os.ErrNotExist) {
+		err = nil
+	}
+	if err == nil {
+		err = f.mark()
+	}
+	if err != nil {
 		f.close()
 		return nil, nil, err
 	}
-	return f, leftAlive(string(text), isRejoining), nil
+	return f, alive.left(), nil
 }
 
-// leftAlive are the members that a text leaves alive, in the order of their last lines.
-func leftAlive(text string, isRejoining bool) []PreviousNode {
-	var order []string
-	addrs := map[string]string{}
-	for _, line := range strings.Split(text, "\n") {
-		if name, is := cut(line, "not-alive: "); is {
-			delete(addrs, name)
-		} else if words, is := cut(line, "alive: "); is {
-			// (a name may have spaces)
-			at := strings.LastIndexByte(words, ' ')
-			if at > 0 && (len(addrs) < maxMembers || addrs[words[:at]] != "") {
-				addrs[words[:at]] = words[at+1:]
-				order = append(order, words[:at])
-			}
-		} else if line == "leave" && !isRejoining {
-			addrs, order = map[string]string{}, nil
+// aliveOf finds the members that a text leaves alive, line by line.
+type aliveOf struct {
+	isRejoining bool
+	order       []string
+	addrs       map[string]string
+}
+
+func (a *aliveOf) line(line string) {
+	if name, is := cut(line, "not-alive: "); is {
+		delete(a.addrs, name)
+	} else if words, is := cut(line, "alive: "); is {
+		// (a name may have spaces)
+		at := strings.LastIndexByte(words, ' ')
+		if at > 0 && (len(a.addrs) < maxMembers || a.addrs[words[:at]] != "") {
+			a.addrs[words[:at]] = words[at+1:]
+			a.order = append(a.order, words[:at])
 		}
+	} else if line == "leave" && !a.isRejoining {
+		a.addrs, a.order = map[string]string{}, nil
 	}
+}
+
+// left are these members, in the order of their last lines.
+func (a *aliveOf) left() []PreviousNode {
 	var found []PreviousNode
-	for i := len(order) - 1; i >= 0; i-- {
-		if addr := addrs[order[i]]; addr != "" {
-			found = append(found, PreviousNode{order[i], addr})
-			delete(addrs, order[i])
+	for i := len(a.order) - 1; i >= 0; i-- {
+		if addr := a.addrs[a.order[i]]; addr != "" {
+			found = append(found, PreviousNode{a.order[i], addr})
+			delete(a.addrs, a.order[i])
 		}
 	}
 	return found
 }
 
-// saysOfEvents says whether a text says of events which are old.
-func saysOfEvents(text string) bool {
-	for _, line := range strings.Split(text, "\n") {
-		if strings.HasPrefix(line, clockWord) || strings.HasPrefix(line, leastWord) {
-			return true
-		}
-	}
-	return false
+// saysOfEvents says whether a line says of events which are old.
+func saysOfEvents(line string) bool {
+	return strings.HasPrefix(line, clockWord) || strings.HasPrefix(line, leastWord)
 }
 
 func cut(line, prefix string) (string, bool) {
@@ -132,7 +147,7 @@ func (f *snapshotFile) restore(lines []byte) error {
 }
 
 func (f *snapshotFile) reopen() error {
-	file, err := os.OpenFile(f.path, os.O_WRONLY|os.O_APPEND, 0)
+	file, err := os.OpenFile(f.path, os.O_RDWR|os.O_APPEND, 0)
 	if err != nil {
 		return err
 	}
@@ -210,7 +225,60 @@ func (f *snapshotFile) compact(lines []string, library func() error) error {
 	if about, err := f.file.Stat(); err == nil {
 		f.own = about.Size()
 	}
-	return f.restore(text)
+	if err := f.restore(text); err != nil {
+		return err
+	}
+	return f.mark()
+}
+
+// ErrSnapshotChanged is in the Fault of a node whose file was taken away, replaced or cut off while it ran. A start without the old text
+// may take events again.
+var ErrSnapshotChanged = errors.New("the snapshot was changed from outside")
+
+// tailLength is how many bytes of the text's end are looked at again.
+const tailLength = 256
+
+// look says whether the path still names the file, and whether the text still goes on from what was last seen.
+func (f *snapshotFile) look() error {
+	changed := func(how string) error { return fmt.Errorf("%w: %s %s", ErrSnapshotChanged, f.name, how) }
+	own, err := f.file.Stat()
+	if err != nil {
+		return err
+	}
+	named, err := os.Stat(f.name)
+	switch {
+	case errors.Is(err, os.ErrNotExist):
+		return changed("isn't there any more")
+	case err != nil:
+		return err
+	case !os.SameFile(own, named):
+		return changed("is another file now")
+	case own.Size() < f.seen:
+		return changed(fmt.Sprintf("has %d bytes, and had %d", own.Size(), f.seen))
+	}
+	tail := make([]byte, len(f.tail))
+	if _, err := f.file.ReadAt(tail, f.seen-int64(len(tail))); err != nil {
+		return err
+	}
+	if !bytes.Equal(tail, f.tail) {
+		return changed("has another text now")
+	}
+	return f.mark()
+}
+
+// mark notes where the text ends, for the next look.
+func (f *snapshotFile) mark() error {
+	about, err := f.file.Stat()
+	if err != nil {
+		return err
+	}
+	length := about.Size()
+	if length > tailLength {
+		length = tailLength
+	}
+	f.seen, f.tail = about.Size(), make([]byte, length)
+	_, err = f.file.ReadAt(f.tail, f.seen-length)
+	return err
 }
 
 // sync brings all lines to the disk.

@@ -41,7 +41,11 @@ func TestMembersOfATextAreFound(t *testing.T) {
 		{"alive: a\nalive:  1:1\nalive: \n# alive: c 1:1\ncoordinate: {}\nxalive: d 1:1\n", false, "[]"},
 		{"alive: a 1:1\nalive: b 2:", false, "[b: 2: a: 1:1]"},
 	} {
-		if found := fmt.Sprint(leftAlive(one.text, one.isRejoining)); found != one.want {
+		alive := aliveOf{isRejoining: one.isRejoining, addrs: map[string]string{}}
+		if err := readLines(strings.NewReader(one.text), alive.line); err != nil {
+			t.Fatal(err)
+		}
+		if found := fmt.Sprint(alive.left()); found != one.want {
 			t.Errorf("%q: %s", one.text, found)
 		}
 	}

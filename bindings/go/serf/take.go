@@ -45,19 +45,22 @@ func (s *Serf) take() {
 
 // told is how much of what was dropped was told.
 type told struct {
-	dropped, far int64
-	refused      uint64
+	dropped, far, unkept int64
+	refused              uint64
 }
 
 // tellDropped tells of what was dropped since it was last told.
 func (s *Serf) tellDropped(before *told) {
 	refused, reasons := s.refused()
-	now := told{s.dropped.Load(), s.far.Load(), refused}
+	now := told{s.dropped.Load(), s.far.Load(), s.unkept.Load(), refused}
 	if now.dropped > before.dropped {
 		s.log.Printf("[WARN] serf: %d packets or states were dropped, since too many wait", now.dropped-before.dropped)
 	}
 	if now.far > before.far {
 		s.log.Printf("[WARN] serf: %d packets or states were dropped, since a time in them is from 2^63 on, which no honest clock reaches", now.far-before.far)
+	}
+	if now.unkept > before.unkept {
+		s.log.Printf("[WARN] serf: %d packets or states were dropped, since the events that are kept have no more room than %d bytes", now.unkept-before.unkept, s.config.KeepEventsSize)
 	}
 	if now.refused > before.refused {
 		s.log.Printf("[WARN] serf: %d packets, streams or parts of them were refused; by reason since the start: %s", now.refused-before.refused, reasons)
@@ -71,9 +74,10 @@ func (s *Serf) merge(state piece) error {
 		s.far.Add(1)
 		return nil
 	}
-	events, err := s.agent.Merge(state.data, state.isJoin)
+	events, err := s.mergeEvents(state)
 	// (some may have entered before the memory was out)
 	s.hand(events...)
+	s.eventNames.tell()
 	if err != nil {
 		s.log.Printf("[WARN] serf: a state was not taken: %v", err)
 		return err
@@ -87,6 +91,19 @@ func (s *Serf) merge(state piece) error {
 		s.wronged()
 	}
 	return nil
+}
+
+// mergeEvents merges a state, or of one whose events have no room no more than its member clock.
+func (s *Serf) mergeEvents(state piece) ([]*serfagent.Event, error) {
+	if state.isJoin || s.kept.state(state.data) {
+		return s.agent.Merge(state.data, state.isJoin)
+	}
+	s.unkept.Add(1)
+	times, err := readTimes(state.data)
+	if err != nil {
+		return nil, nil
+	}
+	return nil, s.agent.ObserveMember(times.member)
 }
 
 // atOnce is how many packets are taken until those of the proved agent among them are given to it, however many intents and relays the
@@ -103,6 +120,10 @@ func (s *Serf) takePackets() error {
 		}
 		if s.isFar(packet.data) {
 			s.far.Add(1)
+			continue
+		}
+		if !s.kept.packet(packet.data) {
+			s.unkept.Add(1)
 			continue
 		}
 		switch packet.data[0] {
@@ -165,7 +186,10 @@ func (s *Serf) makeBurst(packets []Packet) ([]serfagent.Outcome, error) {
 	for i, one := range firings {
 		fired[i] = one.Firing
 	}
+	began := time.Now()
 	outcomes, err := s.agent.TakeAll(s.now(), packets, fired)
+	lasted(began, "snapshot", "appendLine")
+	sample(len(packets)+len(firings), "burst")
 	for i, outcome := range outcomes {
 		if i < len(packets) && outcome.Received != nil {
 			s.hand(outcome.Received.Event)
@@ -173,6 +197,8 @@ func (s *Serf) makeBurst(packets []Packet) ([]serfagent.Outcome, error) {
 			s.counted(outcome.Received)
 		}
 	}
+	defer s.eventNames.tell()
+	defer s.queryNames.tell()
 	for i, one := range firings {
 		one.err = err
 		if at := len(packets) + i; at < len(outcomes) {
@@ -240,6 +266,8 @@ func (s *Serf) sendOn(packet []byte, received *serfagent.Received) {
 func (s *Serf) hand(events ...*serfagent.Event) {
 	for _, one := range events {
 		if one != nil {
+			s.eventNames.count(string(one.Name))
+			s.noteKept(one)
 			s.out(UserEvent{LamportTime(one.Time), string(one.Name), one.Payload, one.Coalesce})
 		}
 	}
@@ -262,6 +290,7 @@ func (s *Serf) handQuery(query *serfagent.Handed) {
 		_, _ = s.agent.Respond(0, query.Number-unanswered, nil)
 	}
 	name := string(query.Name)
+	s.queryNames.count(name)
 	if strings.HasPrefix(name, InternalQueryPrefix) {
 		select {
 		case s.internal <- query:

@@ -1,0 +1,197 @@
+package measure
+
+import (
+	"bufio"
+	"fmt"
+	"io"
+	"net"
+	"net/http"
+	"strings"
+	"sync"
+	"syscall"
+	"testing"
+	"time"
+
+	"github.com/armon/go-metrics"
+)
+
+func eventually(t *testing.T, what string, holds func() bool) {
+	t.Helper()
+	for i := 0; i < 6000; i++ {
+		if holds() {
+			return
+		}
+		time.Sleep(10 * time.Millisecond)
+	}
+	t.Fatalf("never: %s", what)
+}
+
+// said is what a program said. Many may write.
+type said struct {
+	mu   sync.Mutex
+	text strings.Builder
+}
+
+func (s *said) Write(data []byte) (int, error) {
+	s.mu.Lock()
+	defer s.mu.Unlock()
+	return s.text.Write(data)
+}
+
+func (s *said) has(what string) bool {
+	s.mu.Lock()
+	defer s.mu.Unlock()
+	return strings.Contains(s.text.String(), what)
+}
+
+// shown is the page.
+func shown(t *testing.T, at net.Addr) string {
+	t.Helper()
+	client := http.Client{Transport: &http.Transport{DisableKeepAlives: true}}
+	answer, err := client.Get("http://" + at.String() + "/metrics")
+	if err != nil {
+		t.Fatal(err)
+	}
+	defer answer.Body.Close()
+	text, err := io.ReadAll(answer.Body)
+	if err != nil || answer.StatusCode != 200 {
+		t.Fatal(answer.Status, err)
+	}
+	return string(text)
+}
+
+// What is counted comes to statsite, to statsd, to the page and, at SIGUSR1, to the dumps.
+func TestWhoIsTold(t *testing.T) {
+	var told said
+	statsite, err := net.Listen("tcp", "127.0.0.1:0")
+	if err != nil {
+		t.Fatal(err)
+	}
+	defer statsite.Close()
+	go func() {
+		conn, err := statsite.Accept()
+		if err != nil {
+			return
+		}
+		defer conn.Close()
+		for lines := bufio.NewScanner(conn); lines.Scan(); {
+			fmt.Fprintln(&told, "statsite "+lines.Text())
+		}
+	}()
+	statsd, err := net.ListenPacket("udp", "127.0.0.1:0")
+	if err != nil {
+		t.Fatal(err)
+	}
+	defer statsd.Close()
+	go func() {
+		room := make([]byte, 1<<16)
+		for count, _, err := statsd.ReadFrom(room); err == nil; count, _, err = statsd.ReadFrom(room) {
+			for _, line := range strings.Split(string(room[:count]), "\n") {
+				fmt.Fprintln(&told, "statsd "+line)
+			}
+		}
+	}()
+	var dumps said
+	m, err := Start(statsite.Addr().String(), statsd.LocalAddr().String(), "127.0.0.1:0", &dumps)
+	if err != nil {
+		t.Fatal(err)
+	}
+	m.Watch(func() map[string]map[string]string {
+		return map[string]map[string]string{"agent": {"handlers_waiting": "3", "name": "a"}, "serf": {"dropped_far": "17"}, "runtime": {"goroutines": "5"}}
+	})
+	metrics.IncrCounter([]string{"serf", "events"}, 1)
+	metrics.IncrCounter([]string{"serf", "events"}, 1)
+	metrics.IncrCounter([]string{"serf", "events", "de-ploy"}, 1)
+	metrics.IncrCounter([]string{"serf", "queries", "q"}, 1)
+	metrics.IncrCounter([]string{"serf", "queries", "r"}, 1)
+	metrics.AddSample([]string{"serf", "msgs", "received"}, 7)
+	metrics.AddSample([]string{"serf", "msgs", "received"}, 8)
+	metrics.SetGauge([]string{"x"}, 4)
+	for _, what := range []string{
+		"statsite serf-agent.serf.events:1.000000|c", "statsd serf-agent.serf.events:1.000000|c", "statsd serf-agent.serf.events.de-ploy:1.000000|c",
+		"statsite serf-agent.serf.msgs.received:7.000000|ms", "statsd serf-agent.serf.msgs.received:8.000000|ms", ".x:4.000000|g",
+	} {
+		eventually(t, what, func() bool { return told.has(what) })
+	}
+	text := shown(t, m.page.listener.Addr())
+	for _, what := range []string{
+		"# TYPE serf_events counter\nserf_events 2\n", "# TYPE serf_events_by_name counter\nserf_events_by_name{name=\"de-ploy\"} 1\n",
+		"serf_queries_by_name{name=\"q\"} 1\nserf_queries_by_name{name=\"r\"} 1\n",
+		"# TYPE serf_msgs_received summary\nserf_msgs_received_count 2\nserf_msgs_received_sum 15\n", "# TYPE x gauge\nx 4\n",
+		"# TYPE agent_handlers_waiting gauge\nagent_handlers_waiting 3\n", "# TYPE serf_dropped_far gauge\nserf_dropped_far 17\n",
+	} {
+		if !strings.Contains(text, what) {
+			t.Errorf("%q is not in %s", what, text)
+		}
+	}
+	if strings.Contains(text, "goroutines 5") || strings.Contains(text, "agent_name") {
+		t.Error(text)
+	}
+	eventually(t, "it is dumped", func() bool {
+		if err := syscall.Kill(syscall.Getpid(), syscall.SIGUSR1); err != nil {
+			t.Fatal(err)
+		}
+		time.Sleep(100 * time.Millisecond)
+		return dumps.has("serf-agent.serf.events': Count: 2")
+	})
+	m.Close()
+	if _, err := net.Dial("tcp", m.page.listener.Addr().String()); err == nil {
+		t.Error("the page is still there")
+	}
+}
+
+// Many names, and many who read, have a bound.
+func TestBounds(t *testing.T) {
+	p, err := listen("127.0.0.1:0", "host")
+	if err != nil {
+		t.Fatal(err)
+	}
+	defer p.close()
+	for i := 0; i < 2*maxNames; i++ {
+		p.totals.IncrCounterWithLabels([]string{Service, fmt.Sprint("c", i)}, 1, nil)
+	}
+	p.totals.SetGaugeWithLabels([]string{"c1"}, 100, nil)
+	if count := strings.Count(shown(t, p.listener.Addr()), "# TYPE "); count != maxNames {
+		t.Error(count)
+	}
+	if text := shown(t, p.listener.Addr()); !strings.Contains(text, "\nc1 1\n") {
+		t.Error("a gauge in a counter's place")
+	}
+	var idle []net.Conn
+	for i := 0; i < maxReaders; i++ {
+		conn, err := net.Dial("tcp", p.listener.Addr().String())
+		if err != nil {
+			t.Fatal(err)
+		}
+		idle = append(idle, conn)
+	}
+	eventually(t, "all have come", func() bool {
+		p.mu.Lock()
+		defer p.mu.Unlock()
+		return p.readers == maxReaders
+	})
+	one, err := net.Dial("tcp", p.listener.Addr().String())
+	if err != nil {
+		t.Fatal(err)
+	}
+	if _, err := one.Read(make([]byte, 1)); err == nil {
+		t.Error("one more is served")
+	}
+	for _, conn := range idle {
+		conn.Close()
+	}
+	eventually(t, "all have gone", func() bool {
+		p.mu.Lock()
+		defer p.mu.Unlock()
+		return p.readers == 0
+	})
+	shown(t, p.listener.Addr())
+}
+
+func TestAddressesThatAreNone(t *testing.T) {
+	for _, one := range [][3]string{{"x", "", ""}, {"", "127.0.0.1", ""}, {"", "", "127.0.0.1:x"}} {
+		if _, err := Start(one[0], one[1], one[2], io.Discard); err == nil {
+			t.Error(one)
+		}
+	}
+}
