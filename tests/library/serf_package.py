@@ -142,6 +142,7 @@ def laid(folder, library):
     for path in glob.glob(os.path.join(OWN, "*.go")):
         if not path.endswith("_test.go"):
             os.symlink(path, os.path.join(serf, "serf", os.path.basename(path)))
+    os.symlink(os.path.join(TOP, "bindings", "go", "guard"), os.path.join(source, "kitchenrue.example", "guard"))
     bindings = os.path.join(TOP, "bindings", "go", "serfagent")
     for path in [*glob.glob(os.path.join(bindings, "*.[ch]")), *glob.glob(os.path.join(bindings, "*.go")), library]:
         os.symlink(path, os.path.join(agent, os.path.basename(path)))

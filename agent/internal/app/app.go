@@ -75,6 +75,7 @@ func Start(conf config.Config, out io.Writer) (*App, error) {
 	})
 	go a.pump(events)
 	go a.watch()
+	go a.limitMemory()
 	server, err := rpc.Listen(conf.RPCAddr, conf.RPCAuth, a, a.log)
 	if err != nil {
 		_ = a.Close()

@@ -425,12 +425,13 @@ func TestLimitsOfTheNode(t *testing.T) {
 	conf := conf(t)
 	conf.UserEventSizeLimit, conf.QuerySizeLimit, conf.QueryResponseSizeLimit = 700, 2000, 3000
 	conf.Protocol, conf.DisableCoordinates, conf.DisableNameResolution, conf.KeepEventsSize = 4, true, true, 1<<20
+	conf.MaxMembers = 77
 	a := &App{config: conf, tags: &tags{}, log: logs.New(&said{}, logs.Trace)}
 	found, _, err := a.nodeConfig(nil)
 	if err != nil || found.UserEventSizeLimit != 700 || found.QuerySizeLimit != 2000 || found.QueryResponseSizeLimit != 3000 || found.KeepEvents {
 		t.Errorf("%+v %v", found, err)
 	}
-	if found.ProtocolVersion != 4 || !found.DisableCoordinates || found.EnableNameConflictResolution || found.KeepEventsSize != 1<<20 {
+	if found.ProtocolVersion != 4 || !found.DisableCoordinates || found.EnableNameConflictResolution || found.KeepEventsSize != 1<<20 || found.Guard.Members != 77 {
 		t.Errorf("%+v", found)
 	}
 }

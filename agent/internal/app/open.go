@@ -32,7 +32,7 @@ func (a *App) nodeConfig(events chan<- serf.Event) (*serf.Config, func(), error)
 	own.BroadcastTimeout, own.UserEventSizeLimit = c.BroadcastTimeout, c.UserEventSizeLimit
 	own.QuerySizeLimit, own.QueryResponseSizeLimit = c.QuerySizeLimit, c.QueryResponseSizeLimit
 	own.SnapshotPath, own.RejoinAfterLeave, own.KeepEvents, own.KeyringFile = c.Snapshot, c.Rejoin, c.KeepEvents, c.KeyringFile
-	own.KeepEventsSize = c.KeepEventsSize
+	own.KeepEventsSize, own.Guard.Members = c.KeepEventsSize, c.MaxMembers
 	list, err := listConfig(c)
 	if err != nil {
 		return nil, nil, err

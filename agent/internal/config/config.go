@@ -60,6 +60,8 @@ type Config struct {
 	KeepEvents bool
 	// KeepEventsSize is how many bytes of the snapshot these may have.
 	KeepEventsSize int
+	// MaxMembers is how many members are known at most: new ones stay out above.
+	MaxMembers int
 	// Record is the file of what comes and goes, and RecordSize how many bytes it may have before it turns over.
 	Record     string
 	RecordSize int
@@ -99,7 +101,7 @@ func Default() Config {
 		RetryInterval: 30 * time.Second, ReconnectInterval: 30 * time.Second, ReconnectTimeout: 24 * time.Hour,
 		TombstoneTimeout: 24 * time.Hour, BroadcastTimeout: 5 * time.Second, Compression: true, UserEventSizeLimit: 512,
 		HandlerTimeout: 10 * time.Minute, RecordSize: 64 << 20, QuerySizeLimit: querySize, QueryResponseSizeLimit: querySize,
-		KeepEventsSize: 32 << 20, SyslogFacility: "LOCAL0", Protocol: maxProtocol,
+		KeepEventsSize: 32 << 20, MaxMembers: 8192, SyslogFacility: "LOCAL0", Protocol: maxProtocol,
 	}
 }
 
@@ -233,6 +235,9 @@ func (c *Config) validateNumbers() error {
 	}
 	if c.Protocol < minProtocol || c.Protocol > maxProtocol {
 		return fmt.Errorf("-protocol: %d is not between %d and %d", c.Protocol, minProtocol, maxProtocol)
+	}
+	if c.MaxMembers < 1 {
+		return fmt.Errorf("-max-members: %d is below 1", c.MaxMembers)
 	}
 	if c.RetryMax < 0 {
 		return fmt.Errorf("-retry-max: %d is below 0", c.RetryMax)

@@ -13,6 +13,7 @@ import (
 	"fmt"
 	"log"
 	"math"
+	"net"
 	"sync"
 	"sync/atomic"
 	"time"
@@ -254,8 +255,8 @@ func (s *Serf) listen() error {
 		}
 		return fmt.Errorf("memberlist: %w", err)
 	}
-	if own := list.LocalNode(); !conf.EncryptionEnabled() && !own.Addr.IsLoopback() {
-		s.log.Printf("[WARN] serf: there is no key, so whoever reaches %s may join and speak as any node", own.Address())
+	if at := net.ParseIP(conf.BindAddr); !conf.EncryptionEnabled() && !at.IsLoopback() {
+		s.log.Printf("[WARN] serf: there is no key, so whoever reaches %s may join, and speak as any node", conf.BindAddr)
 	}
 	s.longest = conf.UDPBufferSize - gossipOverhead
 	if conf.EncryptionEnabled() {
