@@ -56,7 +56,9 @@ func TestCommands(t *testing.T) {
 	p.says(p.ask("respond", respondBody{ID: 9}), "No pending queries matching ID")
 	p.says(p.ask("stop", stopBody{77}), "")
 	p.says(p.ask("leave"), "")
-	if want := []string{"fire deploy v1", "fire large ", "force-leave beta", "tags", "leave"}; !reflect.DeepEqual(f.calls, want) || !f.isOver {
+	// (the answer comes before the end)
+	eventually(t, f.ended)
+	if want := []string{"fire deploy v1", "fire large ", "force-leave beta", "tags", "leave"}; !reflect.DeepEqual(f.calls, want) {
 		t.Error(f.calls)
 	}
 }

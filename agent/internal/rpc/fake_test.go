@@ -65,6 +65,12 @@ func (f *fake) Leave() error { f.call("leave"); return nil }
 
 func (f *fake) Shutdown() { f.mu.Lock(); f.isOver = true; f.mu.Unlock() }
 
+func (f *fake) ended() bool {
+	f.mu.Lock()
+	defer f.mu.Unlock()
+	return f.isOver
+}
+
 func (f *fake) ForceLeave(name string, prune bool) error { f.call("force-leave " + name); return nil }
 
 func (f *fake) UpdateTags(set map[string]string, remove []string) error {

@@ -18,7 +18,7 @@ import pages
 from checks import TOP
 
 # What of the repository agent/build and agent/package/deb read, and the handler of docs/INCIDENT.md.
-PARTS = ("agent", "bindings/go/serf", "bindings/go/serfagent", "docs/AGENT.md", "LICENSE", "examples/serf_log_handler.sh")
+PARTS = ("agent", "bindings/go/guard", "bindings/go/serf", "bindings/go/serfagent", "docs/AGENT.md", "LICENSE", "examples/serf_log_handler.sh")
 
 # What stands for the reader's own handlers: they note who ran them, and what they read.
 HANDLER = '#!/bin/sh\necho "$SERF_SELF_NAME $(cat)" >>"$(dirname "$0")/ran"\n'
