@@ -44,18 +44,13 @@ OWN = os.path.join(TOP, "bindings", "go", "serf")
 LEFT_OUT = {"Snapshotter", "NewSnapshotter"}
 
 # Where the tests of Serf's program and of its package stand, and how many have to end well at least.
-PLACES = {"agent": ("cmd/serf/command/agent", 59), "command": ("cmd/serf/command", 43), "serf": ("serf", 41)}
+PLACES = {"agent": ("cmd/serf/command/agent", 59), "command": ("cmd/serf/command", 43), "serf": ("serf", 45)}
 
 # The tests that Debian's sources skip.
 SKIPPED = {"TestCommandRun_mDNS"}
 
 # Tests of Serf's package that compile over ours and can't pass, and why.
-PANIC = "it wants a panic where a type or a status that there isn't is printed, and ours has a text"
-FAILING = {
-    "TestSerf_Query_sizeLimitIncreased": "it changes the configuration behind Create, which has no effect",
-    "TestSerf_joinLeave": "a node that left stays among its own members, where Serf's forgets itself and has no LocalMember then",
-    **dict.fromkeys(("TestEventType_String", "TestMemberEvent", "TestMemberStatus_String"), PANIC),
-}
+FAILING = {"TestSerf_Query_sizeLimitIncreased": "it changes the configuration behind Create, which has no effect"}
 
 # How long a pause of Serf's tests is, try by try: they look once behind a pause, which may be too short on a busy machine. Serf's own
 # is 10 milliseconds.

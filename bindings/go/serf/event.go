@@ -24,9 +24,10 @@ const (
 
 var eventTypes = []string{"member-join", "member-leave", "member-failed", "member-update", "member-reap", "user", "query"}
 
+// String panics, as Serf's does, where there is no such type.
 func (t EventType) String() string {
 	if t < 0 || int(t) >= len(eventTypes) {
-		return fmt.Sprintf("unknown event type: %d", int(t))
+		panic(fmt.Sprintf("unknown event type: %d", int(t)))
 	}
 	return eventTypes[t]
 }
@@ -46,7 +47,13 @@ type MemberEvent struct {
 // EventType is that of what happened.
 func (m MemberEvent) EventType() EventType { return m.Type }
 
-func (m MemberEvent) String() string { return m.Type.String() }
+// String panics, as Serf's does, where the type isn't one of members.
+func (m MemberEvent) String() string {
+	if m.Type > EventMemberReap {
+		panic(fmt.Sprintf("unknown event type: %d", int(m.Type)))
+	}
+	return m.Type.String()
+}
 
 // UserEvent is an event that somebody fired. Its line is on the disk before it comes on EventCh, so it comes once at most in all lives
 // of a node that keeps its file.

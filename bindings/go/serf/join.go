@@ -295,7 +295,7 @@ func (s *Serf) reap() {
 		case <-s.ctx.Done():
 			return
 		case <-ticker.C:
-			s.members.reap(s.config.ReconnectTimeout, s.config.TombstoneTimeout)
+			s.members.reap(s.config.ReconnectTimeout, s.config.TombstoneTimeout, s.State() == SerfLeft)
 			s.places.keepThose(s.members.all())
 		}
 	}

@@ -98,9 +98,14 @@ func TestAMemberThatComesAgain(t *testing.T) {
 func TestANodeDoesNotForgetItself(t *testing.T) {
 	c := newCluster()
 	c.own(StatusLeft, 5)
-	c.reap(-1, -1)
+	c.reap(-1, -1, false)
 	if self, is := c.get("self"); !is || self.Status != StatusLeft {
 		t.Error(self, is)
+	}
+	// behind a leave it does, as Serf's, and still knows who it is
+	c.reap(-1, -1, true)
+	if _, is := c.get("self"); is || c.ownMember().Name != "self" {
+		t.Error(c.ownMember())
 	}
 }
 

@@ -19,9 +19,10 @@ const (
 
 var memberStatuses = []string{"none", "alive", "leaving", "left", "failed"}
 
+// String panics, as Serf's does, where there is no such status.
 func (s MemberStatus) String() string {
 	if s < 0 || int(s) >= len(memberStatuses) {
-		return fmt.Sprintf("unknown MemberStatus: %d", int(s))
+		panic(fmt.Sprintf("unknown MemberStatus: %d", int(s)))
 	}
 	return memberStatuses[s]
 }

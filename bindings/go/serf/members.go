@@ -31,6 +31,8 @@ type memberList struct {
 
 	mu      sync.Mutex
 	members map[string]*member
+	// last is this node as it was when it was forgotten, behind a leave.
+	last    Member
 	intents map[string]heldIntent
 	waiting []toldOf
 	isBusy  bool
@@ -276,15 +278,19 @@ func (l *memberList) own(status MemberStatus, time uint64) {
 	})
 }
 
-// reap forgets the members that failed or left long ago, and the intents that nobody claimed.
-func (l *memberList) reap(failedFor, leftFor time.Duration) {
+// reap forgets the members that failed or left long ago, this node itself only where it is gone by a leave, and the intents that nobody
+// claimed.
+func (l *memberList) reap(failedFor, leftFor time.Duration, isGone bool) {
 	l.change(func() {
 		now := time.Now()
 		for _, m := range l.members {
-			if m.Name == l.self {
+			if m.Name == l.self && !isGone {
 				continue
 			}
 			if m.Status == StatusFailed && now.Sub(m.since) > failedFor || m.Status == StatusLeft && now.Sub(m.since) > leftFor {
+				if m.Name == l.self {
+					l.last = m.Member
+				}
 				l.forget(m, "timeout")
 			}
 		}
@@ -306,6 +312,16 @@ func (l *memberList) all() []Member {
 	}
 	sort.Slice(all, func(i, j int) bool { return all[i].Name < all[j].Name })
 	return all
+}
+
+// ownMember is this node, also behind a leave when it was forgotten.
+func (l *memberList) ownMember() Member {
+	if found, is := l.get(l.self); is {
+		return found
+	}
+	l.mu.Lock()
+	defer l.mu.Unlock()
+	return l.last
 }
 
 // get is a member, and false where it isn't known.

@@ -140,15 +140,15 @@ func TestMerging(t *testing.T) {
 func TestReaping(t *testing.T) {
 	c := newCluster()
 	c.do("join a; gone a; join b; leaves b 3; gone b; join c")
-	c.reap(time.Hour, time.Hour)
+	c.reap(time.Hour, time.Hour, false)
 	if c.size() != 4 {
 		t.Error(c.size())
 	}
-	c.reap(-1, time.Hour)
+	c.reap(-1, time.Hour, false)
 	if _, is := c.get("a"); is || c.size() != 3 {
 		t.Error("a is there")
 	}
-	c.reap(time.Hour, -1)
+	c.reap(time.Hour, -1, false)
 	if _, is := c.get("b"); is || c.size() != 2 || c.count(StatusAlive) != 2 {
 		t.Error("b is there")
 	}

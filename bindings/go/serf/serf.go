@@ -400,11 +400,8 @@ func (s *Serf) Memberlist() *memberlist.Memberlist { return s.memberlist() }
 // Members are all that are known, in whatever state, by name. Who changes their tags changes the node's.
 func (s *Serf) Members() []Member { return s.members.all() }
 
-// LocalMember is this node.
-func (s *Serf) LocalMember() Member {
-	found, _ := s.members.get(s.config.NodeName)
-	return found
-}
+// LocalMember is this node, also behind a leave when its members don't have it any more.
+func (s *Serf) LocalMember() Member { return s.members.ownMember() }
 
 // NumNodes is how many nodes are known, in whatever state.
 func (s *Serf) NumNodes() int { return s.members.size() }
