@@ -175,13 +175,11 @@ func TestBursts(t *testing.T) {
 	if found := a.got("fake")[1:]; !reflect.DeepEqual(found, want) {
 		t.Error(found)
 	}
+	eventually(t, "all go on", func() bool { return a.Serf.events.NumQueued() == 601 })
 	f.mu.Lock()
 	defer f.mu.Unlock()
 	if len(f.bursts) > 10 || f.bursts[1] != Burst {
 		t.Error(f.bursts)
-	}
-	if events := a.Serf.events.NumQueued(); events != 601 {
-		t.Error(events)
 	}
 }
 
@@ -266,13 +264,20 @@ func TestFiringsShareAFlush(t *testing.T) {
 	f := &fake{flush: make(chan struct{})}
 	a := start(t, "a", "", withAgent(f))
 	fired := make(chan error, 100)
-	for i := 0; i < 100; i++ {
-		go func() { fired <- a.UserEvent("x", nil, false) }()
-	}
-	eventually(t, "all wait", func() bool {
+	fire := func() { fired <- a.UserEvent("x", nil, false) }
+	go fire()
+	eventually(t, "the first is being fired", func() bool {
 		a.firings.mu.Lock()
 		defer a.firings.mu.Unlock()
-		return f.isBusy() && len(a.firings.waiting) >= 90
+		return f.isBusy() && len(a.firings.waiting) == 0
+	})
+	for i := 1; i < 100; i++ {
+		go fire()
+	}
+	eventually(t, "all others wait", func() bool {
+		a.firings.mu.Lock()
+		defer a.firings.mu.Unlock()
+		return len(a.firings.waiting) == 99
 	})
 	close(f.flush)
 	for i := 0; i < 100; i++ {
