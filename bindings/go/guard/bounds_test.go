@@ -143,7 +143,8 @@ func TestMembers(t *testing.T) {
 			t.Fatal("no answer")
 		}
 		count := c.count("members")
-		if drops := c.drops(); count != 10 || drops["full"] != 21+30 {
+		// (a packet may be lost on its way, or be on it still)
+		if drops := c.drops(); count != 10 || drops["full"] <= 30 || drops["full"] > 21+30 {
 			t.Errorf("%d members, dropped: %v", count, drops)
 		}
 	}
