@@ -308,3 +308,18 @@ func TestFaultOfTheFile(t *testing.T) {
 		t.Error(err)
 	}
 }
+
+// memberlist lends what it brings for the call alone, and what was taken leaves its room to others.
+func TestAQueueKeepsCopies(t *testing.T) {
+	q, lent := newQueue(), make([]byte, waitingBytes/2)
+	for i := byte(0); i < 5; i++ {
+		lent[0] = i
+		if !q.add(lent, i == 3) {
+			t.Fatal("there is room", i)
+		}
+		lent[0] = 99
+		if first, is := q.next(); !is || first.data[0] != i || first.isJoin != (i == 3) || q.bytes != 0 {
+			t.Fatal(i, is, first.data[0], q.bytes)
+		}
+	}
+}

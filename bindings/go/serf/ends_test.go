@@ -175,3 +175,75 @@ func TestShutdownThatNobodyWaitsFor(t *testing.T) {
 		t.Error(text)
 	}
 }
+
+// hungry has an outcome that is read when memory was wanting so often.
+type hungry struct{ wanting int }
+
+func (h *hungry) UnreadOutcomes() (int, error) {
+	if h.wanting < 0 {
+		return 0, nil
+	}
+	return 1, nil
+}
+
+func (h *hungry) Outcomes() ([]serfagent.Outcome, error) {
+	if h.wanting--; h.wanting >= 0 {
+		return nil, serfagent.OutOfMemory
+	}
+	return []serfagent.Outcome{{Err: serfagent.NoMessage}}, nil
+}
+
+// Outcomes for which there was no memory are asked for until there is.
+func TestOutcomesAreReadInTheEnd(t *testing.T) {
+	for wanting := 0; wanting < 4; wanting++ {
+		if found, fault := readAll(&hungry{wanting}, make([]serfagent.Outcome, 2), serfagent.OutOfMemory); len(found) != 3 || fault != serfagent.OutOfMemory {
+			t.Error(wanting, found, fault)
+		}
+	}
+	if found, fault := readAll(&hungry{}, nil, nil); len(found) != 0 || fault != nil {
+		t.Error(found, fault)
+	}
+}
+
+// full is an agent whose merges run out of memory behind an event.
+type full struct{ *fake }
+
+func (full) Merge([]byte, bool) ([]*serfagent.Event, error) {
+	return []*serfagent.Event{{Time: 3, Name: []byte("merged"), Payload: []byte("x"), Coalesce: true}}, serfagent.OutOfMemory
+}
+
+// What entered before the memory of a merge was out is handed out, and says whether it may be coalesced.
+func TestAMergeThatEndsEarly(t *testing.T) {
+	a := start(t, "a", "", withAgent(full{&fake{}}))
+	a.own().MergeRemoteState([]byte("\x02\x80"), false)
+	eventually(t, "the event comes", func() bool { return len(a.got("merged")) == 1 })
+	a.mu.Lock()
+	defer a.mu.Unlock()
+	for _, e := range a.handed {
+		if e, is := e.(UserEvent); is && !e.Coalesce {
+			t.Error("the mark is lost", e)
+		}
+	}
+}
+
+// What ended a node by itself is the last line of its log, at the level of errors: cmd/serf ends with status 0 then.
+func TestTheLogSaysWhyItEnded(t *testing.T) {
+	said := &logged{}
+	a := start(t, "a", "", withAgent(&fake{receive: fmt.Errorf("/file: %w", serfagent.ErrFull)}), withLog(said))
+	a.own().NotifyMsg([]byte{3})
+	select {
+	case <-a.ShutdownCh():
+	case <-time.After(time.Minute):
+		t.Fatal("it goes on")
+	}
+	var errs []string
+	lines := strings.Split(strings.TrimSpace(said.String()), "\n")
+	for _, line := range lines {
+		if strings.Contains(line, "[ERR]") && strings.Contains(line, "/file: the disk is full") {
+			errs = append(errs, line)
+		}
+	}
+	if len(errs) != 2 || !reflect.DeepEqual(errs[1], lines[len(lines)-1]) {
+		t.Error(lines)
+	}
+}

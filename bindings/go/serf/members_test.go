@@ -192,3 +192,48 @@ func TestReconnecting(t *testing.T) {
 		t.Error(others)
 	}
 }
+
+func TestMembersThatLeaveHaveLines(t *testing.T) {
+	c := newCluster()
+	c.do("join a; leaves a 3; join b; gone b")
+	if lines := strings.Join(c.lines(), ""); lines != "alive: a 127.0.0.1:7946\nalive: self 127.0.0.1:7946\n" {
+		t.Error(lines)
+	}
+}
+
+func TestOldIntentsAreNone(t *testing.T) {
+	for age, status := range map[time.Duration]MemberStatus{0: StatusLeaving, time.Hour: StatusAlive} {
+		c := newCluster()
+		c.do("leaves a 3")
+		waits := c.intents["a"]
+		waits.at = time.Now().Add(-age)
+		c.intents["a"] = waits
+		c.do("join a")
+		if a, _ := c.get("a"); a.Status != status {
+			t.Error(age, a.Status)
+		}
+	}
+}
+
+// Who was to be forgotten, and came again before that, is a member like others.
+func TestAMemberThatComesAgain(t *testing.T) {
+	c := newCluster()
+	c.do("join a; pruned a 4; join a; leaves a 6; gone a")
+	if a, is := c.get("a"); !is || a.Status != StatusLeft {
+		t.Error(a.Status, is, c.told)
+	}
+}
+
+func TestANodeDoesNotForgetItself(t *testing.T) {
+	c := newCluster()
+	c.own(StatusLeft, 5)
+	c.reap(-1, -1, false)
+	if self, is := c.get("self"); !is || self.Status != StatusLeft {
+		t.Error(self, is)
+	}
+	// behind a leave it does, as Serf's, and still knows who it is
+	c.reap(-1, -1, true)
+	if _, is := c.get("self"); is || c.ownMember().Name != "self" {
+		t.Error(c.ownMember())
+	}
+}

@@ -7,6 +7,9 @@ import (
 	"path/filepath"
 	"strings"
 	"testing"
+	"time"
+
+	"kitchenrue.example/serfagent"
 )
 
 func write(t *testing.T, path, text string) {
@@ -198,4 +201,58 @@ func TestFullDisk(t *testing.T) {
 	if err := f.append("alive: a 1:1\n"); err == nil {
 		t.Error("the disk is full")
 	}
+}
+
+func TestTextsThatSayWhichEventsAreOld(t *testing.T) {
+	for text, says := range map[string]bool{
+		"": false, "clock: 3\nalive: a 1:1\n": false, "event-clock: 3\n": true, "clock: 1\n#least event-clock: 9\n": true, "query-clock: 2\n": false, "#event-clock: 3\n": false,
+	} {
+		found := false
+		if err := readLines(strings.NewReader(text), func(line string) { found = found || saysOfEvents(line) }); err != nil || found != says {
+			t.Errorf("%q %v", text, err)
+		}
+	}
+}
+
+// The file beside goes when its lines are on the disk, and not before. (A pipe takes bytes, and no sync.)
+func TestLinesThatAreNotOnTheDisk(t *testing.T) {
+	reads, writes, err := os.Pipe()
+	if err != nil {
+		t.Fatal(err)
+	}
+	defer reads.Close()
+	f := &snapshotFile{path: filepath.Join(t.TempDir(), "file"), file: writes}
+	defer f.close()
+	write(t, f.beside(), "alive: a 1:1\n")
+	if err := f.restore([]byte("alive: a 1:1\n")); err == nil {
+		t.Error("it isn't on the disk")
+	}
+	if text := read(t, f.beside()); text != "alive: a 1:1\n" {
+		t.Errorf("%q", text)
+	}
+}
+
+// A file whose lock the last life has for a moment still is waited for, and one that another node has is not for long.
+func TestAFileThatAnotherHas(t *testing.T) {
+	path := filepath.Join(t.TempDir(), "file")
+	for tries := 0; tries < 5; tries++ {
+		store, err := serfagent.OpenStore(path)
+		if err != nil {
+			t.Fatal(err)
+		}
+		if _, err := openWhenFree("a", path, serfagent.DefaultSettings()); !errors.Is(err, serfagent.ErrLocked) {
+			t.Fatal(err)
+		}
+		closed := make(chan error)
+		time.AfterFunc(lockWait/10, func() { closed <- store.Close() })
+		agent, err := openWhenFree("a", path, serfagent.DefaultSettings())
+		<-closed
+		if err == nil {
+			_ = agent.Close()
+			return
+		}
+		// (a machine with much to do may have closed it too late)
+		t.Log(err)
+	}
+	t.Error("it isn't waited for")
 }
