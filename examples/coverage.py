@@ -1,5 +1,6 @@
 #!/usr/bin/env python3
-"""coverage.py [--every NANOSECONDS] [SCHEDULE [PROGRAM]]: how far the run of a schedule has come at each mark, as CSV.
+"""coverage.py [--every NANOSECONDS | --events] [SCHEDULE [PROGRAM]]: how far the run of a schedule has come at each mark, as
+CSV; or how far each event came.
 
 The schedule is read from standard input where it is left out, or is `-`. A mark is a comment of it, a line `# mark TEXT`, so `serf-replay` passes over it. With --every there is a mark too
 before the first `deliver` of each span of so many nanoseconds: 200000000 is a round of `serf-replay random --kind rounds`.
@@ -19,10 +20,12 @@ REASONS = (
     *("NotOpen", "OtherId", "Closed", "AckNotAsked", "AckTwice", "ResponseTwice"),
 )
 
+OF_EVENTS = ["time", "name", "payload", "agents", "first", "half", "nine_tenths", "last"]
+
 
 def marks_of(schedule, every):
-    """How many agents a schedule has, and its marks: before how many actions each stands, and its text."""
-    agents, actions, span, marks = 0, 0, -1, []
+    """How many agents a schedule has; its marks: before how many actions each stands, and its text; and each action's moment."""
+    agents, actions, span, marks, moments = 0, 0, -1, [], [0]
     for line in schedule.decode(errors="replace").split("\n"):
         words = line.split()
         if line.startswith("# mark "):
@@ -36,7 +39,9 @@ def marks_of(schedule, every):
             span = int(words[3]) // every
             marks.append((actions, str(span * every)))
         actions += 1
-    return agents, [*marks, (actions, "end")]
+        says = words[0] == "deliver" and len(words) == 4 and words[3].isdigit()
+        moments.append(int(words[3]) if says else moments[-1])
+    return agents, [*marks, (actions, "end")], moments
 
 
 def read(path):
@@ -57,7 +62,7 @@ class Run:
 
     def take(self, words):
         if words[1] == "event":
-            self.handed.setdefault(tuple(words[3:6]), set()).add(words[2])
+            self.handed.setdefault(tuple(words[3:6]), {}).setdefault(words[2], int(words[0]))
         elif words[1] == "ignored":
             self.ignored[words[2]] += 1
 
@@ -65,17 +70,27 @@ class Run:
         everywhere = sum(len(had) == self.agents for had in self.handed.values())
         return [mark, actions, sum(map(len, self.handed.values())), len(self.handed), everywhere, *self.ignored.values()]
 
+    def events(self, moments):
+        for event, had in self.handed.items():
+            when = sorted(moments[action] for action in had.values())
+            share = [when[0], *(when[-(-len(when) * tenths // 10) - 1] for tenths in (5, 9)), when[-1]]
+            yield [*event, len(had), *share]
+
 
 def main():
     parser = argparse.ArgumentParser(description=__doc__, formatter_class=argparse.RawDescriptionHelpFormatter)
-    parser.add_argument("--every", type=int, metavar="NANOSECONDS")
+    shown = parser.add_mutually_exclusive_group()
+    shown.add_argument("--every", type=int, metavar="NANOSECONDS")
+    shown.add_argument("--events", action="store_true")
     parser.add_argument("schedule", nargs="?", default="-")
     parser.add_argument("program", nargs="?", default="serf-replay")
     asked = parser.parse_args()
     schedule = read(asked.schedule)
-    agents, marks = marks_of(schedule, asked.every)
+    agents, marks, moments = marks_of(schedule, asked.every)
+    if asked.events:
+        marks = []
     out, run = csv.writer(sys.stdout, lineterminator="\n"), Run(agents)
-    out.writerow(["mark", "actions", "handed_out", "events", "everywhere", *REASONS])
+    out.writerow(OF_EVENTS if asked.events else ["mark", "actions", "handed_out", "events", "everywhere", *REASONS])
     with tempfile.TemporaryFile() as given:
         # (a file, so that nobody waits for somebody else)
         given.write(schedule)
@@ -89,6 +104,7 @@ def main():
                 run.take(words)
     if replay.returncode == 0:
         out.writerows(run.row(text, actions) for actions, text in marks)
+        out.writerows(run.events(moments) if asked.events else [])
     return replay.returncode
 
 

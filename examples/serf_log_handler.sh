@@ -1,6 +1,7 @@
 #!/bin/sh
 # Writes a line for `serf-replay judge` of each user event and each query that an agent hands to its handlers:
 #     serf agent -event-handler user=./serf_log_handler.sh -event-handler query=./serf_log_handler.sh
+# The date and the time of day stand before it, in UTC: `judge` tells them with the line.
 # SERF_LOG says to which file. Standard output stays empty, so a query gets no answer from here.
 #
 # Each text is one word: a space is %20, a newline %0A, a carriage return %0D and a percent sign %25. An empty text is -, and the text - is %2D.
@@ -36,4 +37,4 @@ query)
 	exit 0
 	;;
 esac
-printf '%s\n' "$line" >>"${SERF_LOG:-serf.log}"
+printf '%s %s\n' "$(date -u +%Y-%m-%dT%H:%M:%SZ)" "$line" >>"${SERF_LOG:-serf.log}"

@@ -19,7 +19,7 @@
    - moments ("now") are nanoseconds of one clock that doesn't go back.
 
    Bytes are read by copying: a getter copies as much as fits into the host's memory and says the whole length, so a call
-   with a room of 0 asks for the length. */
+   with a room of 0 asks for the length. A call that doesn't answer SERF_AGENT_OK leaves what it was given to fill as it was. */
 #ifndef SERF_AGENT_H
 #define SERF_AGENT_H
 #include <stdbool.h>
@@ -37,7 +37,8 @@ enum serf_agent_code {
     SERF_AGENT_UNWRITTEN = 3,        /* bytes for the host's file aren't written yet */
     SERF_AGENT_NOTHING = 4,          /* a getter: the last call gave no such thing; next: no outcome waits */
     SERF_AGENT_OUT_OF_MEMORY = 5,    /* nothing was done, but that a merge gives the events that it took before */
-    SERF_AGENT_BAD_CONFIG = 6,       /* open: settings out of bounds */
+    SERF_AGENT_BAD_CONFIG = 6,       /* open: a setting is out of the bounds that stand beside it, or the name has no byte or
+                                        more than 128 */
     SERF_AGENT_SINK_FAULT = 7,       /* the agent's sink failed; not with this library's own sink */
     SERF_AGENT_STOPPED = 8,          /* the agent's sink failed before; not with this library's own sink */
     SERF_AGENT_TOO_LARGE = 9,        /* fire, query, respond: the event, query or response is too large */
@@ -50,7 +51,7 @@ enum serf_agent_code {
     SERF_AGENT_TOO_LONG = 14,        /* local_state, join_packet, leave_packet: a text or a list is longer than 4,294,967,295 */
     SERF_AGENT_NO_TIME = 15,         /* query: the timeout is 0 or below */
     SERF_AGENT_PAST_DEADLINE = 16,   /* respond: the moment is after the query's deadline */
-    SERF_AGENT_NOT_HANDED = 17       /* respond, handed: no query of this number is handed out and not yet answered */
+    SERF_AGENT_NOT_HANDED = 17       /* respond, handed, forget_query: no query of this number waits for an answer */
 };
 
 /* What the last call gave: serf_agent_gave's kind. */
@@ -294,8 +295,12 @@ uint32_t serf_agent_add_filter(struct serf_agent *handle, const uint8_t *filter,
 /* Answers the query of this number; a success spends it. */
 uint32_t serf_agent_respond(struct serf_agent *handle, uint64_t now, uint64_t number, const uint8_t *payload,
                             size_t payload_len);
+/* Forgets the query of this number, which the host will not answer. A query that is handed out takes memory until it is
+   answered or forgotten. */
+uint32_t serf_agent_forget_query(struct serf_agent *handle, uint64_t number);
 /* Closes the open queries whose deadline is before a moment, and says how many they were; serf_agent_closed and the getters
-   after it say what each was until the next call. Want of memory closes none. */
+   after it say what each was until the next call. Queries that were handed out, and whose deadline is before the moment, are
+   forgotten: nobody takes their answers any more. Want of memory closes and forgets none. */
 uint32_t serf_agent_close_due(struct serf_agent *handle, uint64_t now, size_t *closed);
 /* Observes the time of a member's word or status: the member clock is later than it from then on. SERF_AGENT_EXHAUSTED where
    it is 2^64 - 1, which is no time. What the last call gave stays. For a join or a leave intent of its own node a host takes
@@ -313,14 +318,18 @@ uint32_t serf_agent_compact(struct serf_agent *handle);
    and answers the same code; but what it gave waits, after what the calls before it gave. The host then brings the lines of
    all of them to its file at once (serf_agent_unwritten, one flush, serf_agent_written), and goes through the outcomes by
    serf_agent_next, in the order of the calls. A call that is refused has an outcome too, unless it ran out of memory: then
-   nothing was done, and the outcomes before it wait on.
+   nothing was done, and the outcomes before it wait on. So the n-th outcome is that of the n-th call that did not answer
+   SERF_AGENT_OUT_OF_MEMORY: a host with a list of its packets goes one further in it with each serf_agent_next.
 
    A burst is begun by its first call, after any other call; what that one gave stays until serf_agent_next or another call.
    Other calls may be made while outcomes wait, once the host's file has the lines. */
 
+/* Takes a packet as the next call of the burst, as serf_agent_receive does. */
 uint32_t serf_agent_burst_receive(struct serf_agent *handle, uint64_t now, const uint8_t *packet, size_t packet_len);
+/* The same as serf_agent_receive_tagged does: the host says whether its tags pass each tag filter of the packet's query. */
 uint32_t serf_agent_burst_receive_tagged(struct serf_agent *handle, uint64_t now, const uint8_t *packet, size_t packet_len,
                                          bool tags_pass);
+/* Fires an event as the next call of the burst, as serf_agent_fire does. */
 uint32_t serf_agent_burst_fire(struct serf_agent *handle, const uint8_t *name, size_t name_len, const uint8_t *payload,
                                size_t payload_len, bool coalesce);
 /* Fires a query with the filters that serf_agent_burst_filter or serf_agent_add_filter gave since the last that was tried; it
@@ -328,6 +337,7 @@ uint32_t serf_agent_burst_fire(struct serf_agent *handle, const uint8_t *name, s
 uint32_t serf_agent_burst_query(struct serf_agent *handle, uint64_t now, uint32_t id, const uint8_t *name, size_t name_len,
                                 const uint8_t *payload, size_t payload_len, const uint8_t *addr, size_t addr_len,
                                 const struct serf_agent_params *params);
+/* Adds a filter to the next query, as serf_agent_add_filter does, also while lines of the burst wait for the file. */
 uint32_t serf_agent_burst_filter(struct serf_agent *handle, const uint8_t *filter, size_t filter_len);
 /* Goes on to the next outcome, and says which code its call answered: the getters read then what that call gave, as after a
    call that stands alone. SERF_AGENT_NOTHING where none is left; what was given before is no longer read. Want of memory
@@ -379,7 +389,7 @@ uint32_t serf_agent_asked_time(struct serf_agent *handle, uint64_t *time);
 uint32_t serf_agent_packet(struct serf_agent *handle, size_t *len, uint8_t *to, size_t room);
 /* The ack to send to the query's address and port, of a query that is handed out here (receive, query). */
 uint32_t serf_agent_ack(struct serf_agent *handle, size_t *len, uint8_t *to, size_t room);
-/* A query that was handed out and not yet answered. */
+/* A query that was handed out, and neither answered nor forgotten. */
 uint32_t serf_agent_handed(struct serf_agent *handle, uint64_t number, struct serf_agent_handed *handed, uint8_t *name,
                            size_t name_room, uint8_t *payload, size_t payload_room, uint8_t *source, size_t source_room,
                            uint8_t *addr, size_t addr_room);

@@ -10,6 +10,7 @@ A script begins with these lines, and ends with `run`, or with `over_program` wh
 import importlib.machinery
 import importlib.util
 import os
+import re
 import resource
 import subprocess
 import sys
@@ -27,6 +28,9 @@ COMMAND = os.path.join(TOP, "serf-replay")
 EXAMPLES = os.path.join(TOP, "examples")
 ROWS = os.path.join(TOP, "tests", "rows")
 
+# The end of a worked row: what is wanted of its schedule, each line as a comment.
+WANTED = re.compile(r"^# (trace|fault|lines):\n((?:# .*\n)*)\Z", re.M)
+
 # The kinds of random schedules.
 KINDS = (
     *("mixed", "tiny", "merges", "restarts", "devices", "injections"),
@@ -36,8 +40,10 @@ KINDS = (
 # How many bytes a schedule, a packet or a line of a stream may have.
 LONGEST = 16_777_216
 
-# How long one call of the program may take, in seconds.
-LIMIT = 600
+# How long one call of the program may take by the clock, in seconds. `./test --quick` is for any machine, a busy one too,
+# so there a limit in processor seconds is what counts.
+PROCESSOR_LIMIT = 600
+LIMIT = 6 * PROCESSOR_LIMIT if programs.IS_UNPROVED else PROCESSOR_LIMIT
 
 # How much is printed of what a failed check saw, in characters.
 SHOWN = 1500
@@ -57,6 +63,15 @@ def text_of(*parts):
 def names_in(folder, ending=".schedule"):
     """The names of a folder's files with this ending, without it, sorted."""
     return sorted(name[: -len(ending)] for name in os.listdir(folder) if name.endswith(ending))
+
+
+def row_of(name):
+    """A worked row: its schedule, what kind of thing is wanted of it, and its text; no kind where it says none."""
+    text = text_of(ROWS, name + ".schedule")
+    wanted = WANTED.search(text)
+    if not wanted:
+        return text, None, ""
+    return text[: wanted.start()], wanted[1], wanted[2].replace("# ", "", 1).replace("\n# ", "\n")
 
 
 def gate_script():
@@ -115,10 +130,27 @@ class Checks:
 
 def run(*parts):
     """Runs the parts of a script, each of which adds to the checks that it is passed. Gives the status."""
+    if programs.IS_UNPROVED:
+        # what takes more ends by SIGXCPU; a busy machine has more time by the clock
+        resource.setrlimit(resource.RLIMIT_CPU, (PROCESSOR_LIMIT, resource.RLIM_INFINITY))
     count = Checks()
     for part in parts:
-        part(count)
+        try:
+            part(count)
+        except subprocess.TimeoutExpired as late:
+            words = " ".join(map(str, late.cmd))[:200]
+            count.check(part.__name__, False, f"took longer than {late.timeout:.0f} seconds by the clock: {words}")
     return count.finish()
+
+
+def by_speed(proved_alone, parts):
+    """Runs the parts of a script over the program, and before them those that look at how long it takes and at its memory, or
+    have much for it to do: they are left out where it was compiled unproved, with checks in it."""
+    if programs.IS_UNPROVED:
+        for part in proved_alone:
+            print(f"not run: {part.__name__}, over a program that was compiled with checks")
+        return over_program(*parts)
+    return over_program(*proved_alone, *parts)
 
 
 def over_program(*parts):

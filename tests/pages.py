@@ -18,7 +18,7 @@ BLOCK = re.compile(r"(?:^(?: {4}|\t).*\n(?:\n(?= {4}|\t))?)+", re.M)
 
 # How a command begins: with its variables, and then with one of these words.
 COMMAND = re.compile(
-    r"(?:[A-Z_]+=\S* )*(?:\./[\w.-]+|agent/[\w/]+|examples/[\w.]+|serf|serf-replay|kitchenrue-agent|cut|grep|mkfifo|seq|for|sh|python3?|pip|go|cargo|dpkg"
+    r"(?:[A-Z_]+=\S* )*(?:\./[\w.-]+|agent/[\w/]+|tools/[\w.]+|examples/[\w.]+|serf|serf-replay|kitchenrue-agent|cut|grep|mkfifo|seq|for|sh|python3?|pip|go|cargo|dpkg"
     r"|make|cmake|cc|rt|apt-get|tar|sha256sum)(?=[ ;]|$)"
 )
 
@@ -28,11 +28,13 @@ EMBED = "tests/library/embed.py"
 PACKAGES = "tests/library/packages.py"
 COMMAND_LINE = "tests/program/command_line.py"
 CONFORM = "tests/program/conform.py"
+EXITS = "tests/repository/exits.py"
 FIRST_CALL = "tests/repository/first_call.py"
 
 # Who runs a command: the pages, how it begins, and the script. The first row that fits counts.
 RUN_BY = (
-    ("README.md", "SERF_UNPROVED=1 ", FIRST_CALL),
+    ("docs/WRONG_BODIES.md", "tools/wrong_bodies", EXITS),
+    ("CONTRIBUTING.md", "SERF_UNPROVED=1 ", FIRST_CALL),
     ("*", "kitchenrue-agent |agent/|dpkg |serf ", AGENT),
     ("docs/AGENT.md", "examples/schedule_of_records.py |serf-replay ", AGENT),
     ("*", "mkfifo |./my-agent ", EMBED),
@@ -50,23 +52,24 @@ NOT_RUN = {("README.md", "./test"): "it is what runs them all"}
 
 # The blocks that aren't commands, by the page and the word that they begin with: what compares them, or what they are.
 LISTINGS = {
-    "README.md": {
+    "docs/HOST.md": {
         "serf_agent_receive(&agent,": PACKAGES,
         "with": PACKAGES,
         "let": PACKAGES,
         "node,": EMBED,
     },
     "bindings/go/README.md": {"require": "two lines of a go.mod"},
-    "bindings/rust/README.md": {"[dependencies]": "two lines of a Cargo.toml"},
+    "bindings/python/README.md": {"import": EMBED},
+    "bindings/rust/README.md": {"[dependencies]": "two lines of a Cargo.toml", "let": "how a host with tokio calls, which no test compiles"},
     "crates/*/CALLING.md": {"": "contracts, made of the sources by tools/calling.py"},
-    "docs/ARCHITECTURE.md": {"program": "the crates, as a picture", "serf_agent_c": "what is there in Go, as a picture"},
+    "docs/ARCHITECTURE.md": {"serf_agent_c": "what is there in Go, as a picture"},
     "docs/CONFORMANCE.md": {"agent": CONFORM, "seed": CONFORM},
     "docs/GO.md": {
         "require": "lines of a go.mod",
         "mkdir": "what lays a program beside the package, and compiles it",
         "package": "a whole program over bindings/go/serf",
     },
-    "docs/PIPE.md": {"open": CONFORM, "opened": CONFORM},
+    "docs/SPEC.md": {"open": CONFORM},
     "docs/PROMISES.md": {"--": "tests/repository/documents.py", "fn": "lines of the toolchain, cut short"},
     "examples/capture/README.md": {"tcpdump": "a capture of a reader's own cluster, which needs root"},
     "tests/README.md": {"tests/": "the folders, as a picture"},

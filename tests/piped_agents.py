@@ -1,4 +1,4 @@
-"""Agents behind the pipe (docs/PIPE.md), held by `conform`: for the scripts that hold one, or run what a page shows of it."""
+"""Agents behind the pipe (docs/SPEC.md), held by `conform`: for the scripts that hold one, or run what a page shows of it."""
 
 import os
 import subprocess
@@ -9,7 +9,7 @@ import checks
 PYTHON_AGENT = os.path.join(checks.TOP, "conformance", "python", "agent.py")
 
 # How long a comparison may take, in seconds: none of ours may hang.
-LIMIT = 300
+LIMIT = checks.LIMIT / 2
 
 
 def compare(words, agent, program=None):

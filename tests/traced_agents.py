@@ -1,4 +1,4 @@
-"""Agents that reply what a trace shows, in the words of docs/PIPE.md, or otherwise: for the scripts that hold them by
+"""Agents that reply what a trace shows, in the words of docs/SPEC.md, or otherwise: for the scripts that hold them by
 `conform`.
 
 A script has parts, each of which is given the cases that it adds to. It ends with `sys.exit(run(PARTS, sys.argv[1:]))`,

@@ -163,6 +163,22 @@ def go_flags(library):
     return {} if os.path.realpath(library) == os.path.realpath(LIBRARY) else {"CGO_LDFLAGS": f"-L{os.path.dirname(library)}"}
 
 
+def go_env(*paths, own=os.environ):
+    """The variables of Go's compiler over packages in folders, as Debian lays them: in order, where one stands in two."""
+    return {**own, "GO111MODULE": "off", "GOFLAGS": "-trimpath", "GOPATH": os.pathsep.join(paths), **LEAN_GO}
+
+
+def linked_packages(path, *packages, bindings=os.path.join(TOP, "bindings", "go")):
+    """Has Go find packages of bindings/go in a folder by their own paths, all of them where none is named: the folder."""
+    own = os.path.join(path, "src", "kitchenrue.example")
+    os.makedirs(own if packages else os.path.dirname(own), exist_ok=True)
+    for name in packages:
+        os.symlink(os.path.join(bindings, name), os.path.join(own, name))
+    if not packages:
+        os.symlink(bindings, own)
+    return path
+
+
 def put_beside(module, library):
     """Has a copy of Go's module serfagent take another library: beside its sources it is found first. Unlike a flag with a
     folder, that has Go compile none of its own packages anew."""

@@ -1,8 +1,10 @@
 #!/usr/bin/env python3
-"""tools/calling.py [--check]: writes CALLING.md of the crates that programs outside are likely to call: what each is for, a
-caller that the gate compiles, and its calls in a line each. All of it is read from the sources.
+"""tools/calling.py [--check | CRATE]: writes CALLING.md of the crates that programs outside are likely to call: what each is
+for, a caller that the gate compiles, and its calls in a line each, with the clauses of each. All of it is read from the
+sources.
 
---check writes nothing, and has status 1, with a line a page, where one isn't what the sources give.
+--check writes nothing, and has status 1, with a line a page, where one isn't what the sources give. CRATE prints such a page of
+any library, and behind it what the words of its clauses mean, by the comments of its specs.
 """
 
 import glob
@@ -23,7 +25,11 @@ CALLERS = {
     "serf_conform": ("crates/serf_hunt/src/trying.rt", ["try_calls"]),
 }
 
-ITEM = re.compile(r"^pub (?:const )?(fn|struct|enum|trait) (\w+)")
+ITEM = re.compile(r'^pub (?:const )?(?:unsafe )?(?:extern "C" )?(fn|struct|enum|trait) (\w+)')
+EXPORT = re.compile(r'^pub extern "C" fn (\w+)', re.M)
+CLAUSE = re.compile(r"^ *ensures(?: (\w+))?\b")
+# A definition of specs/ with the comment above it.
+DEFINITION = re.compile(r"((?:^-- .*\n)+)(?:abbrev|unfoldable|pub record|abbrev mutual)(?: pub)?(?: mutual)? (\w+)", re.M)
 IMPL = re.compile(r"^impl(?:<.*?>)? (?:(\w+)(?:<.*>)? for )?(\w+)")
 METHOD = re.compile(r"^    pub (?:const )?fn (\w+)")
 TRAIT_METHOD = re.compile(r"^    fn (\w+)")
@@ -55,8 +61,31 @@ def signature(lines):
         if line.rstrip().endswith(("{", ";")):
             break
     text = re.sub(r"\s+", " ", text.strip().rstrip("{;").strip())
-    text = re.sub(r"^(?:pub )?(?:const )?fn ", "", text)
+    text = re.sub(r'^(?:pub )?(?:const )?(?:unsafe )?(?:extern "C" )?fn ', "", text)
     return text.replace("( ", "(").replace(", )", ")").replace(",)", ")")
+
+
+def contract(lines):
+    """The lines of a function that begins here, up to its body."""
+    indent, found, is_begun = re.match(r" *", "".join(lines[:1]))[0], [], False
+    for line in lines:
+        is_begun = is_begun or bool(re.match(r" *(?:ensures|requires|ghost)\b", line))
+        if line.rstrip() in (indent + "{", indent + "}") or (not is_begun and line.rstrip().endswith(("{", ";"))):
+            break
+        found.append(line)
+        if line.endswith(";"):
+            break
+    return found
+
+
+def clauses(lines):
+    """The names of the clauses of a function that begins here; one without a name is `one`."""
+    return [clause[1] or "one" for clause in map(CLAUSE.match, contract(lines)) if clause]
+
+
+def has_conditions(lines):
+    """Whether a function that begins here asks something of its caller."""
+    return any(re.match(r" *requires\b", line) for line in contract(lines))
 
 
 def sentence(docs):
@@ -67,7 +96,8 @@ def sentence(docs):
 
 
 def items_in(path):
-    """The public items of a file: the type that each belongs to, its name, its signature, and its first sentence."""
+    """The public items of a file: the type that each belongs to, its name, its signature, its first sentence, and the lines
+    that a function begins."""
     docs, kind, owner = [], "", None
     lines = read(path).split("\n")
     for at, line in enumerate(lines):
@@ -81,23 +111,36 @@ def items_in(path):
         method = METHOD.match(line) if kind != "trait" else TRAIT_METHOD.match(line)
         if item:
             kind, owner = (item[1], item[2]) if item[1] == "trait" else ("", None)
-            yield None, item[2], signature(lines[at:]) if item[1] == "fn" else item[2], sentence(docs)
+            is_fn = item[1] == "fn"
+            yield None, item[2], signature(lines[at:]) if is_fn else item[2], sentence(docs), lines[at:] if is_fn else []
         elif impl:
             # (a trait's calls stand at the trait)
             kind, owner = ("for", None) if impl[1] else ("impl", impl[2])
         elif method and owner:
-            yield owner, method[1], f"{owner}::{signature(lines[at:])}", sentence(docs)
+            yield owner, method[1], f"{owner}::{signature(lines[at:])}", sentence(docs), lines[at:]
         if stripped:
             docs = []
 
 
+def shown_items(crate):
+    """The public items of a crate, each with the lines that it begins."""
+    paths = sorted(glob.glob(os.path.join(TOP, "crates", crate, "src", "**", "*.rt"), recursive=True))
+    shown, found = exported(read("crates", crate, "src", "lib.rt")), []
+    shown |= {name for path in paths for name in EXPORT.findall(read(os.path.relpath(path, TOP)))}
+    for path in paths:
+        found += [one for one in items_in(os.path.relpath(path, TOP)) if (one[0] or one[1]) in shown]
+    return found
+
+
+def conditions(crate):
+    """The public calls of a crate that ask something of their caller."""
+    return {f"{owner}::{name}" if owner else name for owner, name, _, _, lines in shown_items(crate) if lines and has_conditions(lines)}
+
+
 def calls(crate):
     """The rows of a crate's calls: types with their methods, then functions."""
-    shown, found = exported(read("crates", crate, "src", "lib.rt")), []
-    for path in sorted(glob.glob(os.path.join(TOP, "crates", crate, "src", "**", "*.rt"), recursive=True)):
-        found += [one for one in items_in(os.path.relpath(path, TOP)) if (one[0] or one[1]) in shown]
-    order = sorted(found, key=lambda one: ((one[0] or one[1])[0].islower(), (one[0] or one[1]).lower(), one[0] is not None))
-    return [f"| `{what}` | {says} |" for _, _, what, says in order]
+    order = sorted(shown_items(crate), key=lambda one: ((one[0] or one[1])[0].islower(), (one[0] or one[1]).lower(), one[0] is not None))
+    return [f"| `{what}` | {says} | {', '.join(f'`{name}`' if name != 'one' else name for name in clauses(lines))} |" for _, _, what, says, lines in order]
 
 
 def function(text, name):
@@ -108,31 +151,48 @@ def function(text, name):
     return found[0]
 
 
-def page(crate):
-    text = read("crates", crate, "src", "lib.rt")
-    purpose = re.sub(r"^//! ?", "", re.match(r"(?://!.*\n)+", text)[0], flags=re.M).strip()
+def caller(crate):
+    """The part of a page that shows a caller, where the crate has one."""
+    if crate not in CALLERS:
+        return ""
     path, names = CALLERS[crate]
-    caller = "\n\n".join(function(read(path), name) for name in names)
-    shown = re.sub(r"^(?=.)", "    ", caller, flags=re.M)
-    rows = "\n".join(calls(crate))
-    return f"""# Calling `{crate}`
-
-{purpose}
-
-## A caller
+    text = "\n\n".join(function(read(path), name) for name in names)
+    shown = re.sub(r"^(?=.)", "    ", text, flags=re.M)
+    return f"""## A caller
 
 Of `{path}`, as it stands there:
 
 {shown}
 
-## Its calls
+"""
 
-The contract of each stands at its function. [CRATES.md](../../docs/CRATES.md) says what they promise together.
 
-| Call | What it is |
-|---|---|
+def page(crate):
+    text = read("crates", crate, "src", "lib.rt")
+    head = re.match(r"(?://!.*\n)+", text)
+    purpose = re.sub(r"^//! ?", "", head[0], flags=re.M).strip() if head else ""
+    rows = "\n".join(calls(crate))
+    return f"""# Calling `{crate}`
+
+{purpose}
+
+{caller(crate)}## Its calls
+
+The contract of each stands at its function, clause by clause. `tools/calling.py {crate}` prints what their words mean. [PROMISES.md](../../docs/PROMISES.md) says what they promise together.
+
+| Call | What it is | Its clauses |
+|---|---|---|
 {rows}
 """
+
+
+def words(crate):
+    """What the words of a crate's clauses mean, by the comments of its specs."""
+    rows = []
+    for path in sorted(glob.glob(os.path.join(TOP, "crates", crate, "specs", "**", "*.antt"), recursive=True)):
+        for comment, name in DEFINITION.findall(read(os.path.relpath(path, TOP))):
+            rows.append(f"- `{name}`: {' '.join(line.removeprefix('-- ').strip() for line in comment.splitlines())}")
+    return "\n".join(["", "## Its definitions", "", *rows, ""])
 
 
 def made():
@@ -142,11 +202,14 @@ def made():
         yield path, os.path.exists(os.path.join(TOP, path)) and read(path) == page(crate)
 
 
-def main(words):
-    if words not in ([], ["--check"]):
+def main(given):
+    if len(given) == 1 and os.path.isfile(os.path.join(TOP, "crates", given[0], "src", "lib.rt")):
+        print(page(given[0]) + words(given[0]), end="")
+        return 0
+    if given not in ([], ["--check"]):
         print(__doc__.strip(), file=sys.stderr)
         return 2
-    if words:
+    if given:
         faults = [path for path, is_made in made() if not is_made]
         for path in faults:
             print(f"{path} isn't what the sources give: tools/calling.py makes it")

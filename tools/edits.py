@@ -1,15 +1,17 @@
-"""Wrong bodies, as edits: the files of crates/NAME/mutants/, and the functions that each turns.
+"""Wrong bodies, as edits: what is tried of the files of crates/NAME/mutants/ (tools/edit_files.py reads them), and the
+functions that each edit turns.
 
-A file has a line 'file: src/lib.rt' (or a file of specs/) and then pairs of lines 'old: TEXT' and 'new: TEXT', each
-TEXT one line that stands once in that file; later pairs apply to what earlier ones made. A line 'turns: PATH' names a
-function whose contract has to refuse the edit; without one it is each function in which a text stands. An edit of a
-definition, in specs/, names so the law that a wrong definition breaks. A line 'twin: TEXT' behind a 'new:' line is a
-neutral twin: the same change of shape, with no change of meaning.
+An edit's texts apply in turn: a later pair to what an earlier one made. Its lines 'turns:' name the functions whose
+contracts have to refuse it; without one they are those in which a text stands. An edit of a definition, in specs/, names so
+the law that a wrong definition breaks. A neutral twin is the same change of shape, with no change of meaning.
 """
 
 import os
 import re
 from collections import Counter
+
+import edit_files
+from edit_files import BadEdit
 
 TOP = os.path.dirname(os.path.dirname(os.path.abspath(__file__)))
 
@@ -28,10 +30,6 @@ IMPL = re.compile(r"^impl(?P<generic><[^{]*?>)? (?:(?P<trait>[\w:]+)(?:<(?P<with
 SHAPE = re.compile(r"\"(?:[^\"\\]|\\.)*\"|'(?:[^'\\]|\\.)'|(\b(?:if|else|match|let|for|while|loop|return|break|continue)\b|&&|\|\||\?|\|(?=[\w, ]*\|)|\w+!?(?=\())")
 
 
-class BadEdit(Exception):
-    """Why an edit can't be tried."""
-
-
 def text_of(crate, file):
     with open(os.path.join(TOP, "crates", crate, file), encoding="utf-8") as text:
         return text.read()
@@ -40,34 +38,12 @@ def text_of(crate, file):
 class Edit:
     """An edit: where it stands, its pairs of texts by file, its twin, and the functions that it turns."""
 
-    def __init__(self, crate, path):
+    def __init__(self, crate, written):
         self.crate = crate
-        self.name = os.path.basename(path)[: -len(".edit")]
-        self.pairs = []
-        self.twins = []
-        self.functions = []
-        self.read(path)
-
-    def read(self, path):
-        file = old = None
-        with open(path, encoding="utf-8") as lines:
-            for line in lines.read().split("\n"):
-                if line.startswith("turns: "):
-                    self.functions.append(line[len("turns: ") :].strip())
-                elif line.startswith("file: "):
-                    file = line[len("file: ") :].strip()
-                elif line.startswith("old: "):
-                    old = line[len("old: ") :]
-                elif line.startswith("new:"):
-                    if file is None or old is None:
-                        raise BadEdit(f"{self.name}: a 'new:' line stands before any 'file:' or 'old:' line")
-                    self.pairs.append((file, old, line[len("new:") :].removeprefix(" ")))
-                    self.twins.append(None)
-                    old = None
-                elif line.startswith("twin:"):
-                    if not self.pairs:
-                        raise BadEdit(f"{self.name}: a 'twin:' line stands before any 'new:' line")
-                    self.twins[-1] = line[len("twin:") :].removeprefix(" ")
+        self.name = written.name
+        self.pairs = written.pairs
+        self.twins = written.twins
+        self.functions = list(written.turns)
         if not self.pairs:
             raise BadEdit(f"{self.name}: it has no 'old:' and 'new:' pair")
         if self.is_definition and not self.functions:
@@ -121,9 +97,7 @@ def shape_of(text):
 
 def edits_of(crate):
     """The edits of a crate, by name."""
-    folder = os.path.join(TOP, "crates", crate, "mutants")
-    names = sorted(os.listdir(folder)) if os.path.isdir(folder) else []
-    return [Edit(crate, os.path.join(folder, name)) for name in names if name.endswith(".edit")]
+    return [Edit(crate, written) for written in edit_files.written_in(os.path.join(TOP, "crates", crate, "mutants"))]
 
 
 def overlap(one, other):

@@ -24,7 +24,8 @@ FOLDER = os.path.join(edits.TOP, "tests", "refused")
 # half of what they cost where each crate has some.
 CRATES, EDITS = 20, 10
 
-# The scripts that decide how an edit is tried and judged.
+# The scripts that decide how an edit is tried and judged. How its file is read isn't among them (tools/edit_files.py): what
+# was read of it is in the sum of its line.
 JUDGES = ["edits.py", "edit_checks.py"]
 
 # What a toolchain says of itself: its name, and the sum of its logic. Two of one logic refuse an edit by one goal, so what

@@ -1,4 +1,4 @@
-"""The parts of the gate: what each ran and took, how far the whole is, and the table of docs/GATE.md."""
+"""The parts of the gate: what each ran and took, how far the whole is, and the rows of tools/gate.rows."""
 
 import os
 import re
@@ -9,7 +9,7 @@ import time
 import costs
 
 TOP = os.path.dirname(os.path.dirname(os.path.abspath(__file__)))
-PAGE = os.path.join(TOP, "docs", "GATE.md")
+ROWS = os.path.join(TOP, "tools", "gate.rows")
 
 COUNT = re.compile(r"^(\d+) passed, (\d+) failed$", re.M)
 
@@ -24,10 +24,10 @@ WELL = re.compile(r"^rt: (\w+ proved$|\w+ is kept|\w+: trying its must-fail|must
 # minutes.
 LONGEST = 150 * 60
 
-# The parts of the whole, as the page's rows name them.
+# The parts of the whole, as the rows name them.
 PROOFS, EDITS, MUTANTS, SCRIPTS = PARTS = ("proofs and programs", "must-fail edits", "tools/mutants.py", "other scripts")
 
-# What a crate is taken to cost that the page doesn't name, in processor seconds.
+# What a crate is taken to cost that no row names, in processor seconds.
 UNKNOWN = 60
 
 # One part prints at a time.
@@ -101,27 +101,26 @@ class Progress:
             print(f"-- {self.count - len(self.left)} of {self.count} crates, {self.share():.0f} in 100 of the proofs' cost, after {(time.monotonic() - self.began) / 60:.0f} minutes", flush=True)
 
     def share(self):
-        """How much of the proofs' cost is done, in parts of 100, by docs/GATE.md."""
+        """How much of the proofs' cost is done, in parts of 100, by the rows."""
         total = sum(self.costs.values()) or 1
         return 100 * (1 - sum(self.costs.get(name, 0) for name in self.left) / total)
 
 
 def rows():
-    """The rows of the page's table: how much has to run at least, and the processor seconds, None where a row has none."""
-    with open(PAGE, encoding="utf-8") as page:
-        lines = [line.strip("|\n").split("|") for line in page if line.startswith("|")][2:]
-    numbers = {name.strip().replace("`", ""): [int(cell) if cell.strip().isdigit() else None for cell in cells] for name, *cells in lines}
-    return {name: (own + [None, None])[:2] for name, own in numbers.items()}
+    """What has to run, by its name: how much at least, and the processor seconds, None where a row has none."""
+    with open(ROWS, encoding="utf-8") as file:
+        lines = [line.split(None, 2) for line in file if not line.startswith("#")]
+    return {name.strip(): [None if number == "-" else int(number) for number in numbers] for *numbers, name in lines}
 
 
 def crate_costs():
-    """The processor seconds of each crate's proof, as the page has them."""
+    """The processor seconds of each crate's proof, as the rows have them."""
     return {name: seconds for name, (_, seconds) in rows().items() if name.startswith("serf_")}
 
 
 def chain_costs(crates):
-    """What each of these crates costs together with the dearest chain of crates that waits for it, by the page. Where
-    there is no page, each costs as much as any other."""
+    """What each of these crates costs together with the dearest chain of crates that waits for it, by the rows. Where
+    there are none, each costs as much as any other."""
     found = {}
     try:
         costs = crate_costs()
@@ -140,7 +139,7 @@ def wanted():
 
 
 def all_seconds():
-    """The processor seconds of the last cold run on the page."""
+    """The processor seconds of the last cold run."""
     return sum(seconds for name, (_, seconds) in rows().items() if name in PARTS)
 
 

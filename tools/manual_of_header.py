@@ -86,7 +86,7 @@ def page():
     file_title, file_rest, file_calls, file_types = parts_of(STORE)
     lines = ['.\\" Made of include/serf_agent.h by tools/manual_of_header.py.', '.TH SERF_AGENT 3 "" "Kitchenrue"', ".SH NAME", "serf_agent \\- one proved Serf agent in C", ".SH SYNOPSIS", ".nf"]
     lines += [".B #include <serf_agent.h>", ".B #include <serf_agent_store.h>", ".PP", ".B cc host.c $(pkg\\-config \\-\\-cflags \\-\\-libs serf_agent)", ".fi", ".SH DESCRIPTION", escaped(title), *paragraphs(rest)]
-    lines += [".SH CALLS", "Each answers a number of", ".IR \"enum serf_agent_code\" .", *calls, ".SH THE FILE", escaped(file_title), *paragraphs(file_rest), *file_calls, ".SH TYPES", *types, *file_types, ".SH SEE ALSO", ".BR serf\\-replay (1),", "docs/EMBEDDING.md: what to call when, and the file."]
+    lines += [".SH CALLS", "Each answers a number of", ".IR \"enum serf_agent_code\" .", *calls, ".SH THE FILE", escaped(file_title), *paragraphs(file_rest), *file_calls, ".SH TYPES", *types, *file_types, ".SH SEE ALSO", ".BR serf\\-replay (1),", "docs/HOST.md: what to call when, and the file."]
     return "\n".join(lines) + "\n"
 
 

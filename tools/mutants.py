@@ -120,33 +120,42 @@ class Run:
             known.write(self.now, sums, {name: refusal for name, refusal in (rest | found).items() if refusal})
 
     def tried(self, crate, own):
-        """What refused each of these edits, by name."""
+        """What refused each of these edits, by name. Where a batch of several shows nothing at all, as where one of them
+        can't be read by the toolchain, its halves are tried."""
         found = {}
         with tempfile.TemporaryDirectory(prefix="mutants-", ignore_cleanup_errors=True) as kept:
             checks = edit_checks.Checks(self.rt, crate, kept)
-            for batch in edits.batches_of(own):
+            batches = edits.batches_of(own)
+            while batches:
+                batch = batches.pop(0)
                 began = time.monotonic()
-                if self.is_control:
-                    goals, said = checks.open_goals(batch, True)
-                    refusals = [
-                        None if open_goals else edit_checks.Refusal("control", "proved without the edit")
-                        for open_goals in goals
-                    ]
-                else:
-                    refusals, said = checks.refusals(batch)
+                refusals, said = self.refusals(checks, batch)
                 log(crate, batch, began, said)
+                if len(batch) > 1 and not any(refusals):
+                    half = len(batch) // 2
+                    batches[:0] = [batch[:half], batch[half:]]
+                    continue
                 for edit, refusal in zip(batch, refusals):
                     found[edit.name] = refusal
-                    self.counts.add(refusal, True)
-                    say(
-                        f"{crate.name}/{edit.name}: {refusal}"
-                        if refusal
-                        else f"FAILED {crate.name}/{edit.name}: {self.failure(edit)}"
-                    )
+                    self.tell(crate, edit, refusal)
                 if not all(refusals):
                     lines = [line[:200] for line in said.split("\n") if re.search(r"error|not proved|no proof", line)]
                     say("\n".join(lines[:40]))
         return found
+
+    def refusals(self, checks, batch):
+        """What refused each edit of a batch, or None, and what the toolchain said; for a control, whether each function
+        is proved without its edit."""
+        if not self.is_control:
+            return checks.refusals(batch)
+        goals, said = checks.open_goals(batch, True)
+        return [None if own else edit_checks.Refusal("control", "proved without the edit") for own in goals], said
+
+    def tell(self, crate, edit, refusal):
+        """Counts and says what came of one edit."""
+        self.counts.add(refusal, True)
+        name = f"{crate.name}/{edit.name}"
+        say(f"{name}: {refusal}" if refusal else f"FAILED {name}: {self.failure(edit)}")
 
     def failure(self, edit):
         functions = ", ".join(edit.functions)

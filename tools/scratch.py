@@ -1,4 +1,4 @@
-"""A crate of its own over copies of the repository's, in a temporary folder: what the tests compile and run unproved."""
+"""A crate of its own over copies of the repository's, in a temporary folder: what the tests compile and run unproved, and the bench."""
 
 import contextlib
 import os
@@ -28,13 +28,15 @@ def lines_below(uses):
 
 
 @contextlib.contextmanager
-def crate(name, uses):
-    """The folder src of a new crate over copies of these crates and of those below them. It is gone at the end."""
+def crate(name, uses, parts=("src", "specs")):
+    """The folder src of a new crate over copies of these parts of these crates and of those below them. It is gone at the
+    end."""
     with tempfile.TemporaryDirectory(prefix=name) as root:
         lines = lines_below(uses)
         for below in lines:
-            for part in ("src", "specs"):
-                shutil.copytree(os.path.join(CRATES, below, part), os.path.join(root, "crates", below, part))
+            for part in parts:
+                if os.path.isdir(os.path.join(CRATES, below, part)):
+                    shutil.copytree(os.path.join(CRATES, below, part), os.path.join(root, "crates", below, part))
         with open(os.path.join(root, "crates.txt"), "w", encoding="utf-8") as file:
             file.writelines([*lines.values(), f"{name}: {' '.join(uses)}\n"])
         source = os.path.join(root, "crates", name, "src")

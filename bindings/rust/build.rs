@@ -34,8 +34,9 @@ fn main() {
         refuse(&format!("the library is for Linux on x86-64, and the target is {system} on {machine}"));
     }
     let library = library();
-    let (Some(folder), true) = (library.parent(), library.is_file()) else {
-        refuse(&format!("there is no library at {}", library.display()));
+    let folder = match library.parent() {
+        Some(folder) if library.is_file() => folder,
+        _ => refuse(&format!("there is no library at {}", library.display())),
     };
     println!("cargo:rerun-if-changed={}", library.display());
     println!("cargo:rustc-link-search=native={}", folder.display());

@@ -1,4 +1,4 @@
-/* The agent of the C library behind the pipe of docs/PIPE.md: calls on standard input, replies on standard output.
+/* The agent of the C library behind the pipe of docs/SPEC.md: calls on standard input, replies on standard output.
  *
  * Its snapshot is in memory. `break` is unsupported, since the library has no disk. */
 #define _GNU_SOURCE
@@ -6,13 +6,22 @@
 
 enum { WORDS = 4096, ROOM = 1 << 20 };
 
-static struct serf_agent agent;
+static struct serf_agent agent, other;
+/* the one that the last call's getters read */
+static struct serf_agent *given = &agent;
 static struct serf_agent_settings settings;
 static struct bytes name, text;
 /* whether the next agent that is made keeps its events */
 static bool keeps;
 static char *words[WORDS];
 static size_t count;
+/* the queries that were handed out in this life: a packet, the moment at which it came, and whether no answer was sent yet */
+static struct asked {
+    struct bytes packet;
+    uint64_t now;
+    bool waits;
+} *asked;
+static size_t asked_count;
 
 static uint64_t number_of(size_t word) {
     return strtoull(words[word], NULL, 10);
@@ -36,13 +45,13 @@ static void put_given(const struct serf_agent_gave *gave) {
     struct serf_agent_event event;
     struct serf_agent_handed query;
     size_t len;
-    if (serf_agent_packet(&agent, &len, one, ROOM) == SERF_AGENT_OK) {
+    if (serf_agent_packet(given, &len, one, ROOM) == SERF_AGENT_OK) {
         put_line("sent", (struct bytes){one, len});
     }
-    if (serf_agent_ack(&agent, &len, one, ROOM) == SERF_AGENT_OK) {
+    if (serf_agent_ack(given, &len, one, ROOM) == SERF_AGENT_OK) {
         put_line("sent", (struct bytes){one, len});
     }
-    for (size_t i = 0; serf_agent_event(&agent, i, &event, one, ROOM, two, ROOM) == SERF_AGENT_OK; i++) {
+    for (size_t i = 0; serf_agent_event(given, i, &event, one, ROOM, two, ROOM) == SERF_AGENT_OK; i++) {
         printf("event %llu", (number)event.time);
         put(one, event.name_len, "");
         put(two, event.payload_len, event.coalesce ? " 1\n" : " 0\n");
@@ -80,6 +89,7 @@ static void put_clocks(const char *answer) {
 /* Opens the agent, or opens it again, on its snapshot's text and what was behind it. */
 static void open_on(struct bytes more, const char *answer) {
     serf_agent_close(&agent);
+    asked_count = 0;
     append(&text, more);
     serf_agent_open(&agent, name.at, name.len, &settings, text.at, text.len);
     settle();
@@ -108,6 +118,32 @@ static void make(void) {
         .keep_events = keep_events,
     };
     open_on(bytes_of(words[count - 1]), "opened");
+}
+
+/* Keeps the packet of a query that was handed out. */
+static void remember(struct bytes packet, uint64_t now) {
+    asked = realloc(asked, (asked_count + 1) * sizeof *asked);
+    asked[asked_count] = (struct asked){.now = now, .waits = true};
+    append(&asked[asked_count++].packet, packet);
+}
+
+/* Answers a query. The moments of a schedule go back, as those of a host's clock don't: so a query that the library has forgotten,
+ * since a moment was past its deadline, is answered by another agent, which gets it anew. */
+static uint32_t respond(uint64_t now, uint64_t query, struct bytes payload) {
+    struct asked *one = query < asked_count ? &asked[query] : NULL;
+    uint32_t code = serf_agent_respond(&agent, now, query + 1, payload.at, payload.len);
+    if (code == SERF_AGENT_NOT_HANDED && one != NULL && one->waits) {
+        given = &other;
+        serf_agent_close(given);
+        serf_agent_open(given, name.at, name.len, &settings, NULL, 0);
+        serf_agent_receive(given, one->now, one->packet.at, one->packet.len);
+        serf_agent_written(given);
+        code = serf_agent_respond(given, now, 1, payload.at, payload.len);
+    }
+    if (code == SERF_AGENT_OK) {
+        one->waits = false;
+    }
+    return code;
 }
 
 static uint32_t query(void) {
@@ -141,7 +177,7 @@ static uint32_t called(const char *call, const char **answer, struct bytes *one)
     case 'r':
         *answer = "replied";
         payload = bytes_of(words[3]);
-        return serf_agent_respond(&agent, number_of(2), number_of(1) + 1, payload.at, payload.len);
+        return respond(number_of(2), number_of(1), payload);
     case 'q':
         *answer = "queried";
         return query();
@@ -160,6 +196,7 @@ static void reply_to_call(const char *call) {
     struct serf_agent_gave gave = {0};
     struct serf_agent_clocks before = {0};
     serf_agent_clocks(&agent, &before);
+    given = &agent;
     uint32_t code = called(call, &answer, &one);
     settle();
     if (code == SERF_AGENT_NO_MESSAGE) {
@@ -171,7 +208,13 @@ static void reply_to_call(const char *call) {
         printf("%s%s\n", fault != NULL ? "refused " : "unsupported", fault != NULL ? fault : "");
         return;
     }
-    serf_agent_gave(&agent, &gave);
+    serf_agent_gave(given, &gave);
+    if (gave.handed != 0) {
+        static uint8_t fired[ROOM];
+        size_t len = 0;
+        serf_agent_packet(given, &len, fired, ROOM);
+        remember(call[0] == 'q' ? (struct bytes){fired, len} : one, number_of(call[0] == 'q' ? 1 : 2));
+    }
     if (answer == NULL) {
         put_received(&gave, one);
     } else if (call[0] == 'f' || call[0] == 'q') {

@@ -1,5 +1,5 @@
 #!/usr/bin/env python3
-"""An agent behind the pipe: calls on standard input, replies on standard output (docs/PIPE.md).
+"""An agent behind the pipe: calls on standard input, replies on standard output (docs/SPEC.md).
 
     agent.py [--wrong NAME].. [--list]
 

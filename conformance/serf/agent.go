@@ -1,4 +1,4 @@
-// An agent of Serf's own code behind the pipe (docs/PIPE.md). It stands in Serf's package, since it calls what a test of
+// An agent of Serf's own code behind the pipe (docs/SPEC.md). It stands in Serf's package, since it calls what a test of
 // Serf would: the moments, the IDs and the snapshot's moments of writing are those of the calls. Each answer is what
 // Serf's code did; where Serf only says nothing, the reason is read off its state.
 package serf

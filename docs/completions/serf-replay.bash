@@ -36,7 +36,7 @@ _serf_replay() {
             explain) words='--stream --agent --from --to --help' files=yes ;;
             draw) words='--as --agent --from --to --taken --event --help' files=yes ;;
             write) words='--help' files=yes ;;
-            judge) words='--missed --kept --help' files=yes ;;
+            judge) words='--missed --own --kept --help' files=yes ;;
             conform) words='--agent --rules --random --kind --agents --actions --go-on --shrink --save --report --help' files=yes ;;
             random) words='--kind --agents --actions --fanout --loss --rounds --rules --help' ;;
             decode) words='--help' ;;

@@ -213,6 +213,13 @@ def address_of(node):
     return {(str(host), port): name.decode("utf-8", "replace")}
 
 
+def lone_node(payload, key):
+    """The name and the address of the one node that a whole state knows: the sender itself, before its first join."""
+    payload = stream_of(payload, key)
+    nodes = nodes_of_state(payload)[1] if payload[:1] == bytes([STATE]) else []
+    return address_of(nodes[0]) if len(nodes) == 1 else {}
+
+
 def nodes_in(payload, key):
     """The names of addresses that a packet, or a side of a connection, tells."""
     found = {}

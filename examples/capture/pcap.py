@@ -106,8 +106,8 @@ def streams_of(sides, notes):
 
 
 def read(data):
-    """The UDP packets and the sides of TCP connections, each with its time since the first frame, its sender, its receiver and
-    its bytes; and how often what was left out."""
+    """When the first frame came, in microseconds since 1970; the UDP packets and the sides of TCP connections, each with its
+    time since then, its sender, its receiver and its bytes; and how often what was left out."""
     link, frames = frames_of(data)
     began = frames[0][0] if frames else 0
     datagrams, sides, notes = [], {}, {}
@@ -126,4 +126,4 @@ def read(data):
         elif len(segment) >= 20:
             sequence, offset, flags = struct.unpack_from(">I4x2B", segment, 4)
             side_of(sides, ends, flags).add(since, sequence, flags, segment[(offset >> 4) * 4 :])
-    return datagrams, streams_of(sides, notes), notes
+    return began, datagrams, streams_of(sides, notes), notes

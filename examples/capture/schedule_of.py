@@ -1,5 +1,6 @@
 #!/usr/bin/env python3
-"""schedule_of.py CAPTURE [--node NAME=ADDRESS[:PORT]].. [--down NAME=FROM-TO].. [--ignore NAME].. [--key BASE64]
+"""schedule_of.py CAPTURE [--node NAME=ADDRESS[:PORT]].. [--down NAME=FROM-TO].. [--kept NAME=FILE].. [--rejoin NAME]..
+    [--ignore NAME].. [--key BASE64]
 
 Writes what a capture of Serf's gossip shows as a written schedule: who got which event, query and response, and who merged
 which whole state.
@@ -8,7 +9,11 @@ which whole state.
     schedule_of.py gossip.pcap | serf-replay write | serf-replay replay
 
 A node's name is what memberlist says of its address; --node says it of one that the capture doesn't name. --down says from
-which second to which a node didn't run, counted from the capture's first packet: it gets nothing then, and is started again.
+when to when a node didn't run: it gets nothing then, and is started again. A moment is seconds since the capture's first
+packet, or a time of day as the agents' logs have it, such as 20:31:05 or 20:31:05.25, of this machine's time zone.
+--kept says what the node's snapshot had when it was started again behind its last --down, where it was an agent of Serf: it
+goes on from that file, so what came to it before is left out. Behind a `leave` line such an agent knows nothing of what
+stands before, unless --rejoin says that it ran with `-rejoin`.
 --ignore says of a node that its joins ignore old events, as those of `serf join` and of `-retry-join` do without `-replay`.
 --key is the key of an encrypted cluster, as `serf agent -encrypt` takes it, and needs Python's package `cryptography`. Standard error says how
 many packets were read, and what was left out. The status is 1 where a packet could not be read, 2 where the file is no
@@ -17,6 +22,7 @@ capture or the command line is refused.
 
 import argparse
 import base64
+import datetime
 import os
 import sys
 
@@ -35,8 +41,8 @@ PASSED_ON = (3, 4)
 class Story:
     """What the capture shows, in order: the lines of a written schedule, and how often what was left out."""
 
-    def __init__(self, names, key, down, ignoring):
-        self.names, self.key, self.down, self.ignoring = names, key, down, ignoring
+    def __init__(self, names, key, down, kept, ignoring):
+        self.names, self.key, self.down, self.kept, self.ignoring = names, key, down, kept, ignoring
         self.steps, self.has, self.left_out = [], set(), {}
         self.faults = 0
 
@@ -45,9 +51,20 @@ class Story:
 
     def add(self, time, name, line):
         """A line of what a node does, where it runs."""
+        if name in self.kept and time < self.last_start(name):
+            return self.leave_out("packets to a node before it was started on what --kept says")
         if any(name == one and begin <= time < end for one, begin, end in self.down):
             return self.leave_out("packets to a node that was down")
         self.steps.append((time, name, line))
+
+    def last_start(self, name):
+        """When a node was started for the last time."""
+        return max(end for one, _, end in self.down if one == name)
+
+    def start(self, name, time):
+        """The line of a node that is started again."""
+        tail = f" tail {self.kept[name].hex() or '-'}" if name in self.kept else ""
+        return f'restart "{quoted(name)}"{tail} # at {time}us'
 
     def give(self, time, address, message):
         name = self.names.get(address)
@@ -88,7 +105,8 @@ class Story:
 
     def lines(self):
         """The agents, in the order of their names, and what they do, in the order of time."""
-        steps = self.steps + [(end, name, f'restart "{quoted(name)}" # at {end}us') for name, _, end in self.down]
+        starts = [(end, name) for name, _, end in self.down if name not in self.kept or end == self.last_start(name)]
+        steps = self.steps + [(end, name, self.start(name, end)) for end, name in starts]
         for name in sorted({name for _, name, _ in steps}):
             yield f'agent "{quoted(name)}"' + (" ignore" if name in self.ignoring else "")
         for _, _, line in sorted(steps, key=lambda step: step[0]):
@@ -120,16 +138,29 @@ def named_nodes(datagrams, streams, key):
     return names
 
 
-def both_ends(streams, names):
+def lone_callers(streams, names, key):
+    """The addresses of callers that tell a state of themselves alone, by the end from which they call."""
+    callers = {}
+    for _, sender, receiver, payload in streams:
+        if sender not in names and receiver in names:
+            try:
+                callers.update((sender, address) for address in memberlist.lone_node(payload, key))
+            except memberlist.Fault:
+                continue
+    return callers
+
+
+def both_ends(streams, names, key):
     """The streams, of which each end is the node that listens: the caller's port is another one. Of a connection, the side
-    that answers listens at its own port, and the caller is found by its address alone."""
-    by_host = {}
+    that answers listens at its own port, and the caller is found by its address alone; where several nodes have that
+    address, or none, by what it says of itself when it joins."""
+    by_host, callers = {}, lone_callers(streams, names, key)
     for (host, port), name in names.items():
         by_host.setdefault(host, []).append(((host, port), name))
 
     def known(end):
         if end in names or len(by_host.get(end[0], [])) != 1:
-            return end
+            return callers.get(end, end)
         return by_host[end[0]][0][0]
 
     return [(time, known(sender), known(receiver), payload) for time, sender, receiver, payload in streams]
@@ -147,19 +178,44 @@ def asked_names(words):
     return names
 
 
-def asked_times(words):
-    """What --down says: a name, and two moments in microseconds."""
+def moment(text, began):
+    """A moment in microseconds since the first packet: seconds since then, or a time of day, the first one from then on."""
+    if ":" not in text:
+        return round(float(text) * 1e6)
+    first = datetime.datetime.fromtimestamp(began / 1e6)
+    day = datetime.datetime.combine(first.date(), datetime.time.fromisoformat(text.partition(".")[0]))
+    since = (day - first).total_seconds() + float(f"0.{text.partition('.')[2] or 0}")
+    # (a capture that began within the second that a log names)
+    return round((since if since > -1 else since + 86_400) * 1e6)
+
+
+def asked_times(words, began):
+    """What --down says: a name, and two moments in microseconds since the first packet."""
     times = []
     for word in words:
         name, equals, span = word.rpartition("=")
         begin, _, end = span.partition("-")
         try:
-            times.append((name, round(float(begin) * 1e6), round(float(end) * 1e6)))
+            times.append((name, moment(begin, began), moment(end, began)))
         except ValueError:
             equals = ""
         if not equals or not name:
-            sys.exit(f"--down wants NAME=FROM-TO in seconds, and not {word!r}")
+            sys.exit(f"--down wants NAME=FROM-TO in seconds or in times of day, and not {word!r}")
     return times
+
+
+def asked_files(words, down, rejoining):
+    """What --kept says: the text with which each of these nodes was started again."""
+    kept = {}
+    for word in words:
+        name, equals, path = word.partition("=")
+        if not equals or name not in [one for one, _, _ in down]:
+            sys.exit(f"--kept wants NAME=FILE of a node that --down names too, and not {word!r}")
+        with open(path, "rb") as file:
+            text = file.read()
+        left = -1 if name in rejoining else text.rfind(b"\nleave\n")
+        kept[name] = text if left < 0 else text[left + len(b"\nleave\n") :]
+    return kept
 
 
 def main(words):
@@ -167,20 +223,27 @@ def main(words):
     parser.add_argument("capture")
     parser.add_argument("--node", action="append", default=[], metavar="NAME=ADDRESS[:PORT]")
     parser.add_argument("--down", action="append", default=[], metavar="NAME=FROM-TO")
+    parser.add_argument("--kept", action="append", default=[], metavar="NAME=FILE")
+    parser.add_argument("--rejoin", action="append", default=[], metavar="NAME")
     parser.add_argument("--ignore", action="append", default=[], metavar="NAME")
     parser.add_argument("--key", type=base64.b64decode, metavar="BASE64")
     asked = parser.parse_args(words)
     try:
         with open(asked.capture, "rb") as file:
-            datagrams, streams, notes = pcap.read(file.read())
-    except (OSError, pcap.NoCapture) as fault:
+            began, datagrams, streams, notes = pcap.read(file.read())
+        down = asked_times(asked.down, began)
+        kept = asked_files(asked.kept, down, asked.rejoin)
+    except pcap.NoCapture as fault:
         print(f"{asked.capture}: {fault}", file=sys.stderr)
+        return 2
+    except OSError as fault:
+        print(f"{fault.filename}: {fault.strerror}", file=sys.stderr)
         return 2
     names = named_nodes(datagrams, streams, asked.key)
     names.update(asked_names(asked.node))
-    story = Story(names, asked.key, asked_times(asked.down), asked.ignore)
+    story = Story(names, asked.key, down, kept, asked.ignore)
     payloads = [(time, story.packet, *rest) for time, *rest in datagrams]
-    payloads += [(time, story.stream, *rest) for time, *rest in both_ends(streams, names)]
+    payloads += [(time, story.stream, *rest) for time, *rest in both_ends(streams, names, asked.key)]
     for time, read, sender, receiver, payload in sorted(payloads, key=lambda one: one[0]):
         tried(story, read, time, sender, receiver, payload)
     for line in story.lines():

@@ -1,21 +1,25 @@
 """By hand, since it needs Go, Serf and its sources: kills, losses and cuts in a cluster of three kinds of agents.
 
     tests/by_hand/agent_cluster.py [--minutes M] [--kills N] [--events N] [--stock N] [--ours N] [--serf N] [--lose SHARE]
-                                   [--repeat SHARE] [--calm] [--keep-events N] [--retry-join] [--rest SECONDS] [--seed S]
-                                   [--library FOLDER] [--agent PROGRAM] [--judge PROGRAM] [--keep]
+                                   [--repeat SHARE] [--calm] [--cut-every SECONDS] [--keep-events N] [--retry-join] [--rest SECONDS] [--seed S]
+                                   [--net ADDRESS] [--library FOLDER] [--agent PROGRAM] [--judge PROGRAM] [--keep]
 
 There are stock agents (3), ours (3), and Serf's own program over our package `serf` (2). So many of ours keep their events (2).
 Events and queries are fired at random nodes in bursts, and a random node is killed by SIGKILL and started again on its snapshot,
 by which alone it rejoins. Ours and those over the package lose packets and repeat them, and are cut off from a random half of all
-nodes again and again (by the transport of bindings/go/serf/faults.go); --calm leaves that out. Who starts again while it is cut
-off from all that it knows tries no more, and may stay alone; with --retry-join all but stock go on trying. It ends at the first of
-so many minutes, kills or events. Then all comes to rest, for --rest seconds once all see one another (120, and 5 where no agent
-keeps its events: what a node lacks comes with the states, which agents exchange each 30 seconds). Then `serf-replay judge` reads
-the log of all handlers but stock's, with their snapshots.
+nodes for 2 to 8 seconds, again and again (by the transport of bindings/go/serf/faults.go); --calm leaves that out. --cut-every is
+about how many seconds lie between two cuts (6). The more often kills and cuts come, the more events are gone with the windows of
+those that had them, before the others hear of them. Who starts again while it is cut off from all that it knows tries no more, and
+may stay alone; with --retry-join all but stock go on trying. It ends at the first of so many minutes, kills or events. Then all
+comes to rest, for --rest seconds once all see one another (120, and 5 where no agent keeps its events: what a node lacks comes with
+the states, which agents exchange each 30 seconds). Then `serf-replay judge` reads the log of all handlers but stock's, with their
+snapshots.
 
 It fails where a handler ran an event or a query twice, but a stock agent's, or where the judge says otherwise. How often stock's
-handlers did is told beside it, and how many of the events that an agent took each kind never ran. Of ours it is told why: by their
-records, and of those that keep their events by their files as the kills left them.
+handlers did is told beside it, and how many of the events that an agent took each kind never ran; those of ours that keep their
+events are a kind of their own. Apart stand the events that only their firer ever had: no other handler ran them, and no other file
+that keeps events has them. Of ours it is told why: by their records, and of those that keep their events by their files as the kills
+left them. The handlers write a line each, by one process alone, so that few events wait for them when a kill comes.
 """
 
 import argparse
@@ -37,7 +41,11 @@ sys.path.insert(0, os.path.join(kit.TOP, "conformance", "python"))
 from serf_agent import kept
 from agent_cluster_kit import Agent, until
 
-HANDLER = os.path.join(kit.TOP, "examples", "serf_log_handler.sh")
+# What the handlers do: a line for the judge. Names and payloads have no space here.
+LINES = {
+    "user": 'read -r text; echo "event $SERF_SELF_NAME $SERF_USER_LTIME $SERF_USER_EVENT $text"',
+    "query": 'read -r text; echo "query $SERF_SELF_NAME $SERF_QUERY_LTIME ${text#q}"',
+}
 
 
 def arguments():
@@ -51,10 +59,12 @@ def arguments():
     parser.add_argument("--lose", type=float, default=0.1)
     parser.add_argument("--repeat", type=float, default=0.1)
     parser.add_argument("--calm", action="store_true")
+    parser.add_argument("--cut-every", type=float, default=6)
     parser.add_argument("--keep-events", type=int, default=2)
     parser.add_argument("--retry-join", action="store_true")
     parser.add_argument("--rest", type=float)
     parser.add_argument("--seed", type=int, default=1)
+    parser.add_argument("--net", default="127.0.8")
     parser.add_argument("--library")
     parser.add_argument("--agent")
     parser.add_argument("--judge", default=os.path.join(kit.TOP, "serf-replay"))
@@ -63,21 +73,22 @@ def arguments():
 
 
 # What kind an agent is: stock, kitchenrue-agent, or Serf's own program over our package.
-STOCK, OURS, SERF = "stock", "ours", "serf"
+STOCK, OURS, KEEPS, SERF = "stock", "ours", "ours with -keep-events", "serf"
 
 
 def cluster(folder, programs, asked):
-    kinds = [STOCK] * asked.stock + [OURS] * asked.ours + [SERF] * asked.serf
+    keep = min(asked.keep_events, asked.ours)
+    kinds = [STOCK] * asked.stock + [KEEPS] * keep + [OURS] * (asked.ours - keep) + [SERF] * asked.serf
     agents = []
     for number, kind in enumerate(kinds, 1):
-        agent = Agent(folder, programs[kind], f"{kind}{number}", number, net="127.0.8")
+        agent = Agent(folder, programs[kind], f"{kind.split()[0]}{number}", number, net=asked.net)
         agent.kind, agent.is_proved, agent.events = kind, kind != STOCK, os.path.join(folder, f"{agent.name}.events")
-        agent.keeps = kind == OURS and number - asked.stock <= asked.keep_events
         agent.left = []
-        handler = f"SERF_LOG={agent.events} sh {HANDLER}"
-        agent.words = ["-snapshot", agent.snapshot, "-event-handler", f"user={handler}", "-event-handler", f"query={handler}"]
-        if kind == OURS:
-            agent.words += ["-keep-events"] if agent.keeps else ["-record", agent.record]
+        agent.words = ["-snapshot", agent.snapshot]
+        for of, line in LINES.items():
+            agent.words += ["-event-handler", f"{of}={line} >>{agent.events}"]
+        if kind in (OURS, KEEPS):
+            agent.words += ["-keep-events"] if kind == KEEPS else ["-record", agent.record]
         if agent.is_proved:
             agent.faults = os.path.join(folder, f"{agent.name}.faults")
             agent.env = {**os.environ, "KITCHENRUE_FAULTS": agent.faults}
@@ -103,7 +114,7 @@ def put_faults(agents, asked, side=()):
         if agent.is_proved:
             beyond = [other.addr for other in agents if side and (other in side) != (agent in side)]
             with open(f"{agent.faults}.new", "w", encoding="ascii") as file:
-                file.write(f"lose {asked.lose}\nrepeat {asked.repeat}\n" + (f"cut {' '.join(beyond)}\n" if beyond else ""))
+                file.write(f"lose {asked.lose}\nrepeat {asked.repeat}\n" + (f"cut {' '.join(beyond)}\nrefuse streams\n" if beyond else ""))
             os.replace(f"{agent.faults}.new", agent.faults)
 
 
@@ -112,8 +123,8 @@ class Torment:
 
     def __init__(self, agents, asked):
         self.agents, self.asked, self.draw = agents, asked, random.Random(asked.seed)
-        # the texts of the events that an agent took, how many were fired, and how many queries
-        self.taken, self.fired, self.asked_of, self.cuts, self.kills = [], 0, 0, 0, collections.Counter()
+        # the texts of the events that an agent took, and its name; how many were fired, and how many queries
+        self.taken, self.fired, self.asked_of, self.cuts, self.kills = {}, 0, 0, 0, collections.Counter()
         self.next_kill = time.monotonic() + 2
         self.next_cut, self.mended_at = time.monotonic() + 5, None
 
@@ -121,8 +132,9 @@ class Torment:
         up = [agent for agent in self.agents if agent.process.poll() is None]
         for _ in range(self.draw.randint(1, 3)):
             self.fired += 1
-            if self.draw.choice(up).serf("event", "-coalesce=false", "deploy", f"v{self.fired}")[0] == 0:
-                self.taken.append(f"v{self.fired}")
+            firer = self.draw.choice(up)
+            if firer.serf("event", "-coalesce=false", "deploy", f"v{self.fired}")[0] == 0:
+                self.taken[f"v{self.fired}"] = firer.name
         self.asked_of += 1
         self.draw.choice(up).serf("query", "-timeout=200ms", "check", f"q{self.asked_of}")
 
@@ -134,13 +146,13 @@ class Torment:
             self.cuts, self.mended_at = self.cuts + 1, now + self.draw.uniform(2, 8)
         elif self.mended_at is not None and now > self.mended_at:
             put_faults(self.agents, self.asked)
-            self.mended_at, self.next_cut = None, now + self.draw.uniform(3, 10)
+            self.mended_at, self.next_cut = None, now + self.asked.cut_every * self.draw.uniform(0.5, 1.5)
 
     def kill(self):
         if time.monotonic() > self.next_kill:
             victim = self.draw.choice(self.agents)
             victim.end()
-            if victim.keeps:
+            if victim.kind == KEEPS:
                 victim.left.append(text_of(victim.snapshot))
             self.kills[victim.kind] += 1
             time.sleep(self.draw.uniform(0.1, 1.5))
@@ -181,13 +193,16 @@ def text_of(path):
         return b""
 
 
+def noted_by(agent):
+    """The events that an agent's file kept when it was killed."""
+    return {payload.decode() for text in agent.left for _, _, payload in kept.events_in(text)}
+
+
 def why_by_files(agent, payloads):
     """Why a node of ours whose file keeps events never ran these events, by its file as its kills left it."""
-    noted = {payload for text in agent.left for _, _, payload in kept.events_in(text)}
-    causes = collections.Counter()
+    noted, causes = noted_by(agent), collections.Counter()
     for payload in payloads:
-        is_noted = payload.encode() in noted
-        causes["killed between its line and its handler" if is_noted else "it has no line of its own: it never came, or was too old"] += 1
+        causes["killed between its line and its handler" if payload in noted else "it has no line of its own: it never came, or was too old"] += 1
     return causes
 
 
@@ -211,25 +226,36 @@ def why(agent, payloads):
     return causes
 
 
+def lonely(agents, torment):
+    """The events that only their firer ever had, as far as handlers and files tell."""
+    had = {agent.name: {line.split()[-1] for line in ran(agent) if line.startswith("event ")} | noted_by(agent) for agent in agents}
+    return {text for text, firer in torment.taken.items() if not any(text in had[name] for name in had if name != firer)}
+
+
 def told(agents, torment):
     """Tells what each kind did: how many repeats each has."""
-    repeats, causes = collections.Counter(), collections.Counter()
-    for kind in (STOCK, OURS, SERF):
+    repeats, alone = collections.Counter(), lonely(agents, torment)
+    print(f"{len(alone)} events only their firer ever had")
+    for kind in (STOCK, OURS, KEEPS, SERF):
         of_kind = [agent for agent in agents if agent.kind == kind]
-        once, queries = 0, 0
+        once, queries, apart, causes = 0, 0, 0, collections.Counter()
         for agent in of_kind:
             counts = collections.Counter(ran(agent))
             had = {line.split()[-1] for line in counts if line.startswith("event ")}
-            once += len(had.intersection(torment.taken))
+            missed = torment.taken.keys() - had
+            once += len(torment.taken) - len(missed)
+            apart += len(missed & alone)
             queries += sum(line.startswith("query ") for line in counts)
             repeats[kind] += sum(count - 1 for count in counts.values())
-            if kind == OURS:
-                cause = why_by_files if agent.keeps else why
-                causes += cause(agent, [text for text in torment.taken if text not in had])
+            if kind in (OURS, KEEPS):
+                causes += (why_by_files if kind == KEEPS else why)(agent, missed - alone)
         pairs = len(torment.taken) * len(of_kind)
-        print(f"{kind}: {torment.kills[kind]} kills, {once} of {pairs} pairs of an event and a node ran, {queries} of {torment.asked_of * len(of_kind)} of a query and a node, {repeats[kind]} repeats, {pairs - once} never ran")
-    for cause, count in causes.most_common():
-        print(f"ours, never ran: {count}: {cause}")
+        if pairs:
+            other = pairs - once - apart
+            print(f"{kind}: {torment.kills[kind]} kills, {once} of {pairs} pairs of an event and a node ran, {queries} of {torment.asked_of * len(of_kind)} of a query and a node, {repeats[kind]} repeats")
+            print(f"{kind}, never ran: {apart} that only their firer had, and {other} others, {1000 * other / pairs:.1f} in 1,000")
+        for cause, count in causes.most_common():
+            print(f"{kind}, of these others: {count}: {cause}")
     return repeats
 
 
@@ -237,7 +263,7 @@ def programs_of(folder, asked):
     """The three programs."""
     library = asked.library or os.path.dirname(c_library.LIBRARY)
     agent = asked.agent or kit.build(folder, asked.library, ["-tags", "faults"])
-    return {STOCK: ["serf", "agent"], OURS: agent, SERF: [kit.build_serf(folder, library, ["-tags", "faults"]), "agent"] if asked.serf else None}
+    return {STOCK: ["serf", "agent"], OURS: agent, KEEPS: agent, SERF: [kit.build_serf(folder, library, ["-tags", "faults"]), "agent"] if asked.serf else None}
 
 
 def main():
@@ -256,7 +282,7 @@ def main():
         torment.run()
         names = {agent.name for agent in agents}
         whole = until(lambda: all(agent.status(name) == "alive" for agent in agents for name in names), 90)
-        time.sleep(asked.rest or (120 if any(agent.keeps for agent in agents) else 5))
+        time.sleep(asked.rest or (120 if any(agent.kind == KEEPS for agent in agents) else 5))
     finally:
         for agent in agents:
             agent.end()
@@ -268,7 +294,7 @@ def main():
         print(f"all is in {folder}")
     else:
         shutil.rmtree(folder)
-    good = status == 0 and repeats[OURS] == repeats[SERF] == 0
+    good = status == 0 and repeats[OURS] == repeats[KEEPS] == repeats[SERF] == 0
     print("passed" if good else "FAILED")
     return 0 if good else 1
 

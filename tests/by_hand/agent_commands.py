@@ -105,7 +105,8 @@ class Run:
         self.says("a bad expression is refused", x, "members", "-tag", "role=(", status=1, has=["missing closing"])
         self.says("reachability at ours", x, "reachability", has=["Successfully contacted all live nodes"], tries=3)
         self.says("reachability at stock", a, "reachability", has=["Successfully contacted all live nodes"], tries=3)
-        self.says("rtt has no coordinate of ours", x, "rtt", "a", status=1, has=["Could not find a coordinate"])
+        for who in (a, x):
+            self.says(f"rtt at {who.name}", who, "rtt", "b", "y", has=[r"Estimated b <-> y rtt: \d"], tries=20)
 
     def events(self):
         a, b, x, y = self.a, self.b, self.x, self.y

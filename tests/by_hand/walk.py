@@ -23,7 +23,7 @@ PROGRAM = "serf_replay_program"
 FIRST, NEXT = "serf_schedule::parse::say_line", "serf_schedule::run::Run::take_line"
 
 # Functions that are there for proofs.
-FOR_PROOFS = re.compile(r"::laws::|::know_\w+$|::(?:look_at\w*|read_numbers|lines_grow)$")
+FOR_PROOFS = re.compile(r"::laws::|::know_\w+$|::(?:look_at\w*|read_numbers)$")
 
 
 def symbols(program):

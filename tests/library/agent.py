@@ -87,6 +87,22 @@ def installed(count, package):
     count.check("package: all was tried", said.splitlines()[-1].endswith("and no files"), said)
 
 
+# A setting of agent/internal/config: its flag and its key, either of which may be empty.
+SETTING = re.compile(r'^\t\{"([\w-]*)", "(\w*)", "', re.M)
+
+
+def settings_on_page(count):
+    """AGENT.md names each setting by its key, and by its flag where that isn't the key with - for _."""
+    text = checks.text_of("docs", "AGENT.md").partition("\n## Settings\n")[2].partition("\n## ")[0]
+    found = SETTING.findall(checks.text_of("agent", "internal", "config", "settings.go"))
+    count.check("the settings are found", len(found) > 40, found)
+    for flag, key in found:
+        named = [f"`{key}`{'' if flag else '*'}"] if key else []
+        named += [f"`-{flag}"] if flag and flag != key.replace("_", "-") and flag != "version" else []
+        named = [f"`{key}`"] if key == "discover" else named
+        count.check(f"AGENT.md has the setting {key or flag}", all(word in text for word in named), named)
+
+
 SCRIPT = os.path.join(TOP, "examples", "schedule_of_records.py")
 
 
@@ -215,6 +231,7 @@ def main():
     if fault:
         count.check("the library is built", False, fault)
         return count.finish()
+    settings_on_page(count)
     folder = os.path.dirname(os.path.abspath(asked.library or c_library.LIBRARY))
     with tempfile.TemporaryDirectory(prefix="agent-") as own:
         built(count, folder, own)

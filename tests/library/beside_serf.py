@@ -39,8 +39,8 @@ from agent_cluster_kit import until
 
 HANDLER = os.path.join(TOP, "examples", "serf_log_handler.sh")
 
-# Of 100 packets of a node of ours: how many are lost, repeated and late.
-CHANCES = ["-lost", "15", "-repeated", "10", "-late", "20"]
+# The shares of a node's packets of ours that are lost, repeated and late (bindings/go/serf/faults.go).
+CHANCES = "lose 0.15\nrepeat 0.1\nlate 0.2\n"
 
 # How long what has to be seen may take, in seconds: a failed node is suspected for some seconds first.
 SEEN = 120
@@ -64,13 +64,10 @@ STILL = 2
 
 def build(folder, library):
     """Builds the program of a node of ours: its path, or what went wrong."""
-    own = os.path.join(folder, "go", "src")
-    os.makedirs(own)
-    os.symlink(os.path.join(TOP, "bindings", "go"), os.path.join(own, "kitchenrue.example"))
     path = os.path.join(folder, "node")
     flags = c_library.go_flags(os.path.join(library, os.path.basename(c_library.LIBRARY)))
-    env = dict(os.environ, GO111MODULE="off", GOFLAGS="-trimpath", GOPATH=f"{os.path.dirname(own)}:{kit.GOCODE}", **c_library.LEAN_GO, **flags)
-    status, said = c_library.ran(["go", "build", "-o", path, "kitchenrue.example/beside_serf/node"], env=env)
+    env = c_library.go_env(c_library.linked_packages(os.path.join(folder, "go")), kit.GOCODE) | flags
+    status, said = c_library.ran(["go", "build", "-tags", "faults", "-o", path, "kitchenrue.example/beside_serf/node"], env=env)
     return path, said[-2000:] if status else None
 
 
@@ -102,16 +99,24 @@ class Ours:
 
     is_ours = True
 
-    def __init__(self, folder, program, number, net, seed):
+    def __init__(self, folder, program, number, net):
         self.name, self.addr, self.process = f"ours{number}", f"{net}.{number}", None
-        self.snapshot, self.events, self.log = (os.path.join(folder, f"{self.name}.{end}") for end in ("snapshot", "events", "log"))
-        self.words = [program, "-name", self.name, "-bind", self.addr, "-snapshot", self.snapshot, "-log", self.events, "-seed", str(seed), *CHANCES]
+        self.snapshot, self.events, self.log, self.faults = (os.path.join(folder, f"{self.name}.{end}") for end in ("snapshot", "events", "log", "faults"))
+        self.words = [program, "-name", self.name, "-bind", self.addr, "-snapshot", self.snapshot, "-log", self.events]
         self.tags, self.others = {"kind": "ours", "node": self.name}, []
+        self.put_faults()
+
+    def put_faults(self, beyond=()):
+        """What becomes of its packets, and which addresses it is cut off from."""
+        with open(f"{self.faults}.new", "w", encoding="ascii") as file:
+            file.write(CHANCES + f"cut {' '.join(beyond)}\n")
+        os.replace(f"{self.faults}.new", self.faults)
 
     def start(self, *_):
         tags = ",".join(f"{name}={value}" for name, value in self.tags.items())
         with open(self.log, "a", encoding="utf-8") as log:
-            self.process = subprocess.Popen([*self.words, "-tags", tags], stdin=subprocess.PIPE, stdout=subprocess.PIPE, stderr=log, bufsize=0, start_new_session=True)
+            more = {"stdin": subprocess.PIPE, "stdout": subprocess.PIPE, "stderr": log, "bufsize": 0, "start_new_session": True}
+            self.process = subprocess.Popen([*self.words, "-tags", tags], env={**os.environ, "KITCHENRUE_FAULTS": self.faults}, **more)
         self.answer()
         if self.others:
             self.said("join", *self.others)
@@ -146,7 +151,9 @@ def ran(node, kinds=("event ",)):
     """The events that a node's handler ran, each as a line, in order."""
     try:
         with open(node.events, encoding="utf-8") as file:
-            return [line for line in file.read().splitlines() if line.startswith(kinds)]
+            # (a date stands before each line that Serf's handler writes)
+            lines = [line.split(" ", 1)[1] if line[:1].isdigit() else line for line in file.read().splitlines()]
+            return [line for line in lines if line.startswith(kinds)]
     except OSError:
         return []
 
@@ -340,7 +347,7 @@ def cluster(folder, program, asked_):
     net = f"127.{10 + os.getpid() % 240}.{os.getpid() // 240 % 250}"
     nodes = [Stock(folder, number, net) for number in range(1, asked_.stock + 1)]
     for number in range(asked_.stock + 1, asked_.stock + asked_.ours + 1):
-        nodes.append(Ours(folder, program, number, net, 1000 * asked_.seed + number))
+        nodes.append(Ours(folder, program, number, net))
     return nodes
 
 

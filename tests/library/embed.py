@@ -110,7 +110,13 @@ def bad_input(count, places):
         )[0]
         == 0
     )
-    hosts = (("bad_input", "bad input"), ("limits", "the limits of packets"), ("burst", "bursts"), ("keep", "events that are kept"))
+    hosts = (
+        ("bad_input", "bad input"),
+        ("limits", "the limits of packets"),
+        ("burst", "bursts"),
+        ("keep", "events that are kept"),
+        ("forget", "queries that are forgotten"),
+    )
     for name, what in hosts:
         source = os.path.join(SOURCES, f"{name}.c")
         plain = compile_c(count, places, name, source)
@@ -131,7 +137,7 @@ def memory(count, places):
     """Each call where memory is wanting, under valgrind too: its requests go through a count. And the library for hosts
     whose calls run out of memory."""
     wrapped = ["-g", "-Wl,--wrap=malloc,--wrap=realloc"]
-    path = compile_c(count, places, "memory", os.path.join(SOURCES, "memory.c"), wrapped)
+    path = compile_c(count, places, "memory", os.path.join(SOURCES, "memory.c"), [*wrapped, "-Wl,--wrap=free"])
     if path:
         counted(count, "want of memory", [path])
         if shutil.which("valgrind"):
@@ -196,7 +202,7 @@ def in_python(count, places):
     stores.try_store(count, "Python", places, [sys.executable, os.path.join(SOURCES, "store_driver.py")])
     more["env"]["PYTHONPATH"] = os.path.join(BINDINGS, "python")
     example(count, "Python", places, [sys.executable, "-m", "serf_agent"], **more)
-    for name in ("bad_input", "members", "misuse", "keep"):
+    for name in ("bad_input", "members", "misuse", "keep", "with_asyncio"):
         counted(
             count,
             f"{name} in Python",
@@ -312,7 +318,7 @@ def tests_in_go(count, places, more):
 
 
 def node_in_go(count, places, env):
-    """The package serf, whose sources beside ours are found as Debian has them: a node that runs out of memory, README's lines, and
+    """The package serf, whose sources beside ours are found as Debian has them: a node that runs out of memory, HOST's lines, and
     the programs beside Serf."""
     missing = [path for path in NEEDED if not os.path.isdir(path)]
     if missing:
@@ -325,28 +331,21 @@ def node_in_go(count, places, env):
     with open(os.path.join(lines, "main.go"), "w", encoding="utf-8") as file:
         file.write(host_lines.program("go"))
     beside = [f"kitchenrue.example/beside_serf/{name}" for name in ("node", "speed")]
-    for what, packages in (("README's lines", ["lines"]), ("the programs beside Serf", beside)):
-        status, said = c_library.ran(["go", "vet", *packages], env={**env, **env_of_path(path)})
+    for what, packages in (("HOST's lines", ["lines"]), ("the programs beside Serf", beside)):
+        status, said = c_library.ran(["go", "vet", *packages], env=c_library.go_env(path, GO_CODE, own=env))
         count.check(f"Go: vet of {what}", status == 0, said[-2000:])
 
 
 def go_path(places, bindings):
     """A folder in which Go finds our packages by their paths, which are in a folder of bindings."""
-    path = places.fresh("go_path")
-    os.mkdir(os.path.join(path, "src"))
-    os.symlink(bindings, os.path.join(path, "src", "kitchenrue.example"))
-    return path
-
-
-def env_of_path(path):
-    return {"GO111MODULE": "off", "GOFLAGS": "-trimpath", "GOPATH": f"{path}:{GO_CODE}", **c_library.LEAN_GO}
+    return c_library.linked_packages(places.fresh("go_path"), bindings=bindings)
 
 
 def starved_node(count, places, env):
     """A node whose first burst, and whose first merge, run out of memory one request later each time. Where it is wanting but to read
     what was taken, nobody is told: so some rounds more are made behind the first of which nothing is told."""
     path = places.of("serf.test")
-    env = {**env_of_starved(env), **env_of_path(go_path(places, places.of("go_starved")))}
+    env = c_library.go_env(go_path(places, places.of("go_starved")), GO_CODE, own=env_of_starved(env))
     status, said = c_library.ran(["go", "test", "-c", "-vet=off", "-o", path, "kitchenrue.example/serf"], env=env)
     count.check("Go: the starved node builds", status == 0, said[-2000:])
     granted, untold, is_well = 0, 0, status == 0

@@ -67,9 +67,9 @@ class Node(beside_serf.Ours):
     """A node of ours, and its file's texts as its kills left them."""
 
     def __init__(self, folder, program, number, net, asked):
-        super().__init__(folder, program, number, net, 1000 * asked.seed + number)
+        super().__init__(folder, program, number, net)
         self.words += ["-states", f"{STATES}s"] + ([] if asked.without else ["-keep"])
-        self.left, self.starting, self.beyond = [], None, []
+        self.left, self.starting = [], None
 
     def killed(self):
         self.end()
@@ -84,21 +84,18 @@ class Node(beside_serf.Ours):
 
         def begin():
             time.sleep(wait)
-            # (what it is cut off from it has to know before it joins)
-            words, self.words = self.words, [*self.words, "-cut", ",".join(self.beyond)]
             self.start()
-            self.words = words
 
         self.starting = threading.Thread(target=begin)
         self.starting.start()
 
     def cut(self, others):
         """Cuts it off from these others, and from no more; then it joins all others."""
-        self.beyond = [other.addr for other in others]
-        if self.is_up():
-            self.said("cut", *self.beyond)
-            if not self.beyond:
-                self.said("join", *self.others)
+        self.put_faults([other.addr for other in others])
+        if self.is_up() and not others:
+            # (what it is cut off from it reads each tenth of a second)
+            time.sleep(0.2)
+            self.said("join", *self.others)
 
     def is_up(self):
         return self.starting is None or not self.starting.is_alive()

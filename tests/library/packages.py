@@ -53,6 +53,15 @@ class NotRun(Exception):
     """A part can't be run here, for this reason."""
 
 
+class NoAgent:
+    """What stands for the agent's package where it can't be built."""
+
+    program = b"#!/bin/sh\nexit 3\n"
+
+    def __init__(self, library):
+        pass
+
+
 class Archive:
     """A release's archive, unpacked where users can't write, and the user's own folders."""
 
@@ -64,7 +73,11 @@ class Archive:
         release = importlib.util.module_from_spec(spec)
         spec.loader.exec_module(release)
         release.BUILT = {"bin/serf-replay": program, "lib/libserf_agent_c.a": library}
-        for path, text, is_run in release.contents():
+        lacks = [name for name in ("go", "dpkg-deb") if shutil.which(name) is None]
+        if lacks:
+            print(f"not run: the archive's kitchenrue-agent, since {lacks[0]} is not on PATH")
+            release.Package = NoAgent
+        for path, text, is_run in release.contents()[0]:
             whole = os.path.join(self.top, path)
             os.makedirs(os.path.dirname(whole), exist_ok=True)
             with open(whole, "wb") as file:
@@ -180,7 +193,7 @@ def in_c(count, archive):
     lines = archive.home_of(home, "lines")
     given(lines, "host.c", host_lines.program("c"))
     static[-3:] = ["-Wall", "-Wextra", "-Werror", "-o", "host", "host.c", static[-1]]
-    if well(count, "README's lines in C", by_user(lines, *static, home=home), ""):
+    if well(count, "HOST's lines in C", by_user(lines, *static, home=home), ""):
         well(count, "what they print", by_user(lines, "./host", home=home), host_lines.SAYS)
     by_tools(count, archive, home, prefix, source)
     clone = archive.copy(home, "bindings", "c")
@@ -225,7 +238,7 @@ def in_python(count, archive):
     well(count, "python -m serf_agent FOLDER", by_user(home, python, "-m", "serf_agent", archive.home_of(home, "kept")), archive.example)
     lines = archive.home_of(home, "lines")
     given(lines, "host.py", host_lines.program("python"))
-    well(count, "README's lines in Python", by_user(lines, python, "host.py", home=home), host_lines.SAYS)
+    well(count, "HOST's lines in Python", by_user(lines, python, "host.py", home=home), host_lines.SAYS)
     said = by_user(home, python, os.path.join(HERE, "typed.py"))
     well(count, "every method is typed, and the version is the package's", said, "")
     built = archive.home_of(home, "wheels")
@@ -261,7 +274,7 @@ def in_rust(count, archive):
         subprocess.run(["chown", "-R", "65534:65534", own], check=True)
     if well(count, "a crate that depends on the archive's builds", by_user(own, "cargo", "build", "-q", home=home, **target), ""):
         well(count, "the example in Rust", by_user(own, os.path.join(home, "target", "debug", "app"), archive.home_of(home, "kept")), archive.example)
-        well(count, "README's lines in Rust", by_user(own, os.path.join(home, "target", "debug", "lines")), host_lines.SAYS)
+        well(count, "HOST's lines in Rust", by_user(own, os.path.join(home, "target", "debug", "lines")), host_lines.SAYS)
     crate = archive.copy(home, "bindings", "rust")
     answer = by_user(crate, "cargo", "package", home=home, **target)
     well(count, "cargo package verifies", answer)
@@ -358,14 +371,13 @@ def installed(count, archive):
 
 
 def without_make(count, archive, home):
-    """Where there is no make the library for C is left out, and that is said."""
+    """What it calls is on every system: no make, no compiler."""
     few, prefix = archive.home_of(home, "few"), os.path.join(home, "without_make")
-    for name in ("sh", "dirname", "uname", "mkdir", "install"):
+    for name in ("sh", "dirname", "uname", "mkdir", "install", "sed", "ln"):
         by_user(home, "ln", "-s", shutil.which(name), few)
     answer = by_user(home, "env", f"PATH={few}", archive.path("install"), prefix)
     well(count, "an installation without make", answer)
-    says = "install: make isn't on PATH, so the library for C was left out\n" in answer[1]
-    count.check("it says what it left out", says and not os.path.exists(os.path.join(prefix, "lib")), answer[1])
+    count.check("it has the library", os.path.isfile(os.path.join(prefix, "lib", "libserf_agent.so")), answer[1])
 
 
 def page(count, archive):

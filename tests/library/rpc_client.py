@@ -4,8 +4,8 @@
 
 - A program on Serf's own client in Go (`rpc_client/driver`) calls each method of it, and prints what came, with the types. The
   two texts are compared line by line. What differs has a row in DIFFERENT, with the reason.
-- Serf's own tests of that client, as Debian's package has them, run over a process (`rpc_client/shim`, `rpc_client/testutil`).
-  What passes at a stock agent passes at ours.
+- Serf's own tests of that client and of its commands, as Debian's package has them, run over a process (`rpc_client/shim`). What
+  passes at a stock agent passes at ours.
 - A program in Python reads the protocol by the package msgpack, with its defaults (`rpc_client/reader.py`).
 
 Go, memberlist, Debian's package `serf`, the sources of Serf's client and the Python package have to be there, as
@@ -19,6 +19,7 @@ import glob
 import json
 import os
 import re
+import shutil
 import subprocess
 import sys
 import tempfile
@@ -32,6 +33,7 @@ from checks import TOP
 
 sys.path.insert(0, os.path.join(TOP, "tests", "by_hand"))
 import agent_cluster_kit as kit
+import serf_package
 
 OWN = os.path.join(TOP, "tests", "library", "rpc_client")
 SERF = os.path.join("src", "github.com", "hashicorp", "serf")
@@ -43,9 +45,9 @@ TESTS = ("rpc_client_test.go", "util_test.go")
 STOCK, OURS = "stock", "ours"
 FIRST = {STOCK: 0, OURS: 100}
 
-# The last numbers of the addresses of the tests, of which each takes two, and of the agent that Python reads. The driver has those
-# before.
-TESTED, READ = range(30, 90), 95
+# The number of the net of the commands' tests, which run one after another: each of the client's has one before. And the last number of
+# the address of the agent that Python reads, behind those of the driver.
+COMMANDED, READ = 100, 95
 
 # How long one program may run, in seconds.
 LIMIT = 900
@@ -66,8 +68,8 @@ PAUSES = (0.1, 0.4, 1.6, 0.1, 0.4, 5, 0.2, 0.4, 15, 0.3)
 # The pauses that are tried first, where a test looks for what takes its time: a failure is seen, or a coalesced event comes.
 FIRST_PAUSE = {"TestRPCClientForceLeave": 5, "TestRPCClientForceLeave_prune": 5, "TestRPCClientStream_Member": 1.6}
 
-# The tests that have to be there.
-LEAST_TESTS = 19
+# How many tests of the client and of the commands have to be there.
+LEAST_TESTS, LEAST_OF_COMMANDS = 19, 43
 
 # The token that an agent asks of its clients, where a test is about that.
 TOKENS = {"TestRPCClientAuth": "foobar"}
@@ -116,15 +118,23 @@ def built(folder):
     os.makedirs(os.path.join(package, "agent"))
     os.makedirs(serf)
     os.symlink(os.path.join(OWN, "driver"), os.path.join(package, "driver"))
-    os.symlink(os.path.join(OWN, "testutil"), os.path.join(serf, "testutil"))
+    shutil.copytree(os.path.join(kit.GOCODE, SERF, "testutil"), os.path.join(serf, "testutil"))
+    serf_package.with_own_addresses(os.path.join(serf, "testutil"))
     theirs = os.path.join(kit.GOCODE, SERF, "cmd", "serf", "command", "agent")
-    for path in [*glob.glob(os.path.join(OWN, "shim", "*.go")), *(os.path.join(theirs, name) for name in TESTS)]:
+    shim = glob.glob(os.path.join(OWN, "shim", "*.go"))
+    for path in [*shim, *(os.path.join(theirs, name) for name in TESTS)]:
         os.symlink(path, os.path.join(package, "agent", os.path.basename(path)))
-    path = os.pathsep.join([os.path.dirname(source), kit.GOCODE])
-    env = {**os.environ, "GO111MODULE": "off", "GOFLAGS": "-trimpath", "GOPATH": path, **c_library.LEAN_GO}
-    programs = [os.path.join(folder, name) for name in ("driver", "tests")]
-    for words, program, of in ((["build"], programs[0], "driver"), (["test", "-c", "-vet=off"], programs[1], "agent")):
-        status, said = c_library.ran(["go", *words, "-p", "1", "-o", program, f"kitchenrue.example/rpc_client/{of}"], env=env)
+    commands = os.path.join(serf, "cmd", "serf", "command")
+    os.makedirs(os.path.join(commands, "agent"))
+    for path in shim:
+        os.symlink(path, os.path.join(commands, "agent", os.path.basename(path)))
+    for path in glob.glob(os.path.join(os.path.dirname(theirs), "*.go")):
+        os.symlink(path, os.path.join(commands, os.path.basename(path)))
+    env = c_library.go_env(os.path.dirname(source), kit.GOCODE)
+    programs, tests = [os.path.join(folder, name) for name in ("driver", "tests", "commands")], ["test", "-c", "-vet=off"]
+    packages = ("kitchenrue.example/rpc_client/driver", "kitchenrue.example/rpc_client/agent", f"{SERF.removeprefix('src/')}/cmd/serf/command")
+    for words, program, of in zip((["build"], tests, tests), programs, packages):
+        status, said = c_library.ran(["go", *words, "-p", "1", "-o", program, of], env=env)
         if status:
             return programs, said[-2000:]
     return programs, None
@@ -153,8 +163,9 @@ class Side:
         self.folder = os.path.join(folder, kind)
         os.makedirs(self.folder)
 
-    def address(self, number):
-        return f"{self.net}.{self.first + number}"
+    def net_of(self, number):
+        """The addresses of a test."""
+        return f"127.{250 + (self.kind == OURS)}.{(os.getpid() + number) % 250}"
 
 
 def ended(words, **more):
@@ -204,9 +215,9 @@ def check_driven(count, said):
     compare(count, stock, facts(said[OURS][1]))
 
 
-def names_of(tests):
-    """The names of Serf's tests."""
-    return sorted(line for line in ended([tests, "-test.list", "^TestRPCClient"])[1].splitlines() if line.startswith("Test"))
+def names_of(tests, beginning):
+    """The names of Serf's tests that begin so."""
+    return sorted(line for line in ended([tests, "-test.list", f"^{beginning}"])[1].splitlines() if line.startswith("Test"))
 
 
 def tried(side, tests, name, number, pauses):
@@ -214,8 +225,8 @@ def tried(side, tests, name, number, pauses):
     said = ""
     for pause in pauses:
         env = {
-            **os.environ, "RPC_CLIENT_PROGRAM": "\n".join(side.words), "RPC_CLIENT_YIELD": f"{pause}s", "RPC_CLIENT_AUTH": TOKENS.get(name, ""),
-            "RPC_CLIENT_ADDRESSES": " ".join(side.address(TESTED[2 * number + more]) for more in (0, 1)),
+            **os.environ, "RPC_CLIENT_PROGRAM": "\n".join(side.words), "RPC_CLIENT_AUTH": TOKENS.get(name, ""),
+            "SERF_PACKAGE_PAUSE": f"{pause}s", "SERF_PACKAGE_NET": side.net_of(number),
         }
         status, text, fault = ended([tests, "-test.v", "-test.timeout", f"{LIMIT}s", "-test.run", f"^{name}$"], env=env, cwd=side.folder)
         said = text + fault
@@ -230,14 +241,20 @@ def tested(side, tests, names):
     for number, name in enumerate(names):
         fails = side.kind == OURS and name in FAILING
         if name not in NOT_TRIED:
-            found[name] = tried(side, tests, name, number, PAUSES[1:2] if fails else (FIRST_PAUSE.get(name, PAUSES[0]), *PAUSES))
+            pauses = PAUSES[1:2] if fails else (FIRST_PAUSE.get(name, PAUSES[0]), *PAUSES)
+            found[name] = tried(side, tests, name, number, pauses)
     return found
 
 
-def check_tested(count, names, ended_so):
+def commanded(side, tests, names):
+    """How each of Serf's tests of its commands ends at a side."""
+    return {name: tried(side, tests, name, COMMANDED, PAUSES) for name in names}
+
+
+def check_tested(count, names, least, ended_so):
     """Checks how Serf's tests ended."""
-    count.check("Serf's tests are there", len(names) >= LEAST_TESTS, names)
-    for name, why in {**NOT_TRIED, **FAILING}.items():
+    count.check(f"Serf's tests are there, such as {names[:1]}", len(names) >= least, names)
+    for name, why in {**NOT_TRIED, **FAILING}.items() if least == LEAST_TESTS else ():
         count.check(f"{name} is there ({why})", name in names, names)
     for kind, found in ended_so.items():
         for name, (passed, said) in found.items():
@@ -278,21 +295,23 @@ def check_read(count, sides, said):
 
 
 def run(count, asked, folder):
-    (driver, tests), fault = built(folder)
+    (driver, tests, commands), fault = built(folder)
     count.check("the driver and Serf's tests are compiled", fault is None, fault)
     program = agent_of(count, asked, folder)
     if fault or not os.path.isfile(program):
         return
     sides = [Side(STOCK, ["serf", "agent"], folder), Side(OURS, [program], folder)]
-    python, names = reader(), names_of(tests)
+    python, names, of_commands = reader(), names_of(tests, "TestRPCClient"), names_of(commands, "Test")
     if python is None:
         print("not run: a reader in Python, since no python3 here has msgpack")
-    with ThreadPoolExecutor(4) as pool:
+    with ThreadPoolExecutor(6) as pool:
         drives = {side.kind: pool.submit(driven, side, driver) for side in sides}
         runs = {side.kind: pool.submit(tested, side, tests, names) for side in sides}
+        calls = {side.kind: pool.submit(commanded, side, commands, of_commands) for side in sides}
         reads = {side.kind: pool.submit(read, side, python) for side in sides} if python else {}
     check_driven(count, {kind: one.result() for kind, one in drives.items()})
-    check_tested(count, names, {kind: one.result() for kind, one in runs.items()})
+    check_tested(count, names, LEAST_TESTS, {kind: one.result() for kind, one in runs.items()})
+    check_tested(count, of_commands, LEAST_OF_COMMANDS, {kind: one.result() for kind, one in calls.items()})
     if python:
         check_read(count, sides, {kind: one.result() for kind, one in reads.items()})
 

@@ -137,12 +137,11 @@ def laid(folder, library):
     for path in glob.glob(os.path.join(OWN, "*.go")):
         if not path.endswith("_test.go"):
             os.symlink(path, os.path.join(serf, "serf", os.path.basename(path)))
-    os.symlink(os.path.join(TOP, "bindings", "go", "guard"), os.path.join(source, "kitchenrue.example", "guard"))
+    c_library.linked_packages(os.path.join(folder, "go"), "guard")
     bindings = os.path.join(TOP, "bindings", "go", "serfagent")
     for path in [*glob.glob(os.path.join(bindings, "*.[ch]")), *glob.glob(os.path.join(bindings, "*.go")), library]:
         os.symlink(path, os.path.join(agent, os.path.basename(path)))
-    path = os.pathsep.join([os.path.dirname(source), GOCODE])
-    return {**os.environ, "GO111MODULE": "off", "GOFLAGS": "-trimpath", "GOPATH": path, **c_library.LEAN_GO}
+    return c_library.go_env(os.path.dirname(source), GOCODE)
 
 
 def check_names(count, env):

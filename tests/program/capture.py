@@ -193,6 +193,62 @@ def keys(count):
     count.check("an encrypted packet", got[:2] == (0, BOTH), got)
 
 
+def restarted(count):
+    """When a node was down by its log's times of day, and on which file it was started again."""
+    zone = {**os.environ, "TZ": "UTC"}
+    packets = [(1_000_000 * at, udp(USER, receiver=BETA)) for at in (0, 3, 5, 9)]
+    with tempfile.TemporaryDirectory() as folder:
+        path, file = os.path.join(folder, "it.pcap"), os.path.join(folder, "snapshot")
+        with open(path, "wb") as to:
+            to.write(capture([(at + 20 * 3600_000_000, packet) for at, packet in packets]))
+
+        def run(*words):
+            done = subprocess.run([sys.executable, SCRIPT, path, "--node", f"beta={BETA}", *words], capture_output=True, text=True, timeout=checks.LIMIT, env=zone)
+            return done.returncode, done.stdout, done.stderr
+
+        by_seconds, by_day = run("--down", "beta=2.5-6"), run("--down", "beta=20:00:02.5-20:00:06")
+        count.check("a time of day", by_day == by_seconds and by_day[1].count("give") == 2 and 'restart "beta" # at 6000000us' in by_day[1], by_day)
+        with open(path, "wb") as to:
+            to.write(capture([(at + 86_398_000_000, packet) for at, packet in packets]))
+        over = run("--down", "beta=23:59:59.5-00:00:04")
+        count.check("times of day over midnight", 'restart "beta" # at 6000000us' in over[1] and over[1].count("give") == 2, over)
+        with open(path, "wb") as to:
+            to.write(capture([(at + 20 * 3600_000_000, packet) for at, packet in packets]))
+        for name, text, words, tail in (
+            ("a file", b"event-clock: 1\n", (), b"event-clock: 1\n"),
+            ("an empty file", b"", (), b""),
+            ("a file with a leave", b"event-clock: 1\nleave\nevent-clock: 0\n", (), b"event-clock: 0\n"),
+            ("the same with -rejoin", b"event-clock: 1\nleave\n", ("--rejoin", "beta"), b"event-clock: 1\nleave\n"),
+        ):
+            with open(file, "wb") as to:
+                to.write(text)
+            got = run("--down", "beta=2.5-6", "--kept", f"beta={file}", *words)
+            wanted = f'agent "beta"\nrestart "beta" tail {tail.hex() or "-"} # at 6000000us\ngive "beta" {EVENT.hex()} at 9000000us\n'
+            count.check(f"started on {name}", got[:2] == (0, wanted), got)
+        got = run("--kept", f"beta={file}")
+        count.check("a file of a node that was never down", got[0] == 1 and "--kept wants" in got[2], got)
+        got = run("--down", "beta=2.5-6", "--kept", "beta=/nowhere")
+        count.check("no such file", got[0] == 2 and "No such file" in got[2], got)
+
+
+def node(name, host, port):
+    """A node of a whole state, as memberlist writes one."""
+    return b"\x83\xa4Name" + bytes([0xA0 | len(name)]) + name + b"\xa4Addr" + raw(bytes(map(int, host.split(".")))) + b"\xa4Port\xcd" + struct.pack(">H", port)
+
+
+def one_address(count):
+    """Several nodes on one machine, whose connections all come from one address: who joins says who it is."""
+    content, host = b"\x02\x81\xaaEventLTime\x09", "127.0.0.1"
+    alone = b"\x06\x83\xa5Nodes\x01\xa4Join\xc3\xacUserStateLen" + bytes([len(content)]) + node(b"beta", "127.0.0.52", 7946) + content
+    ends = {"sender": host, "receiver": "127.0.0.51"}
+    back = {"sender": "127.0.0.51", "receiver": host}
+    packets = [(0, tcp(b"", 99, flags=2, **ends)), (1, tcp(alone, 100, **ends))]
+    answer = [(2, ip(back["sender"], back["receiver"], 6, struct.pack(">2H2IBBHHH", 7946, 40000, seq, 0, 0x50, flags, 0, 0, 0) + part)) for seq, flags, part in ((49, 18, b""), (50, 16, state(content)))]
+    got = read(capture(packets + answer), "--node", "alpha=127.0.0.51")
+    wanted = f'agent "alpha"\nagent "beta"\ntake "alpha" {content.hex()} join # at 1us\ntake "beta" {content.hex()} join # at 2us\n'
+    count.check("several nodes on one address", got[:2] == (0, wanted), got)
+
+
 def handed(trace, names):
     """The events that a trace hands out, as lines of a handlers' log."""
     for line in trace.splitlines():
@@ -244,4 +300,4 @@ def changed(count):
 
 
 if __name__ == "__main__":
-    sys.exit(checks.over_program(frames, files, connections, keys, story, shown, changed))
+    sys.exit(checks.over_program(frames, files, connections, restarted, one_address, keys, story, shown, changed))

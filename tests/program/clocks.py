@@ -19,6 +19,13 @@ SNAPSHOTS = (
         b"clock: 3\nquery-clock: 18446744073709551614\nclock: 2\nevent-clock: 10\nevent-clock: 9",
         (3, 10, 18446744073709551614),
     ),
+    # what an agent of this project alone writes, and what an opening makes of a torn line
+    (b"#least event-clock: 8\n", (0, 0, 0)),
+    (b"#least event-clock: 1\n#least query-clock: 1\n", (0, 0, 0)),
+    (b"#event 7 61 62\n", (0, 0, 0)),
+    (b"#query 7 9\n", (0, 0, 0)),
+    (b"event-cl#\n", (0, 0, 0)),
+    (b"lea#\n", (0, 0, 0)),
     # the longest text that is read
     (b"alive: ".ljust(checks.LONGEST, b"x"), (0, 0, 0)),
 )
@@ -31,7 +38,7 @@ LEFT = (
 )
 
 # Texts that are no snapshots.
-OTHERS = (b"\n", b"event b 5 d v\n", b"event-clock:7\n", b"\x7fELF\x00\xff\n" * 9, b"1 fired 1\n", b"# a log\n")
+OTHERS = (b"\n", b"event b 5 d v\n", b"event-clock:7\n", b"\x7fELF\x00\xff\n" * 9, b"1 fired 1\n", b"# a log\n", b"#events\n", b"#\n", b"event cl#\n")
 
 
 def said(clocks, words=b""):

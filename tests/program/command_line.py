@@ -42,7 +42,7 @@ def run(command, folder):
     # (a script of examples/ calls the program by its name)
     env = {**os.environ, "PATH": TOP + os.pathsep + os.environ["PATH"]}
     return subprocess.run(
-        ["bash", "-o", "pipefail", "-c", line], cwd=folder, env=env, stdin=subprocess.DEVNULL, capture_output=True, timeout=300
+        ["bash", "-o", "pipefail", "-c", line], cwd=folder, env=env, stdin=subprocess.DEVNULL, capture_output=True, timeout=checks.LIMIT
     )
 
 
@@ -114,7 +114,7 @@ def manual_and_page(count):
             cwd=TOP,
             stdin=subprocess.DEVNULL,
             capture_output=True,
-            timeout=60,
+            timeout=checks.LIMIT,
         )
         count.check("groff reads the manual", ran.returncode == 0 and not ran.stderr, ran.stderr)
 
@@ -173,7 +173,7 @@ def full_device(count):
         command = [checks.PROGRAM, *words]
         with open("/dev/full", "wb") as full:
             ran = subprocess.run(command, input=given.get(words[0], b""), stdout=full, stderr=subprocess.PIPE, timeout=checks.LIMIT)
-        count.check("a full device: " + " ".join(words), (ran.returncode, ran.stderr) == (3, b"write fault\n"), ran)
+        count.check("a full device: " + " ".join(words), (ran.returncode, ran.stderr) == (3, b"write fault: No space left on device (os error 28)\n"), ran)
 
 
 def reader_that_went(count):

@@ -37,7 +37,7 @@ source "$1"
 
 def said_by(words, folder):
     """The lines that a shell says; one that fails says why."""
-    ran = subprocess.run(words, cwd=folder, stdin=subprocess.DEVNULL, capture_output=True, text=True, timeout=60)
+    ran = subprocess.run(words, cwd=folder, stdin=subprocess.DEVNULL, capture_output=True, text=True, timeout=checks.LIMIT)
     return [line for line in (ran.stdout + ran.stderr).split("\n") if line]
 
 

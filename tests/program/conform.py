@@ -2,9 +2,9 @@
 
     tests/program/conform.py [PROGRAM]
 
-The subject is made from a trace: it gives, call after call, what the trace shows, in the words of docs/PIPE.md. Each
+The subject is made from a trace: it gives, call after call, what the trace shows, in the words of docs/SPEC.md, "The pipe". Each
 case turns one thing of that. Where conformance/python/agent.py is there, it is held against all examples too. What
-docs/CONFORMANCE.md and docs/PIPE.md show of agents is compared with what comes.
+docs/CONFORMANCE.md and docs/SPEC.md show of agents is compared with what comes.
 """
 
 import os
@@ -42,7 +42,8 @@ def by_meaning(cases):
     turns = turns_of(path)[1]
     words, schedule = ["--agent", "1"], path + ".schedule"
     good = text_of(turns)
-    cases.replies("one agent", good, schedule, 0, ["agent 1: 3 calls agree"], words)
+    for word in ("1", "b", "62"):
+        cases.replies(f"one agent, {word}", good, schedule, 0, ["agent 1: 3 calls agree"], ["--agent", word])
     cases.replies(
         "a respelled rebroadcast", text_of(turns, lambda p, g: respelled(p)), schedule, 1, ["action 2, line 9"], words
     )
@@ -109,6 +110,19 @@ def by_meaning(cases):
         )
 
 
+def ends_between_calls(cases):
+    """An agent that takes no more calls has ended, at the next one, which the reports have."""
+    schedule = os.path.join(checks.EXAMPLES, "deploy_gossiped_twice.schedule")
+    agent = ["sh", "-c", r"read call; exec 0<&-; printf 'opened 1 1 1\n\n'; sleep 0.5"]
+    said = [": look\n", "  wanted: looked 1 1 1 1 1\n", "the agent ended\n"]
+    cases.run("it ends between two calls", agent, schedule, 3, ["agent 1", *said], ["--agent", "1"])
+    cases.run("on a seed", agent, "--random", 3, ["seed 1: 0 seeds and 1 calls agree before\n", "agent 0", *said], ["1-3"])
+    found = {"report": "ended", "seed": None, "agent": 1, "agreed": 1, "action": 0, "line": 0, "call": "look"}
+    found |= {"wanted": "looked 1 1 1 1 1\nkept -", "got": ""}
+    sums = {"report": "end", "schedules": 1, "calls": 1, "disagreements": 1, "status": 3}
+    cases.machine_told("a report of that", agent, [schedule, "--agent", "1"], 3, [found, sums])
+
+
 def states(cases):
     path = os.path.join(checks.EXAMPLES, "a_partition_healed_by_push_pull")
     turns = turns_of(path)
@@ -153,9 +167,12 @@ def refused(cases):
         file.write("# no agents\n")
     cases.run("no agents", ["cat"], path, 0, ["the schedule has no agents: nothing was compared\n"])
     good = os.path.join(checks.EXAMPLES, "deploy_gossiped_twice.schedule")
-    cases.run("a bad agent", ["cat"], good, 2, ["--agent"], ["--agent", "x"])
+    named = "error: --agent x: no agent of the schedule has this name, as it is or in hex\n"
+    cases.run("a bad agent", ["cat"], good, 2, [named], ["--agent", "x"])
+    cases.run("an agent of seeds", ["cat"], "--random", 2, ["--agent"], ["1-2", "--agent", "0"])
     cases.run("bad rules", ["cat"], good, 2, ["--rules"], ["--rules", "mine"])
-    cases.run("no such agent", ["cat"], good, 1, ["no agent 7"], ["--agent", "7"])
+    counted = "error: --agent 7: the schedule has 2 agents, counted from 0\n"
+    cases.run("no such agent", ["cat"], good, 2, [counted], ["--agent", "7"])
 
 
 # What `look` is answered behind the opening.
@@ -216,6 +233,22 @@ def rules(cases):
     cases.replies("all rules", replies, path + ".schedule", 0, said, ["--agent", "1", "--rules", "own"])
 
 
+# Two agents, the second of which is restarted, and handed an event again whose time its file is past.
+RESTARTED = "agent 61 4 4 512 8 keep\nagent 62 8 4 512 8 keep%s\nfire 0 78 - 0\nfire 0 79 - 0\ndeliver 1 1 0\nrestart 1 -\ndeliver 1 0 0\n"
+
+
+def rules_of_keeping(cases):
+    """By Serf's rules an agent that keeps no events is blamed for no turn of one that does, and is held up to its restart."""
+    plain = ["sh", "-c", f"sed -u s/+events// | {sys.executable} {PYTHON_AGENT}"]
+    path = os.path.join(cases.folder, "restarted.schedule")
+    own = "agent 1: 2 calls agree; action 4 rests on an own rule\n"
+    for setting, said, differs in (("", "agent 1: 4 calls agree\n", None), ("+events", own, "agent 1: behind action 4, line 6: look\n")):
+        with open(path, "w") as file:
+            file.write(RESTARTED % setting)
+        cases.run(f"Serf's rules and keep{setting}", plain, path, 0, ["agent 0: 3 calls agree\n", said], ["--rules", "serf"])
+        cases.run(f"all rules and keep{setting}", plain, path, 1 if differs else 0, [differs or said])
+
+
 # The words of an agent's line behind its name, and those of `open`: the limits of packets stand there where one isn't 1,024.
 OPENED = {
     "4 4 512 8 keep": "4 4 512 8 keep 1024",
@@ -272,7 +305,7 @@ def machine_reports(cases):
         0,
         [sums | {"calls": int(agreed[3])}],
     )
-    cases.run("a report to a folder", good, schedule, 3, ["write fault"], ["--report", cases.folder])
+    cases.run("a report to a folder", good, schedule, 3, ["write fault: Is a directory (os error 21)"], ["--report", cases.folder])
 
 
 def listings(page):
@@ -316,7 +349,7 @@ def shares(cases):
 
 
 def calls_of(text):
-    """The calls of docs/PIPE.md's examples, and the reply of each."""
+    """The calls of docs/SPEC.md's examples, and the reply of each."""
     found, is_call = [], True
     for line in text.split("\n")[:-1]:
         if is_call:
@@ -328,18 +361,17 @@ def calls_of(text):
 
 
 def pipe(cases):
-    """The calls of docs/PIPE.md, and the replies that it shows, by the agent in Python."""
-    page = os.path.join("docs", "PIPE.md")
-    first, replies, last = listings(page)
-    calls, wanted = calls_of(last)
+    """The calls of docs/SPEC.md, and the replies that it shows, by the agent in Python."""
+    page = os.path.join("docs", "SPEC.md")
+    (shown,) = listings(page)
+    calls, wanted = calls_of(shown)
     cases.count.check(f"{page}: calls", len(calls) == 20 and all(wanted), (calls, wanted))
     said = "".join("".join(line + "\n" for line in reply) + "\n" for reply in wanted)
-    for name, given, shown in (("the first two calls", first, replies + "\n"), ("its examples", "\n".join(calls) + "\n", said)):
-        ran = subprocess.run([sys.executable, PYTHON_AGENT], input=given, capture_output=True, text=True, timeout=LIMIT)
-        cases.count.check(f"{page}: {name}", ran.stdout == shown, ran)
+    ran = subprocess.run([sys.executable, PYTHON_AGENT], input="\n".join(calls) + "\n", capture_output=True, text=True, timeout=LIMIT)
+    cases.count.check(f"{page}: its examples", ran.stdout == said, ran)
 
 
-PARTS = (examples, by_meaning, states, whole_reports, refused, looks, rules, limits, machine_reports, reports, shares, pipe)
+PARTS = (examples, by_meaning, ends_between_calls, states, whole_reports, refused, looks, rules, rules_of_keeping, limits, machine_reports, reports, shares, pipe)
 
 
 if __name__ == "__main__":

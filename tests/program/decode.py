@@ -1,6 +1,6 @@
 """`decode`: one packet as an argument, and packets line by line on standard input.
 
-Every value was worked out by hand from the formats (docs/FORMATS.md), or belongs to an agent of Serf 0.9.4.
+Every value was worked out by hand from the formats (docs/SPEC.md), or belongs to an agent of Serf 0.9.4.
 """
 
 import os
@@ -11,7 +11,9 @@ sys.dont_write_bytecode = True
 sys.path.insert(0, os.path.dirname(os.path.dirname(os.path.abspath(__file__))))
 import checks
 
-FOLDER = os.path.join(checks.EXAMPLES, "packets")
+# Packets as Serf sends them, one a line, and what they say, with an empty line behind each.
+SENT = os.path.join(checks.EXAMPLES, "packets.hex")
+MEANT = os.path.join(checks.EXAMPLES, "packets.text")
 
 
 def text(of):
@@ -262,26 +264,21 @@ def refused(count):
     ):
         words = ["decode", *(["--"] if digits == "--" else []), digits]
         count.exactly(f"decode {digits}", words, 1, b"", f"bad hex: {why}\n".encode())
-    path = os.path.join(FOLDER, "user_event.hex")
-    said = f"bad hex: character 1 is no hex digit\na file? serf-replay decode < {path}\n".encode()
-    count.exactly("a file in place of a packet", ["decode", path], 1, b"", said)
-    lines = checks.read(path)
+    said = f"bad hex: character 1 is no hex digit\na file? serf-replay decode < {SENT}\n".encode()
+    count.exactly("a file in place of a packet", ["decode", SENT], 1, b"", said)
+    lines = checks.read(SENT)
     count.check("`-` is standard input", checks.ran(["decode", "-"], lines) == checks.ran(["decode"], lines) and lines)
 
 
 def examples(count):
     """Packets as Serf sends them, alone and on lines."""
-    names = checks.names_in(FOLDER, ".hex")
-    count.check("packets as Serf sends them", len(names) >= 7)
-    lines, texts = [], []
-    for name in names:
-        digits = checks.read(FOLDER, name + ".hex").strip()
-        text = checks.read(FOLDER, name + ".text")
-        count.exactly(name, ["decode", digits.decode()], 0, text, b"")
-        count.exactly(name + " in capitals", ["decode", digits.decode().upper()], 0, text, b"")
-        lines.append(digits)
-        texts.append(text + b"\n")
-        count.exactly(f"{name} on a line", ["decode"], 0, texts[-1], b"", lines[-1] + b"\n")
+    lines = checks.read(SENT).splitlines()
+    texts = [text + b"\n\n" for text in checks.read(MEANT).split(b"\n\n") if text]
+    count.check("packets as Serf sends them", len(lines) == len(texts) >= 7)
+    for number, (digits, text) in enumerate(zip(lines, texts), 1):
+        count.exactly(f"packet {number}", ["decode", digits.decode()], 0, text[:-1], b"")
+        count.exactly(f"packet {number} in capitals", ["decode", digits.decode().upper()], 0, text[:-1], b"")
+        count.exactly(f"packet {number} on a line", ["decode"], 0, text, b"", digits + b"\n")
     count.exactly("decode 06FF", ["decode", "06FF"], 0, b"foreign 6\n", b"")
     out, given = b"".join(texts), b"\n".join(lines)
     count.exactly("all of them", ["decode"], 0, out, b"", given)
@@ -319,8 +316,8 @@ def framing(count):
         (b"0182a55365714e6f01", 0, b"foreign 1", b"looks like memberlist's own: a ping or an ack"),
         (b"0381ab496e6361726e6174696f6e", 1, b"refused Truncated 14", b"looks like memberlist's own: that a node is suspect, alive or dead"),
     ):
-        out, err = b"foreign 6\n\n" + said + b"\n\n", b"line 2 " + kind + b"\n"
-        count.exactly(f"framing {digits.decode()}", ["decode"], status, out, err, b"06\n" + digits + b"\n")
+        out, err = b"foreign 6\n\n" + said + b"\n\n", b"line 3 " + kind + b"\n"
+        count.exactly(f"framing {digits.decode()}", ["decode"], status, out, err, b"06\n\n" + digits + b"\n")
     for digits, kind in (
         (ack, b"looks like memberlist's own: a ping or an ack"),
         (alive, b"looks like memberlist's own: that a node is suspect, alive or dead"),

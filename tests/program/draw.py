@@ -134,7 +134,7 @@ def lines_are_sound(count, name, root):
     count.check(f"{name}: the names above each 40 rows", list(found) == (above if lanes_of(root) else []), list(found))
     count.check(f"{name}: all names each time", all(names == found[65] for names in found.values()), found)
     legend = [group for group in root.findall(f"{SVG}g") if not group.get("class")]
-    wanted = f"translate(-980 {line_of(len(numbers))}50)"
+    wanted = f"translate(-680 {line_of(len(numbers))}50)"
     count.check(f"{name}: the legend below", [group.get("transform") for group in legend] == [wanted], wanted)
 
 
@@ -289,7 +289,7 @@ STORY = (
 def merges(count):
     """A merge names what it handed out."""
     told = [label for label in labels(root_of([], STORY)) if "merged" in label]
-    count.check("two, and how many more", told == ["state @4 merged: a 1 @1, b 2 @2, +1, clock 4", "state @4 merged"], told)
+    count.check("two, and how many more", told == ["state @4 merged: a 1 @1, b 2 @2, +1, clock 4", "state @4 merged: nothing of 3"], told)
     for number, wanted in ((1, ": e1  @1"), (2, ": e1  @1, e2  @2"), (3, ": e1  @1, e2  @2, +1"), (12, ": e1  @1, e2  @2, +10")):
         text = b"agent 61 64 4 512 8 keep\nagent 62 64 4 512 8 keep\n"
         text += b"".join(b"fire 0 %s - 0\n" % (b"e%d" % (i + 1)).hex().encode() for i in range(number))
@@ -303,12 +303,35 @@ def merges(count):
     count.check("a long label keeps its end", said == wanted and len(said) == 72, said)
 
 
+def passed_over(count):
+    """A merge that handed nothing out is grey and says how much it brought, and why where that is one reason for all; one
+    that brought nothing is as it was. A restart says from which time on events are taken."""
+    text = b"agent 61 4 4 512 8 keep\nagent 62 4 4 512 8 ignore\nagent 63 8 4 512 8 keep+events\nstate 0\nmerge 1 0 join\n"
+    text += b"fire 0 61 31 0\nfire 0 62 32 0\nstate 0\nmerge 1 3 join\nmerge 2 3 sync\nrestart 2 -\nmerge 2 3 sync\nfire 0 63 - 0\nstate 0\nmerge 1 5 sync\nrestart 1 -\n"
+    root = root_of([], text)
+    wanted = [
+        ("t", "state @1 merged"),
+        ("i", "state @3 merged: nothing of 2, below 3, clock 3"),
+        ("t", "state @3 merged: a 1 @1, b 2 @2, clock 3"),
+        ("i", "state @3 merged: nothing of 2"),
+        ("t", "state @4 merged: c  @3, clock 4"),
+    ]
+    told = [(text.get("class"), text.text) for text in root.findall(f"{SVG}text") if "merged" in (text.text or "")]
+    count.check("what merges passed over", told == wanted, told)
+    count.check("their arrows", [kind for kind, _ in paths(root)] == [kind for kind, _ in wanted], paths(root))
+    restarts = [label for label in labels(root) if "started again" in label]
+    count.check("restarts", restarts == ["started again: events from 1", "started again: events from 4"], restarts)
+    left = [label for label in labels(root_of(["--taken"], text)) if "merged" in label]
+    count.check("--taken leaves them out", left == [label for kind, label in wanted if kind == "t"], left)
+    mermaid_is_sound(count, "what merges passed over", [], text, root)
+
+
 def choices(count):
     """What --taken and --event leave out; the numbers of what is left stay."""
     whole = root_of([], STORY)
     every = list(zip([text.text for text in whole.findall(f"{SVG}text[@class='n']")], labels(whole)))
     for words, numbers in (
-        (["--taken"], [1, 2, 3, 4, 5, 6, 7, 9, 10, 11]),
+        (["--taken"], [1, 2, 3, 4, 5, 7, 9, 10]),
         (["--event", "b"], [2, 5, 7, 8]),
         (["--event", "b", "--taken"], [2, 5, 7]),
         (["--event", "c"], [3, 5, 10]),
@@ -350,4 +373,4 @@ def many(count):
 
 
 if __name__ == "__main__":
-    sys.exit(checks.over_program(examples, colours, bad_bytes, arrows, merges, choices, many))
+    sys.exit(checks.over_program(examples, colours, bad_bytes, arrows, merges, passed_over, choices, many))

@@ -56,10 +56,11 @@ REFUSED = (
 
 def examples(count):
     """The texts of packets as Serf sends them."""
-    for name in checks.names_in(os.path.join(checks.EXAMPLES, "packets"), ".text"):
-        text = checks.read("examples", "packets", name + ".text") + b"\n"
+    texts = [text + b"\n\n" for text in checks.read("examples", "packets.text").split(b"\n\n") if text]
+    count.check("texts of packets", len(texts) >= 7, len(texts))
+    for number, text in enumerate(texts, 1):
         _, packets, said = checks.ran(["encode"], text)
-        count.exactly(f"{name} there and back", ["decode"], 0, text, said, packets)
+        count.exactly(f"text {number} there and back", ["decode"], 0, text, said, packets)
 
 
 def each_kind(count):

@@ -272,7 +272,6 @@ def ranges(count):
     said = b"nothing to show: the schedule has %d actions\n" % len(actions)
     count.check("a range behind the end", ran(["explain", "--from", "100"], schedule) == (0, b"", said))
     for words, said in (
-        (["--to", "0"], b"nothing to show: actions count from 1\n"),
         (["--from", "3", "--to", "2"], b"nothing to show: action 2 comes before action 3\n"),
     ):
         count.exactly(f"a range of nothing: {words}", ["explain", *words], 0, b"", said, schedule)
@@ -290,7 +289,7 @@ def ranges(count):
     ):
         told = b"error: --agent %s: %s\n" % (word.encode(), said)
         count.exactly(f"no agent {word!r}", ["explain", "--agent", word], 2, b"", told, schedule)
-    for words in (["--agent", "x"], ["--from", "-1"], ["--to", "18446744073709551616"]):
+    for words in (["--agent", "x"], ["--from", "-1"], ["--from", "0"], ["--to", "0"], ["--to", "18446744073709551616"]):
         status, text, _ = ran(["explain", *words], schedule)
         count.check(f"bad words {words}", (status, text) == (2, b""))
 
@@ -387,6 +386,34 @@ def kept(count):
     count.check("kept events: a line behind the join's", got == [wanted], got)
 
 
+def of_earlier_actions(count):
+    """What is said of earlier actions: since which one a least time stands, which one asked a query and which ended it, and
+    what entered in the merge itself."""
+    schedule = b"agent 61 4 4 512 2 keep 2\nagent 62 2 4 512 2 ignore 2\nquery 0 0 7 61 - 1000 1\ndeliver 1 0 0\n"
+    schedule += b"deliver 0 1 0\ndeliver 0 1 0\nfire 0 61 - 0\nfire 0 62 - 0\nstate 0\nmerge 1 6 join\ndeliver 1 4 0\nrestart 1 -\n"
+    schedule += b"query 0 0 8 61 - 1000 0\nquery 0 0 9 61 - 1000 0\ndeliver 1 8 0\ndeliver 1 0 0\nclose 0 2000\ndeliver 0 1 0\n"
+    schedule += b"query 0 0 9 63 - 1000 1\nrestart 0 -\ndeliver 0 11 0\n" + b"fire 0 61 - 0\n" * 6 + b"deliver 1 17 0\ndeliver 1 12 0\n"
+    turns = turns_of(ran(["explain"], schedule)[1])
+    for number, *wanted in (
+        (4, b'query 1 has an ack of "a"'),
+        (8, *(b'slot %d brings event %d "%s" "": below the least time 3, which stands since action 8' % row for row in ((1, 1, b"a"), (2, 2, b"b")))),
+        (9, b'event 1 "a" "": below the least time 3, which stands since action 8'),
+        (14, b"query 1 with ID 7: below the least time 2, which stands since action 10"),
+        (16, b'"a" asked query 1 at action 1 and closed it at action 15'),
+        (19, b'"a" asked query 4 at action 17 and lost it by the restart at action 18'),
+        (27, b'event 3 "a" "": time 3 is more than 2 times below the event clock 9'),
+    ):
+        got = turns[number][1] if turns else None
+        count.check(f"earlier actions: action {number}", got == wanted, got)
+    # a state that has an event twice, at an agent that keeps its events: this merge handed it out
+    front, event = b"0286a54c54696d6501ac5374617475734c54696d657380ab4c6566744d656d6265727390aa4576656e744c54696d6502a64576656e747394c0", b"82a44e616d65a161a75061796c6f6164a0"
+    twice = front + b"82a54c54696d6501a64576656e747392" + event * 2 + b"c0c0aa51756572794c54696d6501"
+    got = reasons_of(KEEPING + b"inject %s\nmerge 0 0 sync\n" % twice, 2)
+    brings = b'slot 1 brings event 1 "a" "": '
+    wanted = [brings + b"new, and handed out", brings + b'seen: "a" was handed event 1 "a" "" at action 2']
+    count.check("an event twice in a merge", got == wanted, got)
+
+
 def refusals(count):
     for schedule in (AGENTS + b"deliver 0\n", b"fire\n", AGENTS + b"agent 61 4 4 512 2 keep\n"):
         wanted = ran(["replay"], schedule)
@@ -454,8 +481,8 @@ def while_it_runs(count):
 def to_full_device(count):
     """A write that fails ends the run."""
     with open("/dev/full", "wb") as full:
-        run = subprocess.run([checks.PROGRAM, *STREAM], input=AGENTS + b"state 0\n", stdout=full, stderr=subprocess.PIPE, timeout=60)
-        count.check("a full device", (run.returncode, run.stderr) == (3, b"write fault\n"), run)
+        run = subprocess.run([checks.PROGRAM, *STREAM], input=AGENTS + b"state 0\n", stdout=full, stderr=subprocess.PIPE, timeout=checks.LIMIT)
+        count.check("a full device", (run.returncode, run.stderr) == (3, b"write fault: No space left on device (os error 28)\n"), run)
 
 
 def memory_of(lines):
@@ -485,4 +512,4 @@ def long_runs(count):
 
 
 if __name__ == "__main__":
-    sys.exit(checks.over_program(examples, random_schedules, incident, partition, ranges, any_bytes, said_rows, kept, refusals, streams, while_it_runs, to_full_device, long_runs))
+    sys.exit(checks.over_program(examples, random_schedules, incident, partition, ranges, any_bytes, said_rows, kept, of_earlier_actions, refusals, streams, while_it_runs, to_full_device, long_runs))

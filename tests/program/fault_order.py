@@ -1,4 +1,4 @@
-"""The order of faults that docs/FORMATS.md has, asked of the program: for each pair of faults that one action can have at
+"""The order of faults that docs/SPEC.md has, asked of the program: for each pair of faults that one action can have at
 once, a schedule whose last action has both.
 """
 
@@ -55,8 +55,8 @@ NOBODY = {
 
 
 def orders():
-    """The faults of each action, in the order that FORMATS has."""
-    page = checks.text_of("docs", "FORMATS.md").partition("| Action | Its faults")[2].partition("\n\n")[0]
+    """The faults of each action, in the order that SPEC has."""
+    page = checks.text_of("docs", "SPEC.md").partition("| Action | Its faults")[2].partition("\n\n")[0]
     for cells in rows_of(page):
         if cells[0].startswith("`"):
             for action in re.findall(r"`(\w+)`", cells[0]):

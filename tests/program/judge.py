@@ -5,6 +5,7 @@ That no worked row and no example repeats anything is in rows.py.
 """
 
 import os
+import re
 import sys
 import tempfile
 
@@ -193,6 +194,10 @@ KEPT_TEXTS = (
         b"b with -rejoin keeps event-clock 7: nothing was handed out above it\nb without -rejoin keeps event-clock 6: nothing was handed out above it\n",
         0,
     ),
+    ("what our agent alone keeps", EVENTS, "b", b"#least event-clock: 8\n", b"b keeps event-clock 0, and line 1 was handed out at 5: it can be handed out again\n", 1),
+    # An agent of this project goes on from all lines.
+    ("a leave of our agent", EVENTS, "b", b"event-clock: 07\n#event 7 61 62\nleave\n", b"b keeps event-clock 7: nothing was handed out above it\n", 0),
+    ("a leave above our agent's lines", EVENTS, "b", b"event-clock: 7\nleave\n#least event-clock: 8\n", b"b keeps event-clock 7: nothing was handed out above it\n", 0),
     ("no line of its own", EVENTS, "b", b"event-clock: 7\nleaves\n leave\nleave \n", b"b keeps event-clock 7: nothing was handed out above it\n", 0),
 )
 
@@ -205,6 +210,10 @@ def kept(count):
                 file.write(text)
             got = checks.ran(["judge", "--kept", f"{node}={path}"], log)
             count.check(f"kept: {name}", (got[0], got[2]) == (status, b"") and got[1].endswith(b"no fired lines\n" + said), got)
+        with open(path, "wb") as file:
+            file.write(b"event-clock: 7\nleave\n")
+        got = checks.ran(["judge", "--own", "--kept", f"b={path}"], EVENTS)
+        count.check("kept: a leave of our agent that keeps no events", got[0] == 0 and got[1].endswith(b"no fired lines\nb keeps event-clock 7: nothing was handed out above it\n"), got)
         with open(path, "wb") as file:
             file.write(b"event b 5 d v\n")
         none = os.fsencode(path) + b": no line of a snapshot\n"
@@ -307,16 +316,23 @@ def ends_of_lines(count):
 
 
 def dates(count):
-    """A date and a time of day in front of a line aren't read; what was a line of a trace stays one."""
-    log = b"event a 1 x y\nquery b 2 3\nfired a 2 x y\nrestarted b\n7 event 0 9 61 62 0\n8 handed 0 1 4 5 61 62\n\n"
+    """A date and a time of day in front of a line are told with the line, and are no words of it; what was a line of a trace stays one."""
+    log = b"event a 1 x y\nquery b 2 3\nfired a 2 x y\nrestarted b\n7 event 0 9 61 62 0\n8 handed 0 1 4 5 61 62\nevent a 1 x y\nx\n"
     said = checks.ran(["judge"], log)
-    for date in (b"2026-11-26T10:00:00Z", b"2026-11-26 10:00:00,125", b"  2026-11-26  10:00 ", b"0000- 99:"):
+    for date, told in ((b"2026-11-26T10:00:00Z",) * 2, (b"2026-11-26 10:00:00,125",) * 2, (b"  2026-11-26  10:00 ", b"2026-11-26 10:00"), (b"0000- 99:",) * 2):
         got = checks.ran(["judge"], b"".join(date + b" " + line + b"\n" for line in log.splitlines()))
-        count.check(f"a log with {date}", got == said and b"read: 2 events, 2 queries, 3 nodes\n" in said[1], (said, got))
+        wanted = said[1]
+        for line in (b"line 7", b"line 1", b"line 3", b"line 8"):
+            wanted = re.sub(rb"\b%s\b" % line, line + b" (%s)" % told, wanted)
+        count.check(f"a log with {date}", got == (said[0], wanted, said[2]) and b"Once: line 7 (%s) repeats line 1 (%s): a 1" % (told, told) in got[1], (said, got))
+    # Of several lines the first and the last have theirs, and a line without a date has none.
+    log = b"event a 1 x y\n2026-11-26 event a 1 x y\nevent a 1 x y\n2026-11-27 event a 1 x y\n"
+    got = checks.ran(["judge"], log)
+    count.check("dates of some lines", b"Once: line 2 (2026-11-26) repeats line 1: a" in got[1] and b", lines 2 (2026-11-26) to 4 (2026-11-27)\n" in got[1], got)
     for line in (b"202-1 event a 1 x y", b"2026 event a 1 x y z", b"x2026-11-26 event a 1 x y", b"10:00:00 event a 1 x y"):
         got = checks.ran(["judge"], line + b"\n")
         count.check(f"no date: {line}", got[1].startswith(read(0, 0, 0)) == (b"z" not in line) and (b"bad: line 1" in got[1]) == (b"z" not in line), got)
-    for line, why in ((b"2026-11-26 2026-11-26 event a 1 x y", b"UnknownWord"), (b"2026-11-26 10:0 11:0 event a 1 x y", b"UnknownWord"), (b"2026-11-26 event a t x y", b"BadWord 3")):
+    for line, why in ((b"2026-11-26 2026-11-26 event a 1 x y", b"(2026-11-26) UnknownWord"), (b"2026-11-26 10:0 11:0 event a 1 x y", b"(2026-11-26 10:0) UnknownWord"), (b"2026-11-26 event a t x y", b"(2026-11-26) BadWord 3")):
         got = checks.ran(["judge"], line + b"\n")
         count.check(f"one date: {line}", got[0] == 1 and b"\nbad: line 1 " + why + b"\n" in got[1], got)
 
@@ -347,14 +363,24 @@ def several_logs(count):
         count.exactly("a snapshot between two logs", ["judge", a, "--kept", "a=" + kept, b], 1, said, b"")
         got = checks.ran(["judge", b, "-"], checks.read(a))
         count.check("standard input behind a log", got[0] == 1 and b'Once: %s:4 repeats %s:1: ' % (at_b, at_b) in got[1] and b"QueryOnce: -:3 repeats %s:3" % at_b in got[1], got)
-        # In the other order the firing stands below.
+        # A firing in another log counts in either order; of one log it has to stand above.
         (f, at_f), (e, at_e) = log("f", b"fired a 5 x y\nevent b 7 x y\n"), log("e", b"event b 5 x y\nfired b 6 x y\n")
         said = read(2, 0, 2) + ONCE + NO_QUERIES
         fired = b'Fired: %s:2 hands out what no line above it fired: b 7 "x" "y"\n' % at_f
         later = b'Later: %s:2 fires at 6, and %s:2 was handed out at 7: b 6 "x" "y"\n' % (at_e, at_f)
         count.exactly("firings in front", ["judge", f, e], 1, said + fired + later, b"")
-        fired = b'Fired: %s:1 hands out what no line above it fired: b 5 "x" "y"\n' % at_e
         count.exactly("firings behind", ["judge", e, f], 1, said + fired + b"Later: holds\n", b"")
+        (first, at_first), (second, _) = log("first", b"event b 1 x y\n"), log("second", b"fired a 1 x y\nevent a 1 x y\n")
+        said = read(2, 0, 2) + ONCE + NO_QUERIES + b"Fired: holds\nLater: holds\n"
+        for order in ((first, second), (second, first)):
+            count.exactly(f"a firing in another log: {order}", ["judge", *order], 0, said, b"")
+        # One that stands below, in the log itself or in one log for all, doesn't count.
+        (below, at_below), (other, _) = log("below", b"event b 1 x y\nfired c 1 x y\n"), log("other", b"event a 1 x y\n")
+        said = read(2, 0, 3) + ONCE + NO_QUERIES + b'Fired: %s:1 hands out what no line above it fired: b 1 "x" "y"\nLater: holds\n' % at_below
+        for order in ((below, other), (other, below)):
+            count.exactly(f"a firing below in the same log: {order}", ["judge", *order], 1, said, b"")
+        got = checks.ran(["judge", below, second])
+        count.check("a firing below, and one in another log", got[0] == 0 and b"\nFired: holds\n" in got[1], got)
         long, _ = log("long", b"\n" + b"#" * 16777217)
         count.exactly("a line too long in the second", ["judge", a, long], 1, b"", os.fsencode(long) + b": bad line 2 TooLong\n")
         count.exactly("a second that isn't there", ["judge", a, "/nowhere"], 3, b"", b"/nowhere: no such file\n")

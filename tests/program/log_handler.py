@@ -1,8 +1,9 @@
-"""`examples/serf_log_handler.sh`: a word for each text, whatever is in it, and what `judge` makes of the lines.
+"""`examples/serf_log_handler.sh`: a date, and a word for each text, whatever is in it, and what `judge` makes of the lines.
 
 Each shell runs it: dash, whose `echo` reads backslashes, and bash.
 """
 
+import datetime
 import os
 import subprocess
 import sys
@@ -35,13 +36,18 @@ TEXTS = (
 
 
 def said(shell, given, **variables):
-    """The line that the handler writes for a payload, and what it says elsewhere."""
+    """The line that the handler writes for a payload, without its date, and what it says elsewhere."""
     with tempfile.TemporaryDirectory() as folder:
         log = os.path.join(folder, "log")
         held = {os.fsencode(name): value for name, value in variables.items()}
         held.update({b"PATH": os.fsencode(os.environ["PATH"]), b"SERF_LOG": os.fsencode(log)})
         done = subprocess.run([shell, HANDLER], input=given, env=held, capture_output=True, timeout=checks.LIMIT)
         text = checks.read(log) if os.path.exists(log) else None
+        if text is not None:
+            date, text = text.split(b" ", 1)
+            at = datetime.datetime.strptime(date.decode(), "%Y-%m-%dT%H:%M:%SZ").replace(tzinfo=datetime.timezone.utc)
+            if abs(datetime.datetime.now(datetime.timezone.utc) - at) > datetime.timedelta(hours=1):
+                raise ValueError(f"the line's date is {date}")
         return text, done.returncode, done.stdout + done.stderr
 
 

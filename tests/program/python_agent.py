@@ -8,7 +8,7 @@ shown. For a sample of the switches `conform --random 1-200 --shrink` makes the 
 printed.
 
 Of random schedules only those of the kind `kept` have agents that keep their events. So the rows of such agents (`keeps_` in
-tests/rows), and dialogues of the pipe in tests/program/python_agent/rows, have to show each switch of this setting.
+tests/rows), and dialogues of the pipe in tests/program/python_agent/dialogues.calls, have to show each switch of this setting.
 
     tests/program/python_agent.py [--seeds FIRST-LAST] [SCHEDULE..]
 

@@ -35,8 +35,10 @@ BAD_LINES = (
     (b"agent 6 x 4 512 8 keep\n", 1, b"BadWord 2"),
     (b"agent 4a 4 4 512 8 keep\nagent 4A 4 4 512 8 ignore\n", 2, b"NameTwice"),
     (b"compact 0\nagent 61\n", 2, b"LateAgent"),
-    (b"fire 0 78 - 0\r\n", 1, b"BadWord 5"),
-    (b"\r\n", 1, b"UnknownWord"),
+    (b"fire 0 78\r- 0 0\r\n", 1, b"WordCount"),
+    (b"\n\xef\xbb\xbffire 0 78 - 0\n", 2, b"UnknownWord"),
+    (b"\xef\xbbfire 0 78 - 0\n", 1, b"UnknownWord"),
+    (b"\xef\xbb\xbf\xef\xbb\xbffire 0 78 - 0\n", 1, b"UnknownWord"),
     (b" # x\n", 1, b"UnknownWord"),
     (b"fire 0 78 - 0 # x\n", 1, b"WordCount"),
     (b"fire 0 78 - 00\n", 1, b"BadWord 5"),
@@ -94,6 +96,32 @@ def bad_lines(count):
         count.exactly(f"the schedule {given}", ["replay"], 1, b"", said, given)
 
 
+def of_editors(count):
+    """A byte order mark before a schedule and carriage returns at the ends of its lines change no command's answer."""
+    schedule, mark = checks.read("examples", "deploy_gossiped_twice.schedule"), b"\xef\xbb\xbf"
+    crlf = schedule.replace(b"\n", b"\r\n")
+    with tempfile.NamedTemporaryFile() as file:
+        file.write(mark + crlf)
+        file.flush()
+        for words in (["replay"], ["replay", "--stream"], ["replay", "--summary"], ["replay", "--summary", "--stream"], ["explain"], ["explain", "--stream"], ["explain", "--agent", "0"], ["draw"], ["conform"]):
+            plain = os.path.join(checks.EXAMPLES, "deploy_gossiped_twice.schedule")
+            got, wanted = checks.ran([*words, file.name]), checks.ran([*words, plain])
+            count.check(f"a file of an editor: {words}", got == wanted and wanted[1], got)
+            for name, text in (("carriage returns", crlf), ("a mark", mark + schedule), ("a mark and a comment", mark + b"# x\r\n\r\n" + crlf)):
+                if words[0] != "conform":
+                    got = checks.ran(words, text)
+                    count.check(f"{name}: {words}", got == wanted, got)
+    for name, text in (("a mark alone", mark), ("a mark and a carriage return", mark + b"\r\n")):
+        count.exactly(name, ["replay"], 0, b"", b"", text)
+    with subprocess.Popen([checks.PROGRAM, "replay", "--stream"], stdin=subprocess.PIPE, stdout=subprocess.PIPE) as run:
+        for part in (mark, b"# x\r", b"\n" + schedule):
+            run.stdin.write(part)
+            run.stdin.flush()
+            time.sleep(0.1)
+        run.stdin.close()
+        count.check("a mark that comes alone", run.stdout.read() == checks.read("examples", "deploy_gossiped_twice.trace"))
+
+
 def faults(count):
     longest = checks.LONGEST
     count.exactly("an empty schedule", ["replay"], 0, b"", b"")
@@ -104,7 +132,7 @@ def faults(count):
     count.exactly("one byte more, with a fault before it", ["replay"], 1, b"", b"too long\n", b"!" + b"\n" * longest)
     path = os.path.join(checks.TOP, "no_such_file")
     count.exactly("a missing file", ["replay", path], 3, b"", os.fsencode(path) + b": no such file\n")
-    count.exactly("a folder", ["replay", checks.TOP], 3, b"", os.fsencode(checks.TOP) + b": read fault\n")
+    count.exactly("a folder", ["replay", checks.TOP], 3, b"", os.fsencode(checks.TOP) + b": read fault: Is a directory (os error 21)\n")
     path = os.path.join(checks.EXAMPLES, "deploy_gossiped_twice.written")
     hint = b"a written schedule? serf-replay write %s | serf-replay replay\n" % os.fsencode(path)
     for words in (["replay"], ["replay", "--stream"], ["replay", "--summary"], ["explain"], ["explain", "--agent", "alpha"], ["draw"], ["conform"]):
@@ -126,7 +154,7 @@ def on_a_terminal(words, given=b""):
 
     reader = threading.Thread(target=show)
     reader.start()
-    ran = subprocess.run([checks.PROGRAM, *words], input=given, stdout=subprocess.PIPE, stderr=theirs, timeout=600)
+    ran = subprocess.run([checks.PROGRAM, *words], input=given, stdout=subprocess.PIPE, stderr=theirs, timeout=checks.LIMIT)
     os.close(theirs)
     reader.join(60)
     os.close(ours)
@@ -135,7 +163,7 @@ def on_a_terminal(words, given=b""):
 
 # What a cause of a bad line means, as a terminal shows it.
 UNKNOWN = b"a line begins with agent, fire, deliver, state, merge, query, respond, restart, break, inject, close, save or compact; a text with labels goes through serf-replay write first"
-WORD = b"this word, with the command counted as 1, isn't as its command takes it (docs/FORMATS.md, Schedules); a text with names goes through serf-replay write first"
+WORD = b"this word, with the command counted as 1, isn't as its command takes it (docs/SPEC.md, Schedules); a text with names goes through serf-replay write first"
 COUNT = b"the line has more or fewer words than its command takes; a text with names goes through serf-replay write first"
 BOUNDS = b"a name has 1 to 128 bytes, the limit is at most 9216, and the other numbers of an agent are 1 to 65536"
 MEANINGS = (
@@ -156,6 +184,9 @@ def sentences_on_a_terminal(count):
     for words, given, cause, meaning in MEANINGS:
         status, out, shown = on_a_terminal(words, given)
         lines = shown.replace(b"\r\n", b"\n")
+        if programs.IS_UNPROVED:
+            # (one that is slow, with checks in it, may tell how far it is)
+            lines = re.sub(rb"(?m)^\d+ bytes are read\n", b"", lines)
         count.check(f"{words} {cause} on a terminal", (status, out, lines) == (1, b"", b"bad line %s\n%s\n" % (cause, meaning)), shown)
         count.exactly(f"{words} {cause}", words, 1, b"", b"bad line %s\n" % cause, given)
 
@@ -215,6 +246,52 @@ def peak_kib(schedule):
     return usage.ru_maxrss if status == 0 else f"status {status}"
 
 
+def jobs_on_a_terminal(count):
+    """So do the other jobs: what is made or read, once a second, on a terminal alone."""
+    jobs = {
+        "random": (lambda many: (["random", "1", "--agents", "4", "--actions", str(many)], b""), r"\d+ of {all} actions"),
+        "draw": (lambda many: (["draw", "--from", str(many)], long_schedule(many)), r"\d+ of {all} actions"),
+        "write": (lambda many: (["write"], b"agent a\n" + b'fire a "x" "y"\n' * many), r"\d+ of \d+ bytes are read"),
+    }
+    for name, (job, line) in jobs.items():
+        many, took = 4096, 0
+        while took < 3 and many < 1_000_000:
+            many *= 2
+            before = time.monotonic()
+            piped = checks.ran(*job(many))
+            took = time.monotonic() - before
+        status, out, shown = on_a_terminal(*job(many))
+        lines = shown.decode("ascii", "replace").splitlines()
+        told = [row for row in lines if re.fullmatch(line.format(all=many), row)]
+        other = [row for row in lines if row not in told and not re.fullmatch(r"\d+ bytes are read", row)]
+        # (what `random` writes has an end at 16 MiB, which a quick machine reaches before a second is over)
+        count.check(f"{name}: its progress on a terminal", (told or took < 2) and not other, f"{many}, shown {lines[:5]}")
+        count.check(f"{name}: nothing else changes", (status, out, b"") == piped == (0, out, b""), piped[::2])
+
+
+def slow_input_on_a_terminal(count):
+    """What comes slowly is told in bytes."""
+    for words in (["judge"], ["decode"], ["replay", "--stream"]):
+        ours, theirs = pty.openpty()
+        with subprocess.Popen([checks.PROGRAM, *words], stdin=subprocess.PIPE, stdout=subprocess.DEVNULL, stderr=theirs) as run:
+            for _ in range(3):
+                run.stdin.write(b"# 4\n" if words[0] != "decode" else b"00\n\n")
+                run.stdin.flush()
+                time.sleep(1.2)
+            run.stdin.close()
+            run.wait(60)
+        os.close(theirs)
+        shown = b""
+        try:
+            while some := os.read(ours, 1000):
+                shown += some
+        except OSError:
+            pass
+        os.close(ours)
+        lines = [row for row in shown.decode("ascii", "replace").splitlines() if re.fullmatch(r"(?:4|8|12) bytes are read", row)]
+        count.check(f"{words}: how much is read", lines and lines == sorted(lines, key=lambda row: int(row.split()[0])), shown)
+
+
 def memory_of_agents(count):
     """Agents of 512 slots that do nothing take at most 1 KiB each, their lines and the program included.
 
@@ -234,7 +311,7 @@ def no_memory(count):
         [checks.PROGRAM, "replay"],
         input=schedule,
         capture_output=True,
-        timeout=600,
+        timeout=checks.LIMIT,
         preexec_fn=lambda: resource.setrlimit(resource.RLIMIT_AS, (some, some)),
     )
     count.check(
@@ -292,20 +369,13 @@ def summaries_for_machines(count):
         count.exactly(" ".join(words), ["replay", *words], 2, b"", said, ROWS_SCHEDULE)
 
 
-PARTS = (examples, bad_lines, faults, sentences_on_a_terminal, short_run_on_a_terminal, summaries, summaries_for_machines)
+PARTS = (examples, bad_lines, of_editors, faults, slow_input_on_a_terminal, sentences_on_a_terminal, summaries, summaries_for_machines)
 
 # What looks at how long a run takes and how much memory it has: a program that is compiled unproved has checks in it.
-PROVED_ALONE = (long_run_on_a_terminal, memory_of_agents, no_memory)
-
-
-def main():
-    if programs.IS_UNPROVED:
-        for part in PROVED_ALONE:
-            print(f"not run: {part.__name__}, over a program that was compiled with checks")
-        return checks.over_program(*PARTS)
-    # (first, while this interpreter is small: what the system tells of a run's memory is never less than its parent's)
-    return checks.over_program(*PROVED_ALONE, *PARTS)
+PROVED_ALONE = (long_run_on_a_terminal, memory_of_agents, no_memory, jobs_on_a_terminal, short_run_on_a_terminal)
 
 
 if __name__ == "__main__":
-    sys.exit(main())
+    # (what measures memory first, while this interpreter is small: what the system tells of a run's memory is never less
+    # than its parent's)
+    sys.exit(checks.by_speed(PROVED_ALONE, PARTS))

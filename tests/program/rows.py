@@ -4,9 +4,9 @@
 
 With names, those rows alone are run, as ./serf-replay runs them, proved or not.
 
-NAME.trace is the whole trace that is wanted; NAME.fault the line on standard error of a schedule that is
-refused; NAME.lines facts about the trace: `N WORDS` is a line of it, `!N WORD` says that action N has no line
-with this second word, and `=N COUNT` that action N has so many lines. A row has one of the three.
+A row's schedule ends with what is wanted of it, as comments. Behind `# trace:` they are the whole trace; behind `# fault:` the
+line on standard error of a schedule that is refused; behind `# lines:` facts about the trace: `N WORDS` is a line of it,
+`!N WORD` says that action N has no line with this second word, and `=N COUNT` that action N has so many lines.
 
 No schedule hands an agent one event or one query twice: the trace of each row and each example is judged too
 (`judge`). It is proved that `replay` writes the trace of the run, what `judge` reads in it, and that it finds the first
@@ -21,8 +21,6 @@ import sys
 sys.dont_write_bytecode = True
 sys.path.insert(0, os.path.dirname(os.path.dirname(os.path.abspath(__file__))))
 import checks
-
-ENDINGS = ("trace", "fault", "lines")
 
 # How the line begins that ./serf-replay says where the program isn't proved.
 UNPROVED = "serf-replay: this program is compiled without its proofs"
@@ -75,12 +73,11 @@ def is_kept(fact, lines):
     return fact in lines
 
 
-def wrong_facts(path, trace):
+def wrong_facts(schedule, facts, trace):
     """What is wrong with the facts of a row, or None."""
-    facts = [fact for fact in checks.text_of(path + ".lines").splitlines() if fact]
     if not facts:
         return "there are no facts"
-    actions = actions_in(checks.text_of(path + ".schedule"))
+    actions = actions_in(schedule)
     shapes = [misshapen(fact, actions) for fact in facts]
     missing = [f"{fact!r} does not hold" for fact in facts if not is_kept(fact, trace.splitlines())]
     return "; ".join([*filter(None, shapes), *missing][:3])[:300] or None
@@ -94,26 +91,26 @@ def said_by(command, given, program=checks.PROGRAM):
     return ran.returncode, ran.stdout.decode("ascii", "replace"), err
 
 
-def wrong(path, said):
+def wrong(name, said):
     """What differs in a row whose schedule `replay` answers so, or None."""
-    wanted = [ending for ending in ENDINGS if os.path.exists(f"{path}.{ending}")]
-    if len(wanted) != 1:
-        return f"a row has one of {', '.join('.' + ending for ending in ENDINGS)}, and this one has {wanted or 'none'}"
+    schedule, kind, wanted = checks.row_of(name)
     status, out, err = said
-    if wanted == ["fault"]:
-        refused = (1, "", checks.text_of(path + ".fault"))
+    if kind is None:
+        return "its schedule doesn't end with what is wanted of it"
+    if kind == "fault":
+        refused = (1, "", wanted)
         return None if said == refused else f"wanted {refused}, got {(status, out[:200], err)}"
     if status != 0 or err:
         return f"status {status}: {err}"
-    if wanted == ["trace"]:
-        return None if out == checks.text_of(path + ".trace") else "the trace differs"
-    return wrong_facts(path, out)
+    if kind == "trace":
+        return None if out == wanted else "the trace differs"
+    return wrong_facts(schedule, wanted.splitlines(), out)
 
 
-def repeats(path, said):
+def repeats(is_refused, said):
     """What `judge` says otherwise than it should of a trace, or None. What is refused has no trace."""
     status, trace, _ = said
-    if os.path.exists(path + ".fault"):
+    if is_refused:
         return None if (status, trace) == (1, "") else f"wanted no trace, got {(status, trace[:200])}"
     got = said_by("judge", trace)
     if got[0] != 0 or got[2] or not is_no_repeat(trace, got[1]):
@@ -129,10 +126,9 @@ def by_name(names):
     """These rows alone, as ./serf-replay runs them."""
     count, rows = checks.Checks(), checks.names_in(checks.ROWS)
     for name in names:
-        path = os.path.join(checks.ROWS, name)
         fault = "there is no such row"
         if name in rows:
-            fault = wrong(path, said_by("replay", checks.text_of(path + ".schedule"), checks.COMMAND))
+            fault = wrong(name, said_by("replay", checks.row_of(name)[0], checks.COMMAND))
         count.check(name, not fault, fault)
     return count.finish()
 
@@ -142,14 +138,14 @@ def all_rows(count):
     rows, examples = checks.names_in(checks.ROWS), checks.names_in(checks.EXAMPLES)
     count.check("there are rows and examples", rows and examples)
     for name in rows:
-        path = os.path.join(checks.ROWS, name)
-        said = said_by("replay", checks.text_of(path + ".schedule"))
-        for what, fault in ((name, wrong(path, said)), (f"{name}, and repeats", repeats(path, said))):
+        schedule, kind, _ = checks.row_of(name)
+        said = said_by("replay", schedule)
+        for what, fault in ((name, wrong(name, said)), (f"{name}, and repeats", repeats(kind == "fault", said))):
             count.check(what, not fault, fault)
     for name in examples:
         # (that `replay` writes the traces of the examples is in replay.py)
         path = os.path.join(checks.EXAMPLES, name)
-        fault = repeats(path, (0, checks.text_of(path + ".trace"), ""))
+        fault = repeats(False, (0, checks.text_of(path + ".trace"), ""))
         count.check(f"{name}, and repeats", not fault, fault)
     others = [name for name in os.listdir(checks.ROWS) if name.rpartition(".")[0] not in rows]
     count.check("files without a schedule", not others, others)

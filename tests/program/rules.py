@@ -1,6 +1,8 @@
-"""docs/RULES.md, asked of the program: a schedule for each row. And the definitions that it names are there.
+"""The rules of docs/SPEC.md, "What an agent does", asked of the program: a schedule for each row. And the definitions that it names are there.
 
-A case is what agent 0 is told to do, a call a line, and what it has to answer to each, as tests/one_agent.py has it.
+A case is what agent 0 is told to do, a call a line, and what it has to answer to each, as tests/one_agent.py has it. Each
+row is asked of an agent that keeps its events too (MODE with `+events`): by the same case where the page's column for such
+agents is empty, else by one of `rules/keeping.py`.
 """
 
 import glob
@@ -12,6 +14,9 @@ import tempfile
 sys.dont_write_bytecode = True
 sys.path.insert(0, os.path.dirname(os.path.dirname(os.path.abspath(__file__))))
 import checks
+
+sys.path.insert(0, os.path.join(checks.TOP, "tests", "program", "rules"))
+import keeping
 from one_agent import AGENT, ASK, BREAK, FIRE, GREATEST, answer, answers, deliver, event, merge, query, rows_of, state
 
 IGNORING = "agent 61 4 4 512 8 ignore"
@@ -351,8 +356,10 @@ CASES = {
 
 
 def rules():
-    """The rules of the page, by name, and the definitions of each."""
-    return {cells[0]: re.findall(r"`([^`]+)`", cells[2]) for cells in rows_of(checks.text_of("docs", "RULES.md")) if cells[0] != "Rule"}
+    """The rules of the page, by name: what such a row says of agents that keep their events, and the definitions."""
+    part = checks.text_of("docs", "SPEC.md").partition("\n## What an agent does\n")[2].partition("\n## ")[0]
+    rows = [cells for cells in rows_of(part) if cells[0] != "Rule"]
+    return {cells[0]: (cells[2], re.findall(r"`([^`]+)`", cells[4])) for cells in rows}
 
 
 def is_defined(name):
@@ -365,53 +372,74 @@ def is_defined(name):
 def on_the_page(count):
     page = rules()
     count.check("each rule has its case, and each case its rule", page.keys() == CASES.keys(), page.keys() ^ CASES.keys())
-    for rule, names in page.items():
+    otherwise = {rule for rule, (kept, _) in page.items() if kept}
+    count.check("each rule that is another with `+events` has its case", otherwise == keeping.CASES.keys(), otherwise ^ keeping.CASES.keys())
+    for rule, (_, names) in page.items():
         for name in names:
             count.check(f"{rule}: {name}", is_defined(name), "no such definition")
         count.check(f"{rule}: a definition", bool(names), "none is named")
 
 
+def keeps(agent):
+    """The same settings, of an agent that keeps its events."""
+    return re.sub(r"(?<= )(keep|ignore)(?![+])", r"\1+events", agent)
+
+
+def asked(count, rule, case, default):
+    parts = case if isinstance(case, tuple) else (case or [], default)
+    for asked_of, agent in zip(parts[::2], parts[1::2]):
+        got_back = answers([call for call, _ in asked_of], agent)
+        for (call, wanted), said in zip(asked_of, got_back):
+            count.check(f"{rule}: {call} of {agent}", said == wanted, f"wanted {wanted}, got {said}")
+
+
 def cases(count):
     for rule, case in CASES.items():
-        parts = case if isinstance(case, tuple) else (case or [], AGENT)
-        for asked_of, agent in zip(parts[::2], parts[1::2]):
-            got_back = answers([call for call, _ in asked_of], agent)
-            for (call, wanted), said in zip(asked_of, got_back):
-                count.check(f"{rule}: {call}", said == wanted, f"wanted {wanted}, got {said}")
+        asked(count, rule, case, AGENT)
 
 
-def slots_after(*times, names=(b"x",)):
+def cases_of_keeping(count):
+    for rule, case in CASES.items():
+        if rule in keeping.CASES:
+            asked(count, rule, keeping.CASES[rule], keeps(AGENT))
+        elif case:
+            parts = case if isinstance(case, tuple) else (case, AGENT)
+            asked(count, rule, tuple(keeps(part) if isinstance(part, str) else part for part in parts), None)
+
+
+def slots_after(*times, names=(b"x",), agent=AGENT):
     """The places and times of the slots that aren't empty, in the state of an agent that fires nothing and gets events of
     these names at each of these times."""
     packets = [event(time, name) for time in times for name in names]
     calls = "".join(f"inject {packet.hex()}\ndeliver 0 {2 * at} 0\n" for at, packet in enumerate(packets))
-    out = checks.ran(["replay"], f"{AGENT}\n{calls}state 0\n".encode())[1].decode()
+    out = checks.ran(["replay"], f"{agent}\n{calls}state 0\n".encode())[1].decode()
     packet = out.splitlines()[-1].split(" ")[-1]
     lines = checks.ran(["decode", packet])[1].decode().splitlines()
     return [tuple(line.split(" ")[1:]) for line in lines if line.startswith("slot ") and not line.endswith("nil")], lines
 
 
 def slots(count):
-    held, lines = slots_after(5, 6)
-    count.check("a slot's place", held == [("1", "5"), ("2", "6")], lines)
-    count.check("a slot's place: all are sent", sum(line.startswith("slot ") for line in lines) == 4, lines)
-    lines = slots_after(5, names=(b"b", b"c", b"a"))[1]
-    count.check("a slot's place: its events", [line for line in lines if line.startswith("event ")] == ["event 62 -", "event 63 -", "event 61 -"], lines)
-    held, lines = slots_after(5, 16)
-    count.check("a slot behind the window", held == [("0", "16"), ("1", "5")], lines)
-    held, lines = slots_after(5, 17)
-    count.check("a slot behind the window: a later time", held == [("1", "17")], lines)
+    for agent in (AGENT, keeps(AGENT)):
+        held, lines = slots_after(5, 6, agent=agent)
+        count.check("a slot's place", held == [("1", "5"), ("2", "6")], lines)
+        count.check("a slot's place: all are sent", sum(line.startswith("slot ") for line in lines) == 4, lines)
+        lines = slots_after(5, names=(b"b", b"c", b"a"), agent=agent)[1]
+        count.check("a slot's place: its events", [line for line in lines if line.startswith("event ")] == ["event 62 -", "event 63 -", "event 61 -"], lines)
+        held, lines = slots_after(5, 16, agent=agent)
+        count.check("a slot behind the window", held == [("0", "16"), ("1", "5")], lines)
+        held, lines = slots_after(5, 17, agent=agent)
+        count.check("a slot behind the window: a later time", held == [("1", "17")], lines)
 
 
-def kept_behind(*calls):
+def kept_behind(*calls, agent=AGENT, opened="opened 1 1 1"):
     """The text that the disk keeps behind these calls, by the `look` that `conform` wants. Each call has its answer, and is
     one that has a look behind it."""
     answered = "".join(f"{answer}\n\nunsupported\n\n" for _, answer in calls)
     lines = "".join(f"{call}\n" for call, _ in calls)
     with tempfile.NamedTemporaryFile("w", suffix=".schedule") as schedule:
-        schedule.write(f"{AGENT}\n{lines}")
+        schedule.write(f"{agent}\n{lines}")
         schedule.flush()
-        said = checks.ran(["conform", schedule.name], f"opened 1 1 1\n\nunsupported\n\n{answered}looked\n\n".encode())[2].decode()
+        said = checks.ran(["conform", schedule.name], f"{opened}\n\nunsupported\n\n{answered}looked\n\n".encode())[2].decode()
     found = re.search(r"^ +kept (\S+)$", said, re.M)
     return bytes.fromhex(found[1].replace("-", "")).decode() if found else said
 
@@ -425,5 +453,12 @@ def texts(count):
     count.check("what `compact` writes: all three", kept == "clock: 3\nevent-clock: 5\nquery-clock: 7\n", kept)
 
 
+def texts_of_keeping(count):
+    lived = "".join(f"{line}\n" for line in ("clock: 2", "event-clock: 06", "#event 6 79 ", "#event 5 78 ", "query-clock: 03", "#query 3 1"))
+    calls = (f"restart 0 {lived.encode().hex()}", "restarted 3 7 4"), ("compact 0", "compacted")
+    kept = kept_behind(*calls, agent=keeps(AGENT))
+    count.check("what `compact` writes with `+events`", kept == keeping.COMPACTED, repr(kept))
+
+
 if __name__ == "__main__":
-    sys.exit(checks.over_program(on_the_page, cases, slots, texts))
+    sys.exit(checks.over_program(on_the_page, cases, cases_of_keeping, slots, texts, texts_of_keeping))

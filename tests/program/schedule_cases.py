@@ -1,7 +1,7 @@
 """What a reader of schedules decides, as data: conformance/schedules/cases.jsonl, held against `replay`.
 
 The cases are made from a schedule that has each line, by turning one word, one space or one line of it. What is wanted of
-each is read off by a reader of this script's own, by docs/FORMATS.md. The program has to refuse the same line for the same
+each is read off by a reader of this script's own, by docs/SPEC.md. The program has to refuse the same line for the same
 cause, or to replay the schedule as the plain one that the case names.
 
     tests/program/schedule_cases.py [--write]
@@ -125,7 +125,7 @@ def cause_of(words, names, acted):
 def read(schedule):
     """The line on standard error where a schedule is refused, or else the plain schedule that it stands for."""
     names, acted, plain = set(), False, []
-    for place, line in enumerate(schedule.split("\n"), 1):
+    for place, line in enumerate(schedule.replace("\r", " ").split("\n"), 1):
         words = [word for word in line.split(" ") if word]
         if not words or line.startswith("#"):
             continue

@@ -153,7 +153,7 @@ def while_it_runs(count):
 def driven(count):
     """A program that writes and reads in turns: examples/drive_stream.py."""
     script = os.path.join(checks.EXAMPLES, "drive_stream.py")
-    done = subprocess.run([sys.executable, script, checks.PROGRAM], capture_output=True, timeout=60)
+    done = subprocess.run([sys.executable, script, checks.PROGRAM], capture_output=True, timeout=checks.LIMIT)
     fired = b"0 0384a54c54696d6501a44e616d65a66465706c6f79a75061796c6f6164a27631a24343c2\n"
     said = b"1 fired 1\n1 sent " + fired + b"1 event 0 1 6465706c6f79 7631 0\n"
     said += b"3 new\n3 sent 1" + fired[1:] + b"3 event 1 1 6465706c6f79 7631 0\n5 ignored Seen\n"
@@ -183,17 +183,22 @@ def marks(count):
         path = os.path.join(folder, "marked.schedule")
         with open(path, "wb") as file:
             file.write(b"# mark begin\n" + AGENTS + b"fire 0 61 - 0\n# mark one has it\n\ndeliver 1 0 0\ndeliver 1 0 0\n# mark, both\n# mark both\nfire 1 62 - 0\n")
-        done = subprocess.run([sys.executable, script, path, checks.PROGRAM], capture_output=True, text=True, timeout=60)
+        done = subprocess.run([sys.executable, script, path, checks.PROGRAM], capture_output=True, text=True, timeout=checks.LIMIT)
         rows = ["begin,0,0,0,0", "one has it,1,1,1,0", "both,3,2,1,1", "end,4,3,2,1"]
         wanted = [head, *(f"{row},0,0,0,{int(at > 1)},0,0,0,0,0,0,0" for at, row in enumerate(rows))]
         count.check("marks", (done.returncode, done.stdout.splitlines()) == (0, wanted), str(done)[:800])
         with open(path, "wb") as file:
             file.write(AGENTS + b"# mark here\nfires 0\n")
-        done = subprocess.run([sys.executable, script, path, checks.PROGRAM], capture_output=True, text=True, timeout=60)
+        done = subprocess.run([sys.executable, script, path, checks.PROGRAM], capture_output=True, text=True, timeout=checks.LIMIT)
         count.check("marks before a bad line", (done.returncode, done.stdout, done.stderr) == (1, head + "\n", "bad line 4 UnknownWord\n"), str(done)[:800])
         with open(path, "wb") as file:
-            file.write(checks.ran(["random", "3", "--kind", "rounds", "--agents", "40", "--actions", "5000"])[1])
-        done = subprocess.run([sys.executable, script, "--every", "200000000", path, checks.PROGRAM], capture_output=True, text=True, timeout=60)
+            file.write(AGENTS + b"fire 0 61 - 0\ndeliver 1 0 7\nfire 1 62 - 0\ndeliver 0 2 9\ndeliver 0 2 11\n")
+        done = subprocess.run([sys.executable, script, "--events", path, checks.PROGRAM], capture_output=True, text=True, timeout=checks.LIMIT)
+        wanted = "time,name,payload,agents,first,half,nine_tenths,last\n1,61,-,2,0,0,7,7\n2,62,-,2,7,7,9,9\n"
+        count.check("a row for each event", (done.returncode, done.stdout) == (0, wanted), done)
+        with open(path, "wb") as file:
+            file.write(checks.ran(["random", "3", "--kind", "rounds", "--agents", "40"])[1])
+        done = subprocess.run([sys.executable, script, "--every", "200000000", path, checks.PROGRAM], capture_output=True, text=True, timeout=checks.LIMIT)
         rows = [[int(word) for word in row.split(",")[1:]] for row in done.stdout.splitlines()[1:]]
         grows = all(one[0] < more[0] and all(a <= b for a, b in zip(one, more)) for one, more in zip(rows, rows[1:]))
         summary = [row.split(",") for row in checks.ran(["replay", "--summary", "--as", "csv", path])[1].decode().splitlines()]
@@ -204,16 +209,16 @@ def marks(count):
 def devices(count):
     for words in (STREAM, [*STREAM, "--summary"]):
         count.exactly("a file that isn't there", [*words, "/nowhere"], 3, b"", b"/nowhere: no such file\n")
-    count.exactly("a folder", [*STREAM, checks.TOP], 3, b"", os.fsencode(checks.TOP) + b": read fault\n")
+    count.exactly("a folder", [*STREAM, checks.TOP], 3, b"", os.fsencode(checks.TOP) + b": read fault: Is a directory (os error 21)\n")
     with open("/dev/full", "wb") as full:
         done = subprocess.run(
             [checks.PROGRAM, *STREAM],
             input=AGENTS + b"state 0\n",
             stdout=full,
             stderr=subprocess.PIPE,
-            timeout=60,
+            timeout=checks.LIMIT,
         )
-    count.check("a full device", (done.returncode, done.stderr) == (3, b"write fault\n"))
+    count.check("a full device", (done.returncode, done.stderr) == (3, b"write fault: No space left on device (os error 28)\n"))
 
 
 if __name__ == "__main__":

@@ -4,12 +4,12 @@ Each check is one thing that a document names:
 
 - a path in backquotes stands in the repository (from its top, from the document, from a crate or a crate's src);
 - `crate::item` and `Type::method` are public items, and `serf_name` is a crate, or a function of a header in C;
-- a clause named in the tables of PROMISES.md, CRATES.md or WRONG_BODIES.md, or in brackets behind a function, is a
-  clause of some contract, and an edit with which a row of WRONG_BODIES.md begins is one of a crate;
+- a clause named in the tables of PROMISES.md, or in brackets behind a function, is a clause of some contract;
+- the calls that PROMISES.md says have conditions are the public ones with a `requires`;
 - a link leads to a file that stands;
-- the table of ARCHITECTURE.md, "To add something", has each file of a crate that names the sibling of a column;
+- `tools/to_add.py` finds the files of each thing that ARCHITECTURE.md, "To add something", names;
 - tests/README.md has each script of tests/, and no script of a test stands beside its folders;
-- docs/GATE.md is one table, with a least count of each script of `./test`, and the cost of each crate and each part;
+- tools/gate.rows has a least count of each script of `./test`, and the cost of each crate and each part;
 - each CALLING.md is what `tools/calling.py` makes of the sources;
 - a command that begins with `./` or with `python3` names a script that stands, and a job that the program has
   (`./my-..` is the reader's own);
@@ -30,6 +30,7 @@ from checks import TOP, text_of
 from pages import documents
 import calling
 import gate
+import to_add
 
 ENDINGS = (
     "rt",
@@ -54,19 +55,6 @@ ENDINGS = (
 
 # What a file outside the repository is called where a document speaks of it: Serf's own sources, and a reader's files.
 FOREIGN = {"serf.go", "delegate.go", "snapshot.go", "query.go", "messages.go", "local.snapshot", "config.go", "kitchenrue.example/serf", "kitchenrue.example/serfagent", "github.com/hashicorp/serf/serf", "cmd/serf", "TryLockError::WouldBlock"}
-
-# How a file names the siblings in the head of ARCHITECTURE.md's table "To add something".
-SIBLINGS = {
-    "Oversize": r"\bOversize\b",
-    "TimeFull": r"\bTimeFull\b",
-    "RespondersFull": r"\bRespondersFull\b",
-    "save": r"\b(?:Save|Saved)\b",
-    "relay_factor": r"relay_factor|RelayFactor",
-}
-
-# How a file names the call of an agent that a word of a schedule makes, in the cells of the table that begin so.
-OF_CALL = re.compile(r" (?:the call|an export of the call): ")
-CALLS = {"save": r"\b(?:[Ss]aves?|saves_so|save_member_clock)\b"}
 
 SPAN = re.compile(r"`([^`\n]+)`")
 LINK = re.compile(r"\[[^\]\n]*\]\(([^)\s]+)\)")
@@ -177,55 +165,26 @@ def wrong_command(jobs, page, script, words):
     return None
 
 
-def rows_of_siblings(page):
-    """The head and the rows of the table of "To add something"."""
-    head, *rows = [
-        line.strip("|").split("|")
-        for line in page.partition("## To add something\n")[2].split("\n")
-        if line.startswith("|")
-    ]
-    return head, rows
+def conditions(page):
+    """The calls that PROMISES.md says have conditions, and what is wrong, or None: they are the public ones with `requires`."""
+    told = SPAN.findall(page.partition("These calls have conditions (`requires`): ")[2].partition(".\n")[0])
+    # (a method that is named by itself is of the type before it)
+    names, owner = set(), ""
+    for name in told:
+        own, _, method = name.rpartition("::")
+        owner = own or owner
+        names.add(name if own or not name.startswith(("sync", "write_", "rename_")) else f"{owner}::{method}")
+    libraries = sorted(path.split("/")[1] for path in glob.glob("crates/*/src/lib.rt", root_dir=TOP))
+    found = {name for crate in libraries for name in calling.conditions(crate)}
+    yield "the calls that have conditions", None if names == found else f"are others: {sorted(names ^ found)}"
 
 
-def own_paths():
-    return [path for kind in ("src", "specs", "proofs") for path in paths_of(kind)]
-
-
-def crate_of(path):
-    return os.path.relpath(path, TOP).split(os.sep)[1]
-
-
-def siblings_of(cell, words):
-    """The patterns of these words in a cell of the table."""
-    return [CALLS[word] if OF_CALL.match(cell) else SIBLINGS[word] for word in words if word in SIBLINGS]
-
-
-def missing_siblings(page):
-    """Each file of a crate that names a sibling of "To add something", and what is wrong with the table, or None."""
-    head, rows = rows_of_siblings(page)
-    words = {word: at for at, cell in enumerate(head) for word in SPAN.findall(cell)}
-    cells = {crate: row for row in rows for crate in SPAN.findall(row[0])}
-    for path in own_paths():
-        row, text = cells.get(crate_of(path), [""] * len(head)), text_of(path)
-        for word in SIBLINGS:
-            cell = row[words[word]]
-            if any(re.search(sibling, text) for sibling in siblings_of(cell, [word])):
-                is_named = any(path.endswith(os.sep + name) for name in SPAN.findall(cell))
-                yield f"{os.path.relpath(path, TOP)} ({word})", None if is_named else "isn't in the table"
-
-
-def stray_siblings(page):
-    """Each file that the table of "To add something" has, and what is wrong with it, or None: a file that names none of
-    its column's siblings doesn't belong there."""
-    head, rows = rows_of_siblings(page)
-    for row in rows:
-        crates = [crate for crate in SPAN.findall(row[0]) if crate.startswith("serf_")]
-        for cell, title in zip(row, head):
-            siblings = siblings_of(cell, SPAN.findall(title))
-            for name in SPAN.findall(cell) if siblings and crates else []:
-                texts = [text_of(path) for path in own_paths() if path.endswith(os.sep + name) and crate_of(path) in crates]
-                is_named = any(re.search(sibling, text) for text in texts for sibling in siblings)
-                yield f"{', '.join(crates)}: {name}", None if is_named else "names none of its column's"
+def things_to_add():
+    """Each thing that `tools/to_add.py` knows, and what is wrong with it, or None: files of a crate and of a binding name it."""
+    for thing in to_add.THINGS:
+        found = list(to_add.files_of(thing))
+        folders = {path.split("/")[0] for path in found}
+        yield thing, None if {"crates", "bindings"} <= folders else f"is named in {sorted(folders)} alone"
 
 
 # What the scripts of tests/ share, beside the folders that they stand in.
@@ -252,9 +211,9 @@ def strays():
 
 
 def rows_of_gate(crates):
-    """Each script of the gate, crate and part of the whole, and what is wrong with its row of GATE.md, or None."""
-    rows, page = gate.rows(), text_of("docs", "GATE.md")
-    yield "its table", None if len(re.findall(r"^\|-", page, re.M)) == 1 else "is not one"
+    """Each script of the gate, crate and part of the whole, and what is wrong with its row of tools/gate.rows, or None."""
+    rows = gate.rows()
+    yield "its rows", None if len(re.findall(r"^ *[-\d]", text_of("tools", "gate.rows"), re.M)) == len(rows) else "name one thing twice"
     scripts = [path for path in glob.glob("tests/*/*.py", root_dir=TOP) if not path.startswith("tests/by_hand/")]
     for name in [*scripts, gate.MUTANTS]:
         yield name, None if name in gate.wanted() else "has no least count"
@@ -317,22 +276,6 @@ def quoted(page):
             yield re.search(r"^abbrev pub (\w+)", text, re.M)[1], None if text in specs else "isn't quoted as it stands"
 
 
-# A row of WRONG_BODIES.md begins with the edits that it is about.
-EDITS = re.compile(r"^\| ([a-z0-9_]+(?:, [a-z0-9_]+)*)(?::| \|)", re.M)
-
-
-def edits_named(page):
-    """Each wrong body that WRONG_BODIES.md names, and what is wrong with it, or None: it is an edit of a crate."""
-    there = {os.path.basename(path) for folder in ("mutants", "must-fail") for path in glob.glob(f"crates/*/{folder}/*.edit", root_dir=TOP)}
-    for row in EDITS.findall(page):
-        for edit in row.split(", "):
-            yield edit, None if f"{edit}.edit" in there else "no such edit"
-
-
-# The pages whose tables name clauses.
-OF_CLAUSES = tuple(os.path.join("docs", name) for name in ("PROMISES.md", "CRATES.md", "WRONG_BODIES.md"))
-
-
 def checks_of(tree, jobs, document):
     """What a document names, and what is wrong with each, or None."""
     page = text_of(document)
@@ -344,18 +287,13 @@ def checks_of(tree, jobs, document):
             yield link, None if stands else "leads nowhere"
     for script, words in COMMAND.findall(page):
         yield script + words, wrong_command(jobs, page, script, words.split())
-    if document == os.path.join("docs", "ARCHITECTURE.md"):
-        yield from missing_siblings(page)
-        yield from stray_siblings(page)
     if document == os.path.join("docs", "PROMISES.md"):
         yield from quoted(page)
-    if document == os.path.join("tests", "README.md"):
-        yield from missing_scripts(page)
-    if document == os.path.join("docs", "WRONG_BODIES.md"):
-        yield from edits_named(page)
-    if document in OF_CLAUSES:
+        yield from conditions(page)
         for clause in clauses_in(page):
             yield clause, None if clause in tree.clauses else "no such clause"
+    if document == os.path.join("tests", "README.md"):
+        yield from missing_scripts(page)
 
 
 def named(count):
@@ -365,7 +303,9 @@ def named(count):
     for what, fault, path in figures_twice(documents()):
         count.check(f"{path}: `{what}`", fault is None, fault)
     for what, fault in rows_of_gate(tree.crates):
-        count.check(f"docs/GATE.md: `{what}`", fault is None, fault)
+        count.check(f"tools/gate.rows: `{what}`", fault is None, fault)
+    for what, fault in things_to_add():
+        count.check(f"tools/to_add.py: `{what}`", fault is None, fault)
     for what, fault in strays():
         count.check(f"the top: `{what}`", fault is None, fault)
     for what, fault, path in pages.faults():

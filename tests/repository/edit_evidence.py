@@ -1,5 +1,5 @@
-"""Evidence of refusals: how an edit's functions are named, what a sum of an edit covers, which lines are believed, and
-which edits a commit draws.
+"""Evidence of refusals: how the files of edits are read, how an edit's functions are named, what a sum of an edit covers, which
+lines are believed, and which edits a commit draws.
 
 All is tried on a small repository that this makes; no edit is really checked here, but by a stand-in that knows which
 of them are harmless.
@@ -14,6 +14,7 @@ sys.dont_write_bytecode = True
 sys.path.insert(0, os.path.dirname(os.path.dirname(os.path.abspath(__file__))))
 import checks
 import edit_checks
+import edit_files
 import edits
 import evidence
 import mutants
@@ -69,14 +70,27 @@ pub fn half(a: u8) -> u8
     ),
     "crates/serf_high/proofs/Lemmas.antt": "pub doubled : ℕ\ndoubled = 2\n",
     "crates/serf_high/proofs/Others.antt": "pub halved : ℕ\nhalved = 1\n",
-    "crates/serf_high/mutants/adds_nothing.edit": "file: src/lib.rt\nold: add(a, a)\nnew: add(a, 0)\n",
-    "crates/serf_high/mutants/half_of_nothing.edit": (
-        "file: src/lib.rt\nturns: half\nold:     ensures half { result ≡ a }\nnew:     ensures half { result ≡ 0 }\n"
-    ),
-    "crates/serf_high/mutants/adds_by_steps.edit": (
-        "file: src/lib.rt\nold: add(a, a)\nnew: if a == 0 { 1 } else { add(a, a) }\n"
-        "twin: if a == 0 { add(a, a) } else { add(a, a) }\n"
-    ),
+    "crates/serf_high/mutants/lib.edits": """file: src/lib.rt
+
+edit: adds_nothing
+why: a number is doubled to itself
+old: add(a, a)
+new: add(a, 0)
+
+edit: half_of_nothing
+why: each number's half is said to be 0
+turns: half
+old:     ensures half { result ≡ a }
+new:     ensures half { result ≡ 0 }
+""",
+    "crates/serf_high/mutants/others.edits": """file: src/lib.rt
+
+edit: adds_by_steps
+why: 0 is doubled to 1
+old: add(a, a)
+new: if a == 0 { 1 } else { add(a, a) }
+twin: if a == 0 { add(a, a) } else { add(a, a) }
+""",
 }
 
 # What each change of a file does to the sum of the edit of `double`.
@@ -136,7 +150,7 @@ def sums(count, top):
         )
         write(top, path, text)
     twin = sum_of(top, "adds_by_steps")
-    path = "crates/serf_high/mutants/adds_by_steps.edit"
+    path = "crates/serf_high/mutants/others.edits"
     write(top, path, FILES[path].replace("twin: if a == 0 { add(a, a)", "twin: if a == 0 { add(0, a)"))
     count.check("its twin", sum_of(top, "adds_by_steps") != twin)
     write(top, path, FILES[path])
@@ -312,6 +326,44 @@ def function_names(count, top):
     os.remove(os.path.join(top, path))
 
 
+# Files of edits that can't be read, each with a part of what is said of it.
+UNREAD = [
+    ("a text before any edit", "file: src/lib.rt\nold: a\nnew: b\n", "before any 'edit:' line"),
+    ("a text of no file", "edit: one\nwhy: it is\nold: a\nnew: b\n", "before any 'file:' or 'old:' line"),
+    ("a twin of nothing", "file: src/lib.rt\nedit: one\nwhy: it is\ntwin: a\n", "before any 'new:' line"),
+    ("an old text alone", "file: src/lib.rt\nedit: one\nwhy: it is\nold: a\n", "no 'new:' line"),
+    ("an edit without words", "file: src/lib.rt\nedit: one\nold: a\nnew: b\n", "no line 'why:'"),
+    ("a line of no kind", "file: src/lib.rt\nedit: one\nwhy: it is\nolt: a\n", "no line of an edit"),
+]
+
+
+def files(count, top):
+    """What a file says of its edits, and files that can't be read."""
+    folder = os.path.join(top, "crates", "serf_high", "mutants")
+    found = {it.name: it for it in edit_files.written_in(folder)}
+    count.check("the edits of all files, by name", list(found) == ["adds_by_steps", "adds_nothing", "half_of_nothing"], list(found))
+    count.check("what an edit does", found["adds_by_steps"].why == "0 is doubled to 1")
+    count.check("the functions that it names", [it.turns for it in found.values()] == [[], [], ["half"]])
+    count.check("a text with spaces before it", found["half_of_nothing"].pairs[0][2] == "    ensures half { result ≡ 0 }")
+    several = edit_files.read("it", "file: a\nedit: one\nwhy: it is\nold: b\nnew:\ntwin: c\nold: d\nnew: e\nfile: f\nold: g\nnew: h\n")[0]
+    count.check("several texts", several.pairs == [("a", "b", ""), ("a", "d", "e"), ("f", "g", "h")] and several.twins == ["c", None, None], several.pairs)
+    for name, text, said in UNREAD:
+        count.check(name, said in unread(lambda text=text: edit_files.read("it", text)))
+    for name, text, said in (("one.edit", "", "end in .edits"), ("more.edits", FILES["crates/serf_high/mutants/others.edits"], "have this name")):
+        write(folder, name, text)
+        count.check(f"a file {name}", said in unread(lambda: edit_files.written_in(folder)))
+        os.remove(os.path.join(folder, name))
+
+
+def unread(call):
+    """Why edits can't be read, or an empty text where they can."""
+    try:
+        call()
+    except edit_files.BadEdit as why:
+        return str(why)
+    return ""
+
+
 def words(count):
     """A word that tools/mutants.py doesn't know is told, and nothing is tried."""
     tool = os.path.join(checks.TOP, "tools", "mutants.py")
@@ -323,6 +375,7 @@ def words(count):
 def of_edits(count):
     with tempfile.TemporaryDirectory(prefix="evidence-") as room:
         repository(room)
+        files(count, room)
         function_names(count, room)
         sums(count, room)
         kinds(count)

@@ -1,48 +1,42 @@
 """The wrong bodies of failure exits: two at least for each function that C calls, and for each step of a store.
 
-docs/WRONG_BODIES.md has a table of each. A row names edits of crates/CRATE/mutants, and of a store's step also faults
-that tests/library/power_cuts plants. Each edit has to stand, and to turn the function of its row or one that this calls,
-in turn. Where tests/refused has a line of it as it stands, that isn't `open`. The rows of the bindings' stores, and those of
-the file beneath `FileStore`, are what tests/library/store_faults plants, each with the check that finds it.
+tests/repository/exits.rows has a line of each. It names edits of crates/CRATE/mutants, and of a store's step also faults that
+tests/library/power_cuts plants. Each edit has to stand, and to turn the function of its line or one that this calls, in turn.
+Where tests/refused has a line of it as it stands, that isn't `open`. Of the bindings' stores, and of the file beneath
+`FileStore`, each step has two wrong bodies that tests/library/store_faults plants, each with the check that finds it.
 """
 
 import os
 import re
+import subprocess
 import sys
 
 sys.dont_write_bytecode = True
 sys.path.insert(0, os.path.dirname(os.path.dirname(os.path.abspath(__file__))))
 import checks
 import edits
+import pages
 import reach
 
 sys.path[:0] = [os.path.join(checks.TOP, "tests", "library", name) for name in ("power_cuts", "store_faults")]
 import faults
 import planted
 
-PAGE = checks.text_of("docs", "WRONG_BODIES.md")
+ROWS = checks.text_of("tests", "repository", "exits.rows")
 
-# A row: what C calls, or where a step is made, in backticks; and the wrong bodies.
-ROW = re.compile(r"^\| (?P<step>[^|]*?)`(?P<function>[\w:]+)` \| (?P<bodies>[^|]+?) \|$", re.M)
+# A line: what it is of, a function, and the wrong bodies.
+ROW = re.compile(r"^(?:(?P<step>[^=#\n]*): )?(?P<function>[\w:]+) = (?P<bodies>.+)$", re.M)
 
 EXPORT = re.compile(r'^pub extern "C" fn (\w+)', re.M)
 CALLED = re.compile(r"\b(\w+)\(")
 PLANTED = "planted: "
-OF_BINDINGS = "The same steps in the bindings' stores"
-OF_SYSTEM_FILE = "The same steps in the file beneath `FileStore`"
-
 LEAST = 2
 
 
-def part_of(title):
-    """What stands below a title of the page."""
-    return PAGE.partition(f"\n## {title}\n")[2].partition("\n## ")[0]
-
-
-def rows_of(title):
-    """The rows below a title of the page: what each is of, its function, and its wrong bodies."""
-    part = part_of(title)
-    return [(row["step"].strip(" :,"), row["function"], row["bodies"].split(", ")) for row in ROW.finditer(part)]
+def rows_of(crate):
+    """The lines of a crate: what each is of, its function, and its wrong bodies."""
+    part = ROWS.partition(f"\n[{crate}]\n")[2].partition("\n[")[0]
+    return [(row["step"] or "", row["function"], row["bodies"].split(", ")) for row in ROW.finditer(part)]
 
 
 def functions_of(crate):
@@ -87,11 +81,11 @@ def wrong_body(name, own, reached, unshown):
     return "its evidence says `open`" if name in unshown else None
 
 
-def rows(count, crate, title):
-    """The rows of a table, and each wrong body in them. Gives the functions that have a row."""
+def rows(count, crate):
+    """The lines of a crate, and each wrong body in them. Gives the functions that have a line."""
     own = {edit.name: edit for edit in edits.edits_of(crate)}
     functions, unshown, found = functions_of(crate), open_of(crate, own), set()
-    for step, function, bodies in rows_of(title):
+    for step, function, bodies in rows_of(crate):
         reached = reached_from(function, functions)
         count.check(f"{function} stands in {crate}", reached)
         faulty = {name: wrong_body(name, own, reached, unshown) for name in bodies}
@@ -102,38 +96,42 @@ def rows(count, crate, title):
     return found
 
 
-def row_of(step, own, is_cut):
-    """The row of a step: what is planted, and the check that finds it; and what a power cut finds, where it is cut too."""
-    bodies = [f"{fault.what} (`{fault.part}`, \"{fault.check}\")" for fault in own]
-    if is_cut and step in planted.OF_POWER_CUTS:
-        bodies.append(f"{faults.FAULTS[planted.OF_POWER_CUTS[step]]} (a power cut)")
-    return f"| {step} | {'; '.join(bodies)} |", len(bodies)
-
-
-def planted_rows(count, title, of_faults, is_cut):
-    """The rows below a title are of what is planted, no more and no less."""
-    stands = [line for line in part_of(title).splitlines() if line.startswith("| ")][1:]
-    wanted = dict(row_of(step, own, is_cut) for step, own in planted.steps(of_faults).items())
-    for row, bodies in wanted.items():
-        count.check(f"{title}: a row, with at least {LEAST}", row in stands and bodies >= LEAST, row)
-    count.check(f"{title}: no other row", len(stands) == len(wanted), set(stands) - set(wanted))
+def planted_steps(count, what, of_faults, is_cut):
+    """Each step has two wrong bodies that are planted, one of which a power cut may find."""
+    for step, own in planted.steps(of_faults).items():
+        bodies = [fault.what for fault in own] + [cut for of_step, cut in planted.OF_POWER_CUTS.items() if is_cut and of_step == step]
+        count.check(f"{what}: {step}: at least {LEAST}", len(set(bodies)) >= LEAST, bodies)
+        count.check(f"{what}: {step}: each has its check", all(fault.part and fault.check for fault in own), own)
 
 
 def bindings(count):
-    planted_rows(count, OF_BINDINGS, planted.FAULTS, True)
+    planted_steps(count, "the bindings' stores", planted.FAULTS, True)
 
 
 def system_file(count):
-    planted_rows(count, OF_SYSTEM_FILE, planted.FILE_FAULTS, False)
+    planted_steps(count, "the file beneath `FileStore`", planted.FILE_FAULTS, False)
 
 
 def exits(count):
     texts = [edits.text_of("serf_agent_c", file) for file in edits.source_files("serf_agent_c")]
     exports = {name for text in texts for name in EXPORT.findall(text)}
-    named = rows(count, "serf_agent_c", "The failure exits of the C exports")
+    named = rows(count, "serf_agent_c")
     count.check("each function that C calls has a row", named == exports, named ^ exports)
-    count.check("steps of a store", len(rows(count, "serf_store", "The steps of the stores")) >= 5)
+    count.check("steps of a store", len(rows(count, "serf_store")) >= 5)
+
+
+def printed(count):
+    """The command of docs/WRONG_BODIES.md prints each wrong body that stands, and those of one crate by its name."""
+    stand = {crate: [edit.name for edit in edits.edits_of(crate)] for crate in sorted(os.listdir(os.path.join(checks.TOP, "crates")))}
+    for command in pages.of(pages.EXITS):
+        run = lambda *words: subprocess.run([os.path.join(checks.TOP, command.text), *words], capture_output=True, text=True)
+        for words, wanted in (((), stand), (("serf_window",), {"serf_window": stand["serf_window"]})):
+            ran = run(*words)
+            names = re.findall(r"^  (\w+)(?::| \()", ran.stdout.partition("the stores of C")[0], re.M)
+            count.check(command.name(), ran.returncode == 0 and names == [name for own in wanted.values() for name in own], ran.stderr)
+        count.check(f"{command.name()}: what a wrong body does", "  compares_time_alone: a second event of a time is dropped (window::verdict_in; " in run("serf_window").stdout)
+        count.check(f"{command.name()}: no such crate", run("serf_none").returncode == 2)
 
 
 if __name__ == "__main__":
-    sys.exit(checks.run(exits, bindings, system_file))
+    sys.exit(checks.run(exits, bindings, system_file, printed))

@@ -1,5 +1,6 @@
-"""./release: from a green gate alone, the same bytes twice, and each file with its hash."""
+"""./release: from a green gate alone, the same bytes twice, and each file with its hash. The agent is built in both, and starts."""
 
+import filecmp
 import hashlib
 import os
 import re
@@ -19,6 +20,8 @@ from checks import TOP
 # What stands for the program and the library here: the gate's own are not looked into.
 PROGRAM = "#!/bin/sh\necho serf-replay 9.8.7\n"
 NAME = "serf-replay-9.8.7-x86_64-linux"
+VERSION = re.search(r'^const Version = "([0-9.]+)"', checks.text_of("agent", "internal", "config", "config.go"), re.M)[1]
+PACKAGE = f"kitchenrue-agent_{VERSION}_amd64.deb"
 
 # What of the repository is copied: what ./release reads, and itself.
 PARTS = [
@@ -118,15 +121,28 @@ def unmade(count, top, root):
 
 
 def twice_the_same(count, top, root):
-    texts = []
     for name in ("one", "two"):
         status, said = release(top, os.path.join(root, name))
         count.check(f"release {name}", status == 0, said)
-        with open(os.path.join(root, name, f"{NAME}.tar.gz"), "rb") as file:
-            texts.append(file.read())
-    count.check("twice the same bytes", texts[0] == texts[1])
-    with open(os.path.join(root, "one", f"{NAME}.tar.gz.sha256"), encoding="utf-8") as file:
-        count.check("its hash", file.read().split() == [hashlib.sha256(texts[0]).hexdigest(), f"{NAME}.tar.gz"])
+    for name in (f"{NAME}.tar.gz", PACKAGE):
+        texts = []
+        for folder in ("one", "two"):
+            with open(os.path.join(root, folder, name), "rb") as file:
+                texts.append(file.read())
+        count.check(f"{name}: twice the same bytes", texts[0] == texts[1])
+        with open(os.path.join(root, "one", f"{name}.sha256"), encoding="utf-8") as file:
+            count.check(f"{name}: its hash", file.read().split() == [hashlib.sha256(texts[0]).hexdigest(), name])
+
+
+def packed_agent(count, root):
+    """The package has the archive's program, which says its version."""
+    unpacked, built = os.path.join(root, "package"), os.path.join(root, "unpacked", NAME, "bin", "kitchenrue-agent")
+    done = subprocess.run(["dpkg-deb", "-x", os.path.join(root, "one", PACKAGE), unpacked], capture_output=True, text=True)
+    count.check("the package can be unpacked", done.returncode == 0, done.stderr)
+    own = os.path.join(unpacked, "usr", "bin", "kitchenrue-agent")
+    count.check("its program is the archive's", os.access(own, os.X_OK) and filecmp.cmp(own, built, shallow=False))
+    said = subprocess.run([built, "-version"], capture_output=True, text=True)
+    count.check("it says its version", said.returncode == 0 and said.stdout.startswith(f"kitchenrue-agent {VERSION}\n"), said)
 
 
 def unpacked(count, root):
@@ -139,6 +155,7 @@ def unpacked(count, root):
         "README.md",
         "LICENSE",
         "bin/serf-replay",
+        "bin/kitchenrue-agent",
         "lib/libserf_agent_c.a",
         "docs/COMMANDS.md",
         "docs/serf-replay.1",
@@ -175,8 +192,13 @@ def archives(count):
         top = clone(root)
         refused(count, top, root)
         unmade(count, top, root)
+        lacks = [name for name in ("go", "dpkg-deb") if shutil.which(name) is None]
+        if lacks:
+            print(f"not run: what a release has, since {lacks[0]} is not on PATH")
+            return
         twice_the_same(count, top, root)
         unpacked(count, root)
+        packed_agent(count, root)
 
 
 if __name__ == "__main__":

@@ -92,7 +92,7 @@ func (a *App) pump(events <-chan serf.Event) {
 		select {
 		case e := <-events:
 			a.waitForRoom()
-			a.log.Printf("[INFO] agent: Received event: %s", e)
+			a.log.Often("[INFO] agent: Received event: %s", e)
 			a.runner.Add(e)
 			if server := a.server.Load(); server != nil {
 				server.Publish(e)

@@ -1,7 +1,6 @@
 package app
 
 import (
-	"bytes"
 	"context"
 	"encoding/json"
 	"errors"
@@ -13,73 +12,31 @@ import (
 	"path/filepath"
 	"reflect"
 	"strings"
-	"sync"
 	"syscall"
 	"testing"
 	"time"
 
 	"kitchenrue.example/agent/internal/config"
 	"kitchenrue.example/agent/internal/logs"
+	"kitchenrue.example/agent/internal/testkit"
 	"kitchenrue.example/serf"
 	"kitchenrue.example/serfagent"
 )
 
-// said is what a program said. Many may write.
-type said struct {
-	mu   sync.Mutex
-	text bytes.Buffer
-}
-
-func (s *said) Write(data []byte) (int, error) {
-	s.mu.Lock()
-	defer s.mu.Unlock()
-	return s.text.Write(data)
-}
-
-func (s *said) String() string {
-	s.mu.Lock()
-	defer s.mu.Unlock()
-	return s.text.String()
-}
-
 // conf is an agent's configuration on loopback, with what these words say.
 func conf(t *testing.T, words ...string) config.Config {
 	t.Helper()
-	found, err := config.Parse(append([]string{"-node", "a", "-bind", "127.0.0.1:0", "-rpc-addr", "127.0.0.1:0", "-log-level", "debug", "-profile", "local"}, words...), &said{})
-	if err != nil {
-		t.Fatal(err)
-	}
+	found, err := config.Parse(append([]string{"-node", "a", "-bind", "127.0.0.1:0", "-rpc-addr", "127.0.0.1:0", "-log-level", "debug", "-profile", "local"}, words...), &testkit.Said{})
+	testkit.Must(t, err)
 	return found
 }
 
-func start(t *testing.T, words ...string) (*App, *said) {
+func start(t *testing.T, words ...string) (*App, *testkit.Said) {
 	t.Helper()
-	out := &said{}
+	out := &testkit.Said{}
 	a, err := Start(conf(t, words...), out)
-	if err != nil {
-		t.Fatal(err)
-	}
+	testkit.Must(t, err)
 	return a, out
-}
-
-func read(t *testing.T, path string) string {
-	t.Helper()
-	data, err := os.ReadFile(path)
-	if err != nil {
-		t.Fatal(err)
-	}
-	return string(data)
-}
-
-func eventually(t *testing.T, what string, holds func() bool) {
-	t.Helper()
-	for i := 0; i < 12000; i++ {
-		if holds() {
-			return
-		}
-		time.Sleep(10 * time.Millisecond)
-	}
-	t.Fatalf("never: %s", what)
 }
 
 func TestALife(t *testing.T) {
@@ -87,40 +44,28 @@ func TestALife(t *testing.T) {
 	handled, tags := filepath.Join(folder, "handled"), filepath.Join(folder, "tags")
 	words := []string{"-snapshot", filepath.Join(folder, "snapshot"), "-tags-file", tags, "-event-handler", "user=(echo $SERF_TAG_SIZE $SERF_USER_LTIME; cat) >> " + handled}
 	a, _ := start(t, words...)
-	if err := a.UpdateTags(map[string]string{"size": "big", "x": "y"}, []string{"x", "none"}); err != nil {
-		t.Fatal(err)
-	}
+	testkit.Must(t, a.UpdateTags(map[string]string{"size": "big", "x": "y"}, []string{"x", "none"}))
 	if err := a.UpdateTags(map[string]string{"size": strings.Repeat("x", 600)}, nil); err == nil {
 		t.Error("too long")
 	}
-	if err := a.Fire("deploy", []byte("v1"), false); err != nil {
-		t.Fatal(err)
-	}
-	if err := a.Fire("deploy", []byte("v2"), true); err != nil {
-		t.Fatal(err)
-	}
+	testkit.Must(t, a.Fire("deploy", []byte("v1"), false))
+	testkit.Must(t, a.Fire("deploy", []byte("v2"), true))
 	if stats := a.Stats(); stats["serf"]["event_time"] != "3" || stats["tags"]["size"] != "big" || stats["event_handlers"]["user:"] == "" {
 		t.Error(stats)
 	}
 	// (what waits to be coalesced goes on at the end)
-	if err := a.Close(); err != nil {
-		t.Error(err)
-	}
-	if text := read(t, handled); text != "big 1\nv1\nbig 2\nv2\n" {
+	testkit.Check(t, a.Close())
+	if text := testkit.Read(t, handled); text != "big 1\nv1\nbig 2\nv2\n" {
 		t.Errorf("%q", text)
 	}
 	var kept map[string]string
-	if err := json.Unmarshal([]byte(read(t, tags)), &kept); err != nil || !reflect.DeepEqual(kept, map[string]string{"size": "big"}) {
+	if err := json.Unmarshal([]byte(testkit.Read(t, tags)), &kept); err != nil || !reflect.DeepEqual(kept, map[string]string{"size": "big"}) {
 		t.Error(kept, err)
 	}
 	again, _ := start(t, words...)
-	if err := again.Fire("deploy", []byte("v3"), false); err != nil {
-		t.Fatal(err)
-	}
-	if err := again.Close(); err != nil {
-		t.Error(err)
-	}
-	if text := read(t, handled); !strings.HasSuffix(text, "big 3\nv3\n") {
+	testkit.Must(t, again.Fire("deploy", []byte("v3"), false))
+	testkit.Check(t, again.Close())
+	if text := testkit.Read(t, handled); !strings.HasSuffix(text, "big 3\nv3\n") {
 		t.Errorf("the clock went on: %q", text)
 	}
 }
@@ -128,20 +73,14 @@ func TestALife(t *testing.T) {
 func TestStartsThatFail(t *testing.T) {
 	folder := t.TempDir()
 	file := filepath.Join(folder, "file")
-	if err := os.WriteFile(file, []byte("no JSON"), 0o600); err != nil {
-		t.Fatal(err)
-	}
+	testkit.Write(t, file, "no JSON")
 	taken, err := net.Listen("tcp", "127.0.0.1:0")
-	if err != nil {
-		t.Fatal(err)
-	}
+	testkit.Must(t, err)
 	defer taken.Close()
 	in := func(name string) string { return filepath.Join(folder, name) }
 	first, _ := start(t, "-snapshot", in("locked"), "-record", in("recorded"))
 	defer first.Close()
-	if err := syscall.Mkfifo(in("pipe"), 0o600); err != nil {
-		t.Fatal(err)
-	}
+	testkit.Must(t, syscall.Mkfifo(in("pipe"), 0o600))
 	missing := in("none/none")
 	for _, one := range []struct{ words, says string }{
 		{"-event-handler foo=bar", "no event"},
@@ -171,7 +110,7 @@ func TestStartsThatFail(t *testing.T) {
 		{"-keyring-file " + missing, "no such file"},
 		{"-keyring-file /sys/none -encrypt cg8StVXbQJ0gPvMd9o7yrg==", "permission denied"},
 	} {
-		out := &said{}
+		out := &testkit.Said{}
 		a, err := Start(conf(t, strings.Fields(one.words)...), out)
 		if err == nil {
 			a.Close()
@@ -180,7 +119,7 @@ func TestStartsThatFail(t *testing.T) {
 			t.Errorf("%s: %v", one.words, err)
 		}
 	}
-	if _, err := Start(conf(t, "-snapshot", filepath.Join(folder, "locked")), &said{}); !errors.Is(err, serfagent.ErrLocked) {
+	if _, err := Start(conf(t, "-snapshot", filepath.Join(folder, "locked")), &testkit.Said{}); !errors.Is(err, serfagent.ErrLocked) {
 		t.Error(err)
 	}
 }
@@ -188,17 +127,11 @@ func TestStartsThatFail(t *testing.T) {
 // What can't be kept isn't taken.
 func TestTagsThatCannotBeKept(t *testing.T) {
 	folder := filepath.Join(t.TempDir(), "folder")
-	if err := os.Mkdir(folder, 0o700); err != nil {
-		t.Fatal(err)
-	}
+	testkit.Must(t, os.Mkdir(folder, 0o700))
 	a, _ := start(t, "-tags-file", filepath.Join(folder, "tags"))
 	defer a.Close()
-	if err := a.UpdateTags(map[string]string{"size": "big"}, nil); err != nil {
-		t.Error(err)
-	}
-	if err := os.RemoveAll(folder); err != nil {
-		t.Fatal(err)
-	}
+	testkit.Check(t, a.UpdateTags(map[string]string{"size": "big"}, nil))
+	testkit.Must(t, os.RemoveAll(folder))
 	if err := a.UpdateTags(map[string]string{"size": "small"}, nil); err == nil || !strings.Contains(err.Error(), "-tags-file") {
 		t.Error(err)
 	}
@@ -210,9 +143,7 @@ func TestTagsThatCannotBeKept(t *testing.T) {
 func TestReloading(t *testing.T) {
 	handled := filepath.Join(t.TempDir(), "handled")
 	a, out := start(t, "-event-handler", "user=echo one >> "+handled)
-	if err := a.Reload(conf(t, "-event-handler", "user=echo two >> "+handled, "-tag", "k=v", "-log-level", "err")); err != nil {
-		t.Fatal(err)
-	}
+	testkit.Must(t, a.Reload(conf(t, "-event-handler", "user=echo two >> "+handled, "-tag", "k=v", "-log-level", "err")))
 	if !reflect.DeepEqual(a.tags.all(), map[string]string{"k": "v"}) {
 		t.Error(a.tags.all())
 	}
@@ -220,14 +151,10 @@ func TestReloading(t *testing.T) {
 	if err := a.Reload(conf(t, "-event-handler", "foo=bar")); err == nil {
 		t.Error("it has no such event")
 	}
-	if err := a.Fire("x", nil, false); err != nil {
-		t.Fatal(err)
-	}
-	if err := a.Close(); err != nil {
-		t.Error(err)
-	}
-	if read(t, handled) != "two\n" || strings.Contains(out.String()[len(before):], "INFO") {
-		t.Error(read(t, handled), out)
+	testkit.Must(t, a.Fire("x", nil, false))
+	testkit.Check(t, a.Close())
+	if testkit.Read(t, handled) != "two\n" || strings.Contains(out.String()[len(before):], "INFO") {
+		t.Error(testkit.Read(t, handled), out)
 	}
 }
 
@@ -236,28 +163,20 @@ func TestJoining(t *testing.T) {
 	defer a.Close()
 	where := a.node.Memberlist().LocalNode().Address()
 	b, out := start(t, "-node", "b", "-retry-join", where, "-retry-interval", "10ms")
-	if err := b.JoinAtStart(context.Background()); err != nil {
-		t.Fatal(err)
-	}
-	eventually(t, "both are there", func() bool { return len(a.Members()) == 2 && len(b.Members()) == 2 })
-	eventually(t, "it says so", func() bool { return strings.Contains(out.String(), "Join completed") })
+	testkit.Must(t, b.JoinAtStart(context.Background()))
+	testkit.Eventually(t, "both are there", func() bool { return len(a.Members()) == 2 && len(b.Members()) == 2 })
+	testkit.Eventually(t, "it says so", func() bool { return strings.Contains(out.String(), "Join completed") })
 	if count, err := b.Join([]string{where}, true); count != 1 || err != nil {
 		t.Error(count, err)
 	}
-	if err := b.Leave(); err != nil {
-		t.Error(err)
-	}
+	testkit.Check(t, b.Leave())
 	if _, err := b.Join([]string{where}, true); err == nil {
 		t.Error("it left")
 	}
-	if err := b.Close(); err != nil {
-		t.Error(err)
-	}
+	testkit.Check(t, b.Close())
 	c, _ := start(t, "-node", "c", "-retry-join", "127.0.0.1:1", "-retry-interval", "10ms", "-retry-max", "2")
 	defer c.Close()
-	if err := c.JoinAtStart(context.Background()); err != nil {
-		t.Fatal(err)
-	}
+	testkit.Must(t, c.JoinAtStart(context.Background()))
 	if err := <-c.ends; err == nil || !strings.Contains(err.Error(), "in 3 tries") {
 		t.Error(err)
 	}
@@ -277,9 +196,7 @@ func TestJoining(t *testing.T) {
 // A name is looked up once, at the start, and nothing listens at all of the machine's addresses: another one has its port left.
 func TestNamedAddresses(t *testing.T) {
 	free, err := net.Listen("tcp4", "127.0.0.1:0")
-	if err != nil {
-		t.Fatal(err)
-	}
+	testkit.Must(t, err)
 	port := free.Addr().(*net.TCPAddr).Port
 	free.Close()
 	a, _ := start(t, "-bind", fmt.Sprint("localhost:", port), "-rpc-addr", "localhost:0", "-advertise", "localhost:7999")
@@ -289,18 +206,14 @@ func TestNamedAddresses(t *testing.T) {
 		t.Error(own.Addr, own.Port, a.server.Load().Addr())
 	}
 	other, err := net.ListenPacket("udp4", fmt.Sprint("127.0.0.2:", port))
-	if err != nil {
-		t.Fatal(err)
-	}
+	testkit.Must(t, err)
 	other.Close()
 }
 
-// Files whose clocks are far are told at the start.
+// Files whose clocks are far are told at the start. (The first clock is what a flood may leave.)
 func TestFarClocksAreTold(t *testing.T) {
 	path := filepath.Join(t.TempDir(), "snapshot")
-	if err := os.WriteFile(path, []byte("clock: 7\nevent-clock: 18446744073709551614\nquery-clock: 9223372036854775807\n"), 0o600); err != nil {
-		t.Fatal(err)
-	}
+	testkit.Write(t, path, "clock: 4611686018427387904\nevent-clock: 18446744073709551614\nquery-clock: 9223372036854775807\n")
 	a, out := start(t, "-snapshot", path)
 	defer a.Close()
 	for _, says := range []string{"event-clock stands at 18446744073709551615", "query-clock stands at 9223372036854775808"} {
@@ -315,9 +228,7 @@ func TestFarClocksAreTold(t *testing.T) {
 
 func TestMainsStatuses(t *testing.T) {
 	faulty := filepath.Join(t.TempDir(), "faulty.json")
-	if err := os.WriteFile(faulty, []byte(`{"enable_syslog": true, "syslog_facility": "local9"}`), 0o600); err != nil {
-		t.Fatal(err)
-	}
+	testkit.Write(t, faulty, `{"enable_syslog": true, "syslog_facility": "local9"}`)
 	for _, one := range []struct {
 		words  string
 		status int
@@ -330,7 +241,7 @@ func TestMainsStatuses(t *testing.T) {
 		{"-node a -bind 127.0.0.1:0 -rpc-addr 127.0.0.1:0 -config-file " + faulty, 1, "", "kitchenrue-agent: -syslog: syslog has no facility \"local9\"\n"},
 		{"-node a -bind 127.0.0.1:0 -rpc-addr 127.0.0.1:0 -join 127.0.0.1:1", 1, "", "connection refused"},
 	} {
-		var out, errs said
+		var out, errs testkit.Said
 		if status := Main(strings.Fields(one.words), &out, &errs); status != one.status {
 			t.Errorf("%s: %d", one.words, status)
 		}
@@ -343,19 +254,17 @@ func TestMainsStatuses(t *testing.T) {
 // The page for Prometheus has the agent's own figures, and what the node counts.
 func TestMainsMetrics(t *testing.T) {
 	free, err := net.Listen("tcp", "127.0.0.1:0")
-	if err != nil {
-		t.Fatal(err)
-	}
+	testkit.Must(t, err)
 	at := free.Addr().String()
 	free.Close()
-	var out, errs said
+	var out, errs testkit.Said
 	ended := make(chan int, 1)
 	go func() {
 		ended <- Main([]string{"-node", "a", "-bind", "127.0.0.1:0", "-rpc-addr", "127.0.0.1:0", "-prometheus-addr", at}, &out, &errs)
 	}()
-	eventually(t, "it runs", func() bool { return strings.Contains(out.String(), "Log data will now stream") })
+	testkit.Eventually(t, "it runs", func() bool { return strings.Contains(out.String(), "Log data will now stream") })
 	for _, what := range []string{"\nserf_members 1\n", "\nagent_handlers_waiting 0\n", "\nserf_member_join 1\n", "\nserf_dropped_far 0\n"} {
-		eventually(t, what, func() bool {
+		testkit.Eventually(t, what, func() bool {
 			answer, err := http.Get("http://" + at + "/metrics")
 			if err != nil {
 				return false
@@ -365,9 +274,7 @@ func TestMainsMetrics(t *testing.T) {
 			return err == nil && strings.Contains(string(text), what)
 		})
 	}
-	if err := syscall.Kill(os.Getpid(), syscall.SIGTERM); err != nil {
-		t.Fatal(err)
-	}
+	testkit.Must(t, syscall.Kill(os.Getpid(), syscall.SIGTERM))
 	if status := <-ended; status != 1 || errs.String() != "" {
 		t.Error(status, errs.String())
 	}
@@ -386,7 +293,7 @@ func TestMainsSignals(t *testing.T) {
 		{syscall.SIGTERM, []string{"-snapshot"}, 3, "Shutdown without a Leave", "kitchenrue-agent: the snapshot was changed from outside: "},
 		{syscall.SIGINT, []string{"-snapshot"}, 3, "graceful leave", "isn't there any more\n"},
 	} {
-		var out, errs said
+		var out, errs testkit.Said
 		ended := make(chan int, 1)
 		path := filepath.Join(t.TempDir(), "snapshot")
 		words := append([]string{"-node", "a", "-bind", "127.0.0.1:0", "-rpc-addr", "127.0.0.1:0"}, one.words...)
@@ -396,18 +303,14 @@ func TestMainsSignals(t *testing.T) {
 		go func() {
 			ended <- Main(words, &out, &errs)
 		}()
-		eventually(t, "it runs", func() bool { return strings.Contains(out.String(), "Log data will now stream") })
+		testkit.Eventually(t, "it runs", func() bool { return strings.Contains(out.String(), "Log data will now stream") })
 		if one.words != nil {
-			if err := os.Remove(path); err != nil {
-				t.Fatal(err)
-			}
+			testkit.Must(t, os.Remove(path))
 		}
 		for _, signal := range []syscall.Signal{syscall.SIGHUP, one.signal} {
-			if err := syscall.Kill(os.Getpid(), signal); err != nil {
-				t.Fatal(err)
-			}
+			testkit.Must(t, syscall.Kill(os.Getpid(), signal))
 			name := fmt.Sprint("==> Caught signal: ", signal)
-			eventually(t, name, func() bool { return strings.Contains(out.String(), name) })
+			testkit.Eventually(t, name, func() bool { return strings.Contains(out.String(), name) })
 		}
 		select {
 		case status := <-ended:
@@ -426,7 +329,7 @@ func TestLimitsOfTheNode(t *testing.T) {
 	conf.UserEventSizeLimit, conf.QuerySizeLimit, conf.QueryResponseSizeLimit = 700, 2000, 3000
 	conf.Protocol, conf.DisableCoordinates, conf.DisableNameResolution, conf.KeepEventsSize = 4, true, true, 1<<20
 	conf.MaxMembers = 77
-	a := &App{config: conf, tags: &tags{}, log: logs.New(&said{}, logs.Trace)}
+	a := &App{config: conf, tags: &tags{}, log: logs.New(&testkit.Said{}, logs.Trace)}
 	found, _, err := a.nodeConfig(nil)
 	if err != nil || found.UserEventSizeLimit != 700 || found.QuerySizeLimit != 2000 || found.QueryResponseSizeLimit != 3000 || found.KeepEvents {
 		t.Errorf("%+v %v", found, err)

@@ -17,7 +17,7 @@ var _ rpc.Backend = &App{}
 
 // Fire fires an event.
 func (a *App) Fire(name string, payload []byte, coalesce bool) error {
-	a.log.Printf("[DEBUG] agent: Requesting user event send: %s. Coalesced: %t. Payload: %q", name, coalesce, payload)
+	a.log.Often("[DEBUG] agent: Requesting user event send: %s. Coalesced: %t. Payload: %q", name, coalesce, payload)
 	return a.node.UserEvent(name, payload, coalesce)
 }
 

@@ -6,6 +6,8 @@ import (
 	"path/filepath"
 	"strings"
 	"testing"
+
+	"kitchenrue.example/agent/internal/testkit"
 )
 
 // restarted is a node b that handles events into a file, on one snapshot and at one address over all its lives.
@@ -37,16 +39,14 @@ func (b *restarted) start(where string) {
 	}
 	b.App, _ = start(b.t, words...)
 	b.where = b.node.Memberlist().LocalNode().Address()
-	if err := b.JoinAtStart(context.Background()); err != nil {
-		b.t.Fatal(err)
-	}
+	testkit.Must(b.t, b.JoinAtStart(context.Background()))
 }
 
 // has waits until the last event that was handled is this one, and gives all of them.
 func (b *restarted) has(last string) string {
 	b.t.Helper()
 	found := ""
-	eventually(b.t, last, func() bool {
+	testkit.Eventually(b.t, last, func() bool {
 		text, err := os.ReadFile(b.handled)
 		found = strings.Join(strings.Fields(string(text)), " ")
 		return err == nil && strings.HasSuffix(found, last)
@@ -56,9 +56,7 @@ func (b *restarted) has(last string) string {
 
 func fire(t *testing.T, a *App, payload string) {
 	t.Helper()
-	if err := a.Fire("x", []byte(payload), false); err != nil {
-		t.Fatal(err)
-	}
+	testkit.Must(t, a.Fire("x", []byte(payload), false))
 }
 
 // What came to the others while the agent was down is handled after its restart, where it keeps its events. The first join of its
@@ -74,9 +72,7 @@ func TestEventsOfAnAbsence(t *testing.T) {
 		b := startRestarted(t, where, one.words...)
 		fire(t, a, "present")
 		b.has("present")
-		if err := b.Close(); err != nil {
-			t.Error(err)
-		}
+		testkit.Check(t, b.Close())
 		fire(t, a, "missed")
 		b.start(where)
 		fire(t, a, "back")
@@ -102,12 +98,10 @@ func TestAnEventBelowTheLastLine(t *testing.T) {
 		fire(t, b.App, "own2")
 		b.has("own2")
 		for i := 0; i < 2; i++ {
-			if err := b.Close(); err != nil {
-				t.Error(err)
-			}
+			testkit.Check(t, b.Close())
 			b.start(where)
 		}
-		eventually(t, "a has heard of b", func() bool { return a.Stats()["serf"]["event_time"] != "2" })
+		testkit.Eventually(t, "a has heard of b", func() bool { return a.Stats()["serf"]["event_time"] != "2" })
 		fire(t, a, "late")
 		if found := b.has("late"); found != one.want {
 			t.Errorf("%s: %q", one.word, found)
@@ -124,9 +118,7 @@ func TestALifeThatGoesOn(t *testing.T) {
 	} {
 		path := filepath.Join(t.TempDir(), "snapshot")
 		for _, keeps := range []string{"-keep-events", "-keep-events=false"} {
-			if err := os.WriteFile(path, []byte(text), 0o600); err != nil {
-				t.Fatal(err)
-			}
+			testkit.Write(t, path, text)
 			b, _ := start(t, "-node", "b", "-snapshot", path, keeps)
 			if b.ignoresOld() == (want && keeps == "-keep-events") {
 				t.Errorf("%q, %s: %v", text, keeps, b.ignoresOld())

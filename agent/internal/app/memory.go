@@ -3,6 +3,7 @@ package app
 import (
 	"os"
 	"runtime/debug"
+	"runtime/metrics"
 	"time"
 )
 
@@ -10,10 +11,10 @@ import (
 // the events that the snapshot keeps. Without a limit a flood lets the heap grow to several times of what is in use. It is set anew each
 // so often, and GOMEMLIMIT stands in its place where it is there.
 const (
-	memoryBase   = 48 << 20
-	memoryMember = 16 << 10
+	memoryBase   = 16 << 20
+	memoryMember = 2 << 10
 	memoryKept   = 3
-	memoryTime   = 10 * time.Second
+	memoryTime   = time.Second
 )
 
 func (a *App) memoryLimit() int64 {
@@ -24,13 +25,32 @@ func (a *App) memoryLimit() int64 {
 	return limit
 }
 
+// By how many parts in a hundred the heap may grow before the collector runs: as Go has it, and where the process has more than the
+// limit. There the collector takes half of the processor at most, and a flood that goes on would grow the heap meanwhile. GOGC stands in
+// its place where it is there.
+const growth, growthAbove = 100, 40
+
+// growthAt is that number, beside a limit.
+func growthAt(limit int64) int {
+	has := []metrics.Sample{{Name: "/memory/classes/total:bytes"}, {Name: "/memory/classes/heap/released:bytes"}}
+	metrics.Read(has)
+	if int64(has[0].Value.Uint64()-has[1].Value.Uint64()) > limit {
+		return growthAbove
+	}
+	return growth
+}
+
 // limitMemory sets the collector's limit until the agent ends.
 func (a *App) limitMemory() {
 	if os.Getenv("GOMEMLIMIT") != "" {
 		return
 	}
 	for {
-		debug.SetMemoryLimit(a.memoryLimit())
+		limit := a.memoryLimit()
+		debug.SetMemoryLimit(limit)
+		if os.Getenv("GOGC") == "" {
+			debug.SetGCPercent(growthAt(limit))
+		}
 		select {
 		case <-a.ending:
 			return

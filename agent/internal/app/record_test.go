@@ -7,6 +7,7 @@ import (
 	"testing"
 	"time"
 
+	"kitchenrue.example/agent/internal/testkit"
 	"kitchenrue.example/serf"
 )
 
@@ -31,20 +32,16 @@ func TestRecords(t *testing.T) {
 	}
 	fire := func(from *App, payload string, all ...*App) {
 		t.Helper()
-		if err := from.Fire("deploy", []byte(payload), false); err != nil {
-			t.Fatal(err)
-		}
+		testkit.Must(t, from.Fire("deploy", []byte(payload), false))
 		clock := from.Stats()["serf"]["event_time"]
 		for _, one := range all {
-			eventually(t, payload+" comes", func() bool { return one.Stats()["serf"]["event_time"] == clock })
+			testkit.Eventually(t, payload+" comes", func() bool { return one.Stats()["serf"]["event_time"] == clock })
 		}
 	}
 	fire(a, "v1", b, c)
 	for _, tags := range []map[string]string{nil, {"role": "^[ab]$"}} {
 		asked, err := a.Query("load", nil, &serf.QueryParam{RequestAck: true, Timeout: time.Second, FilterTags: tags})
-		if err != nil {
-			t.Fatal(err)
-		}
+		testkit.Must(t, err)
 		answers := 0
 		for range asked.AckCh() {
 			answers++
@@ -57,20 +54,16 @@ func TestRecords(t *testing.T) {
 		}
 	}
 	address := c.node.Memberlist().LocalNode().Address()
-	if err := c.Close(); err != nil {
-		t.Error(err)
-	}
+	testkit.Check(t, c.Close())
 	fire(b, "v2", a)
 	c = begun("c", address)
-	eventually(t, "c has what it missed", func() bool { return c.Stats()["serf"]["event_time"] == "3" })
+	testkit.Eventually(t, "c has what it missed", func() bool { return c.Stats()["serf"]["event_time"] == "3" })
 	fire(a, "v3", b, c)
 	for _, one := range []*App{a, b, c} {
-		if err := one.Close(); err != nil {
-			t.Error(err)
-		}
+		testkit.Check(t, one.Close())
 	}
 	for name, lives := range map[string]int{"a": 1, "b": 1, "c": 2} {
-		if text := read(t, in(name+".record")); strings.Count(text, "\nopen ") != lives || strings.Count(text, "\nevent ") != 3 {
+		if text := testkit.Read(t, in(name+".record")); strings.Count(text, "\nopen ") != lives || strings.Count(text, "\nevent ") != 3 {
 			t.Error(name, text)
 		}
 	}

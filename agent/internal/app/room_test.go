@@ -9,6 +9,7 @@ import (
 	"time"
 
 	"kitchenrue.example/agent/internal/handlers"
+	"kitchenrue.example/agent/internal/testkit"
 	"kitchenrue.example/serf"
 )
 
@@ -16,13 +17,11 @@ import (
 func TestTheHandlersHaveNoRoom(t *testing.T) {
 	file := filepath.Join(t.TempDir(), "file")
 	scripts, err := handlers.ParseScripts([]string{"while [ ! -e " + file + " ]; do sleep 0.1; done"})
-	if err != nil {
-		t.Fatal(err)
-	}
+	testkit.Must(t, err)
 	a := &App{runner: handlers.New(log.New(io.Discard, "", 0), 0, scripts, func() handlers.Self { return handlers.Self{} }), ending: make(chan struct{})}
 	defer a.runner.Close(0)
 	a.runner.Add(serf.UserEvent{Name: "deploy"})
-	eventually(t, "a handler runs", func() bool { events, _ := a.runner.Waiting(); return events == 0 })
+	testkit.Eventually(t, "a handler runs", func() bool { events, _ := a.runner.Waiting(); return events == 0 })
 	for a.runner.HasRoom() {
 		a.runner.Add(serf.UserEvent{Name: "deploy"})
 	}
@@ -34,10 +33,8 @@ func TestTheHandlersHaveNoRoom(t *testing.T) {
 	case <-time.After(100 * time.Millisecond):
 	}
 	a.runner.SetScripts(nil)
-	if err := os.WriteFile(file, nil, 0o600); err != nil {
-		t.Fatal(err)
-	}
-	eventually(t, "they have room", func() bool { return isClosed(waited) })
+	testkit.Must(t, os.WriteFile(file, nil, 0o600))
+	testkit.Eventually(t, "they have room", func() bool { return isClosed(waited) })
 }
 
 func isClosed(waited <-chan struct{}) bool {

@@ -7,8 +7,8 @@ import (
 	"os"
 	"sync"
 
-	"kitchenrue.example/agent/internal/files"
 	"kitchenrue.example/serf"
+	"kitchenrue.example/serfagent"
 )
 
 // maxTagsFile is how many bytes a file of tags may have.
@@ -30,7 +30,7 @@ func openTags(path string, said map[string]string) (*tags, error) {
 	if path == "" {
 		return t, nil
 	}
-	data, err := files.Read(path, maxTagsFile)
+	data, err := serfagent.ReadFile(path, maxTagsFile)
 	if errors.Is(err, os.ErrNotExist) {
 		return t, nil
 	}
@@ -63,7 +63,7 @@ func (t *tags) change(made func(map[string]string) map[string]string, tell func(
 		if err != nil {
 			return err
 		}
-		if err := files.Write(t.path, data, 0o600); err != nil {
+		if err := serfagent.WriteFile(t.path, data, 0o600); err != nil {
 			return fmt.Errorf("-tags-file: %w", err)
 		}
 	}

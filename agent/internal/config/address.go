@@ -128,39 +128,28 @@ func (a Address) onInterface(name string) (Address, error) {
 
 // Resolve looks up the names in the addresses, once, at a start: from then on each is an IP with a port.
 func (c *Config) Resolve() error {
-	bind, err := resolved(c.Bind, BindPort)
-	if err != nil {
-		return fmt.Errorf("-bind: %w", err)
-	}
-	if c.Interface != "" {
-		if bind, err = bind.onInterface(c.Interface); err != nil {
-			return fmt.Errorf("-iface: %w", err)
+	for _, one := range []struct {
+		flag string
+		text *string
+		port int
+	}{{"-bind", &c.Bind, BindPort}, {"-advertise", &c.Advertise, BindPort}, {"-rpc-addr", &c.RPCAddr, RPCPort}, {"-prometheus-addr", &c.PrometheusAddr, PrometheusPort}} {
+		if *one.text == "" && (one.text == &c.Advertise || one.text == &c.PrometheusAddr) {
+			continue
 		}
-	}
-	c.Bind = bind.String()
-	if c.Advertise != "" {
-		advertise, err := resolved(c.Advertise, BindPort)
-		if err == nil && net.ParseIP(advertise.Host).IsUnspecified() {
-			err = fmt.Errorf("%s is no address at which others find this node", advertise.Host)
+		found, err := resolved(*one.text, one.port)
+		if err == nil && one.text == &c.Advertise && net.ParseIP(found.Host).IsUnspecified() {
+			err = fmt.Errorf("%s is no address at which others find this node", found.Host)
 		}
 		if err != nil {
-			return fmt.Errorf("-advertise: %w", err)
+			return fmt.Errorf("%s: %w", one.flag, err)
 		}
-		c.Advertise = advertise.String()
+		if one.text == &c.Bind && c.Interface != "" {
+			if found, err = found.onInterface(c.Interface); err != nil {
+				return fmt.Errorf("-iface: %w", err)
+			}
+		}
+		*one.text = found.String()
 	}
-	rpc, err := resolved(c.RPCAddr, RPCPort)
-	if err != nil {
-		return fmt.Errorf("-rpc-addr: %w", err)
-	}
-	c.RPCAddr = rpc.String()
-	if c.PrometheusAddr == "" {
-		return nil
-	}
-	prometheus, err := resolved(c.PrometheusAddr, PrometheusPort)
-	if err != nil {
-		return fmt.Errorf("-prometheus-addr: %w", err)
-	}
-	c.PrometheusAddr = prometheus.String()
 	return nil
 }
 

@@ -4,8 +4,11 @@ package config
 import (
 	"encoding/base64"
 	"fmt"
+	"math"
 	"os"
 	"time"
+
+	"kitchenrue.example/agent/internal/logs"
 )
 
 // Version is what the agent calls itself.
@@ -111,19 +114,6 @@ const (
 	maxProtocol = 5
 )
 
-// Levels are the levels of the log, the most talkative first.
-var Levels = []string{"TRACE", "DEBUG", "INFO", "WARN", "ERR"}
-
-// IsLevel says whether the log has this level.
-func IsLevel(level string) bool {
-	for _, one := range Levels {
-		if one == level {
-			return true
-		}
-	}
-	return false
-}
-
 // MaxName is how many bytes a node's name may have.
 const MaxName = 128
 
@@ -154,8 +144,8 @@ func (c *Config) validate() error {
 			return err
 		}
 	}
-	if !IsLevel(c.LogLevel) {
-		return fmt.Errorf("-log-level: %q is none of %v", c.LogLevel, Levels)
+	if _, is := logs.LevelOf(c.LogLevel); !is {
+		return fmt.Errorf("-log-level: %q is none of %v", c.LogLevel, logs.Levels)
 	}
 	switch c.Profile {
 	case "lan", "wan", "local":
@@ -214,33 +204,25 @@ func (c *Config) validateTags() error {
 	return nil
 }
 
-func (c *Config) validateSizes() error {
-	for _, one := range []struct {
-		key  string
-		size int
-	}{
-		{"user_event_size_limit", c.UserEventSizeLimit}, {"query_size_limit", c.QuerySizeLimit},
-		{"query_response_size_limit", c.QueryResponseSizeLimit},
-	} {
-		if one.size < 1 || one.size > greatestAny {
-			return fmt.Errorf("%s: %d is not between 1 and %d", one.key, one.size, greatestAny)
-		}
-	}
-	return nil
-}
-
+// validateNumbers says which number or time is out of its bounds.
 func (c *Config) validateNumbers() error {
-	if err := c.validateSizes(); err != nil {
-		return err
-	}
-	if c.Protocol < minProtocol || c.Protocol > maxProtocol {
-		return fmt.Errorf("-protocol: %d is not between %d and %d", c.Protocol, minProtocol, maxProtocol)
-	}
-	if c.MaxMembers < 1 {
-		return fmt.Errorf("-max-members: %d is below 1", c.MaxMembers)
-	}
-	if c.RetryMax < 0 {
-		return fmt.Errorf("-retry-max: %d is below 0", c.RetryMax)
+	const most = math.MaxInt
+	for _, one := range []struct {
+		key             string
+		is, least, most int
+	}{
+		{"user_event_size_limit", c.UserEventSizeLimit, 1, greatestAny}, {"query_size_limit", c.QuerySizeLimit, 1, greatestAny},
+		{"query_response_size_limit", c.QueryResponseSizeLimit, 1, greatestAny}, {"-protocol", c.Protocol, minProtocol, maxProtocol},
+		{"-keep-events-size", c.KeepEventsSize, minKeepEvents, maxKeepEvents}, {"-max-members", c.MaxMembers, 1, most},
+		{"-retry-max", c.RetryMax, 0, most}, {"-record-size", c.RecordSize, MinRecord, most},
+	} {
+		switch {
+		case one.is >= one.least && one.is <= one.most:
+		case one.most == most:
+			return fmt.Errorf("%s: %d is below %d", one.key, one.is, one.least)
+		default:
+			return fmt.Errorf("%s: %d is not between %d and %d", one.key, one.is, one.least, one.most)
+		}
 	}
 	for name, length := range map[string]time.Duration{
 		"-retry-interval": c.RetryInterval, "reconnect_interval": c.ReconnectInterval, "reconnect_timeout": c.ReconnectTimeout,
@@ -253,9 +235,6 @@ func (c *Config) validateNumbers() error {
 	if c.HandlerTimeout < 0 {
 		return fmt.Errorf("-handler-timeout: %v is below 0", c.HandlerTimeout)
 	}
-	if c.RecordSize < MinRecord {
-		return fmt.Errorf("-record-size: %d is below %d", c.RecordSize, MinRecord)
-	}
 	return nil
 }
 
@@ -266,9 +245,6 @@ func (c *Config) validateFiles() error {
 	}
 	if c.KeepEvents && c.Snapshot == "" {
 		return fmt.Errorf("-keep-events: it needs -snapshot")
-	}
-	if c.KeepEventsSize < minKeepEvents || c.KeepEventsSize > maxKeepEvents {
-		return fmt.Errorf("-keep-events-size: %d is not between %d and %d", c.KeepEventsSize, minKeepEvents, maxKeepEvents)
 	}
 	if c.KeepEvents && c.Record != "" {
 		return fmt.Errorf("-keep-events and -record: a record doesn't say what a restart goes on with, so one of them has to go")

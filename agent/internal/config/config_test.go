@@ -4,29 +4,20 @@ import (
 	"errors"
 	"fmt"
 	"io"
-	"os"
 	"path/filepath"
 	"reflect"
 	"strings"
 	"testing"
 	"time"
-)
 
-func write(t *testing.T, path, text string) string {
-	t.Helper()
-	if err := os.WriteFile(path, []byte(text), 0o600); err != nil {
-		t.Fatal(err)
-	}
-	return path
-}
+	"kitchenrue.example/agent/internal/testkit"
+)
 
 func TestFlags(t *testing.T) {
 	words := strings.Fields("-node a -iface eth0 -bind 127.0.0.1:1 -join x -join y -rejoin -snapshot s -tag k=v=w -role web -retry-max 3 " +
 		"-retry-interval 5s -log-level debug -profile wan -event-handler user:deploy=run -disable-compression -replay -keep-events")
 	found, err := Parse(words, io.Discard)
-	if err != nil {
-		t.Fatal(err)
-	}
+	testkit.Must(t, err)
 	want := Default()
 	want.Interface = "eth0"
 	want.NodeName, want.Bind, want.StartJoin, want.Rejoin, want.Snapshot = "a", "127.0.0.1:1", []string{"x", "y"}, true, "s"
@@ -40,15 +31,13 @@ func TestFlags(t *testing.T) {
 
 func TestFilesComeBeforeFlags(t *testing.T) {
 	folder := t.TempDir()
-	one := write(t, filepath.Join(folder, "one"), `{"node_name": "one", "start_join": ["x"], "tags": {"a": "1"}, "rejoin_after_leave": true,
+	one := testkit.Write(t, filepath.Join(folder, "one"), `{"node_name": "one", "start_join": ["x"], "tags": {"a": "1"}, "rejoin_after_leave": true,
 		"interface": "eth0", "bind": "", "advertise": "", "rpc_addr": "", "snapshot_path": "s", "retry_max_attempts": 7, "reconnect_timeout": "1h", "leave_on_terminate": true, "keep_events": true}`)
-	write(t, filepath.Join(folder, "b.json"), `{"node_name": "b", "start_join": ["z"], "tags": null}`)
-	write(t, filepath.Join(folder, "a.json"), `{"node_name": "a", "start_join": ["y"], "rpc_auth": "token", "enable_compression": false}`)
-	write(t, filepath.Join(folder, "c.text"), `{`)
+	testkit.Write(t, filepath.Join(folder, "b.json"), `{"node_name": "b", "start_join": ["z"], "tags": null}`)
+	testkit.Write(t, filepath.Join(folder, "a.json"), `{"node_name": "a", "start_join": ["y"], "rpc_auth": "token", "enable_compression": false}`)
+	testkit.Write(t, filepath.Join(folder, "c.text"), `{`)
 	found, err := Parse([]string{"-join", "w", "-config-file", one, "-config-dir", folder, "-tag", "b=2"}, io.Discard)
-	if err != nil {
-		t.Fatal(err)
-	}
+	testkit.Must(t, err)
 	if found.NodeName != "b" || !reflect.DeepEqual(found.StartJoin, []string{"x", "y", "z", "w"}) || found.RPCAuth != "token" {
 		t.Errorf("%+v", found)
 	}
@@ -68,7 +57,7 @@ func TestRefusals(t *testing.T) {
 	files := 0
 	file := func(text string) string {
 		files++
-		return "-config-file " + write(t, filepath.Join(folder, fmt.Sprint(files)), text)
+		return "-config-file " + testkit.Write(t, filepath.Join(folder, fmt.Sprint(files)), text)
 	}
 	for _, one := range []struct{ words, says string }{
 		{"-foo", "-foo"},
@@ -149,7 +138,7 @@ func TestNothingIsNotRefused(t *testing.T) {
 		},
 		`{"protocol": 4}`: func(c Config) bool { return c.Protocol == 4 },
 	} {
-		found, err := Parse([]string{"-config-file", write(t, path, text)}, io.Discard)
+		found, err := Parse([]string{"-config-file", testkit.Write(t, path, text)}, io.Discard)
 		if err != nil || !holds(found) {
 			t.Error(text, err)
 		}

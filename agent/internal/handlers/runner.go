@@ -82,13 +82,27 @@ func (r *Runner) Room() <-chan struct{} { return r.events.room }
 // Waiting is how many events, and how many queries, wait for their handlers.
 func (r *Runner) Waiting() (events, queries int) { return r.events.size(), r.queries.size() }
 
-// Add queues an event, and never drops one: who adds looks first whether there is room. A query without room is dropped.
+// Add queues an event for the scripts that take it, and never drops one: who adds looks first whether there is room. A query without
+// room is dropped.
 func (r *Runner) Add(e serf.Event) {
+	if !r.takes(e) {
+		return
+	}
 	if e.EventType() != serf.EventQuery {
 		r.events.add(e)
 	} else if !r.queries.hasRoom() || !r.queries.add(e) {
 		r.log.Printf("[WARN] agent: %s was dropped, since %d queries wait for their handlers", e, WaitingQueries)
 	}
+}
+
+// takes says whether some script takes an event.
+func (r *Runner) takes(e serf.Event) bool {
+	for _, script := range r.Scripts() {
+		if script.Filters.Takes(e) {
+			return true
+		}
+	}
+	return false
 }
 
 // Close lets the scripts that wait run for so long. Then it ends the one that runs, and the others never run.

@@ -9,37 +9,18 @@ import (
 	"os/exec"
 	"path/filepath"
 	"strings"
-	"sync"
 	"testing"
 	"time"
 
+	"kitchenrue.example/agent/internal/testkit"
 	"kitchenrue.example/serf"
 )
 
-type buffer struct {
-	mu   sync.Mutex
-	text bytes.Buffer
-}
-
-func (b *buffer) Write(data []byte) (int, error) {
-	b.mu.Lock()
-	defer b.mu.Unlock()
-	return b.text.Write(data)
-}
-
-func (b *buffer) String() string {
-	b.mu.Lock()
-	defer b.mu.Unlock()
-	return b.text.String()
-}
-
-func newRunner(t *testing.T, timeout time.Duration, scripts ...string) (*Runner, *buffer) {
+func newRunner(t *testing.T, timeout time.Duration, scripts ...string) (*Runner, *testkit.Said) {
 	t.Helper()
 	all, err := ParseScripts(scripts)
-	if err != nil {
-		t.Fatal(err)
-	}
-	said := &buffer{}
+	testkit.Must(t, err)
+	said := &testkit.Said{}
 	return New(log.New(said, "", 0), timeout, all, func() Self { return self }), said
 }
 
@@ -112,9 +93,7 @@ func TestScriptsThatDoNotEnd(t *testing.T) {
 func TestTheInputIsThereFirst(t *testing.T) {
 	for length, isFirst := range map[int]bool{0: true, 2: true, page: true, page + 1: false} {
 		p, err := openPipes(exec.Command("true"))
-		if err != nil {
-			t.Fatal(err)
-		}
+		testkit.Must(t, err)
 		defer p.close()
 		if p.feedFirst(make([]byte, length)) != isFirst {
 			t.Error(length)
@@ -135,9 +114,7 @@ func TestTheWholeGroupEnds(t *testing.T) {
 	r.Add(user("deploy", ""))
 	r.Close(time.Minute)
 	text, err := os.ReadFile(file)
-	if err != nil {
-		t.Fatal(err)
-	}
+	testkit.Must(t, err)
 	var background, script int
 	if _, err := fmt.Sscan(string(text), &background, &script); err != nil {
 		t.Fatal(err)
@@ -213,9 +190,7 @@ func TestOtherScripts(t *testing.T) {
 	t.Parallel()
 	r, said := newRunner(t, 0, "echo one")
 	all, err := ParseScripts([]string{"echo two"})
-	if err != nil {
-		t.Fatal(err)
-	}
+	testkit.Must(t, err)
 	r.SetScripts(all)
 	r.Add(user("deploy", ""))
 	r.Close(time.Minute)

@@ -10,7 +10,7 @@ import (
 
 	"github.com/hashicorp/memberlist"
 
-	"kitchenrue.example/agent/internal/files"
+	"kitchenrue.example/serfagent"
 )
 
 // maxFile is how many bytes a file of keys may have, and maxKeys how many keys.
@@ -42,11 +42,11 @@ func Open(path string, key []byte) (*memberlist.Keyring, error) {
 	if err != nil {
 		return nil, err
 	}
-	return ring, files.Write(path, data, 0o600)
+	return ring, serfagent.WriteFile(path, data, 0o600)
 }
 
 func read(path string) ([][]byte, error) {
-	data, err := files.Read(path, maxFile)
+	data, err := serfagent.ReadFile(path, maxFile)
 	if err != nil {
 		return nil, err
 	}

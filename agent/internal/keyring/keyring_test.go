@@ -8,6 +8,8 @@ import (
 	"reflect"
 	"strings"
 	"testing"
+
+	"kitchenrue.example/agent/internal/testkit"
 )
 
 func key(fill byte) []byte { return bytes.Repeat([]byte{fill}, 16) }
@@ -25,9 +27,7 @@ func TestKeysOfAFile(t *testing.T) {
 	if about, err := os.Stat(path); err != nil || about.Mode().Perm() != 0o600 {
 		t.Error(about.Mode(), err)
 	}
-	if err := os.WriteFile(path, []byte(`["`+text(2)+`", "`+text(1)+`"]`), 0o600); err != nil {
-		t.Fatal(err)
-	}
+	testkit.Write(t, path, `["`+text(2)+`", "`+text(1)+`"]`)
 	// (the file counts, and the first of its keys encrypts)
 	if ring, err := Open(path, key(3)); err != nil || !reflect.DeepEqual(ring.GetKeys(), [][]byte{key(2), key(1)}) {
 		t.Error(ring, err)
@@ -40,13 +40,22 @@ func TestKeysOfAFile(t *testing.T) {
 	}
 }
 
+// A file may have so many keys, and none more.
+func TestKeysAreBounded(t *testing.T) {
+	path := filepath.Join(t.TempDir(), "keys")
+	for _, count := range []int{maxKeys, maxKeys + 1} {
+		testkit.Write(t, path, "["+strings.Repeat(`"`+text(1)+`",`, count-1)+`"`+text(1)+`"]`)
+		if _, err := Open(path, nil); (err == nil) != (count == maxKeys) {
+			t.Errorf("%d keys: %v", count, err)
+		}
+	}
+}
+
 func TestBadFiles(t *testing.T) {
 	folder := t.TempDir()
 	for name, content := range map[string]string{"a": "", "b": "{}", "c": "[]", "d": `["x"]`, "e": `["QUJD"]`, "f": strings.Repeat(" ", maxFile+1)} {
 		path := filepath.Join(folder, name)
-		if err := os.WriteFile(path, []byte(content), 0o600); err != nil {
-			t.Fatal(err)
-		}
+		testkit.Write(t, path, content)
 		if _, err := Open(path, nil); err == nil || !strings.Contains(err.Error(), "-keyring-file") {
 			t.Errorf("%q: %v", content, err)
 		}

@@ -8,6 +8,7 @@ import (
 	"log"
 	"strings"
 	"sync"
+	"time"
 )
 
 // kept is how many lines are kept for those who come later.
@@ -31,13 +32,14 @@ const (
 	Err
 )
 
-var names = []string{"TRACE", "DEBUG", "INFO", "WARN", "ERR"}
+// Levels are their names.
+var Levels = []string{"TRACE", "DEBUG", "INFO", "WARN", "ERR"}
 
-func (l Level) String() string { return names[l] }
+func (l Level) String() string { return Levels[l] }
 
 // LevelOf is the level of a name in capitals, and false where there is none.
 func LevelOf(name string) (Level, bool) {
-	for i, one := range names {
+	for i, one := range Levels {
 		if one == name {
 			return Level(i), true
 		}
@@ -75,7 +77,7 @@ type Log struct {
 	mu        sync.Mutex
 	out       io.Writer
 	level     Level
-	ring      []string
+	ring      []line
 	next      int
 	followers map[*Follower]struct{}
 	// syslog gets the lines that are written; none where it is nil.
@@ -96,23 +98,63 @@ func (l *Log) SetLevel(level Level) {
 	l.level = level
 }
 
-// Write takes one line.
-func (l *Log) Write(line []byte) (int, error) {
-	count := len(line)
+// line is one that is kept: its text, or what that is made from, where nobody has wanted it yet.
+type line struct {
+	text   string
+	at     time.Time
+	format string
+	about  []interface{}
+}
+
+// textOf is a line as it is shown.
+func textOf(line []byte) string {
 	line = bytes.TrimRight(line, "\n")
 	if len(line) > MaxLine {
 		line = append(append([]byte(nil), line[:MaxLine]...), "..."...)
 	}
-	level := levelIn(line)
-	text := strings.Map(visible, string(line))
-	l.mu.Lock()
-	defer l.mu.Unlock()
+	return strings.Map(visible, string(line))
+}
+
+// shown is the line's text.
+func (l *line) shown() string {
+	if l.format != "" {
+		text := textOf([]byte(l.at.Format("2006/01/02 15:04:05 ") + fmt.Sprintf(l.format, l.about...)))
+		*l = line{text: text}
+	}
+	return l.text
+}
+
+// keep keeps a line for those who come later. mu is held.
+func (l *Log) keep(one line) {
 	if len(l.ring) < kept {
-		l.ring = append(l.ring, text)
+		l.ring = append(l.ring, one)
 	} else {
-		l.ring[l.next] = text
+		l.ring[l.next] = one
 		l.next = (l.next + 1) % kept
 	}
+}
+
+// Often is Printf for a line that comes often, and whose values nobody changes later: it is made only where somebody wants it.
+func (l *Log) Often(format string, about ...interface{}) {
+	level := levelIn([]byte(format))
+	l.mu.Lock()
+	isWanted := level >= l.level || len(l.followers) > 0
+	if !isWanted {
+		l.keep(line{at: time.Now(), format: format, about: about})
+	}
+	l.mu.Unlock()
+	if isWanted {
+		l.Printf(format, about...)
+	}
+}
+
+// Write takes one line.
+func (l *Log) Write(written []byte) (int, error) {
+	text := textOf(written)
+	level := levelIn([]byte(text))
+	l.mu.Lock()
+	defer l.mu.Unlock()
+	l.keep(line{text: text})
 	for follower := range l.followers {
 		follower.take(level, text)
 	}
@@ -124,7 +166,7 @@ func (l *Log) Write(line []byte) (int, error) {
 		// (a log that can't be written has nobody to tell)
 		_, _ = fmt.Fprintf(l.out, "    %s\n", strings.ReplaceAll(text, "\n", "\n    | "))
 	}
-	return count, nil
+	return len(written), nil
 }
 
 // Follower gets the lines of a level and above.
@@ -151,7 +193,7 @@ func (l *Log) Follow(level Level) *Follower {
 	l.mu.Lock()
 	defer l.mu.Unlock()
 	for i := range l.ring {
-		text := l.ring[(l.next+i)%len(l.ring)]
+		text := l.ring[(l.next+i)%len(l.ring)].shown()
 		f.take(levelIn([]byte(text)), text)
 	}
 	l.followers[f] = struct{}{}

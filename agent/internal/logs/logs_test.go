@@ -7,6 +7,8 @@ import (
 	"path/filepath"
 	"strings"
 	"testing"
+
+	"kitchenrue.example/agent/internal/testkit"
 )
 
 func TestLevels(t *testing.T) {
@@ -46,6 +48,39 @@ func TestFollower(t *testing.T) {
 	}
 	if last != "[WARN] y" {
 		t.Error(last)
+	}
+}
+
+// shown counts how often it was shown.
+type shown int
+
+func (s *shown) String() string {
+	*s++
+	return "shown\x1b"
+}
+
+// A line that comes often is made where somebody wants it, and once.
+func TestOften(t *testing.T) {
+	var out bytes.Buffer
+	var times shown
+	l := New(&out, Info)
+	l.Often("[DEBUG] a %v", &times)
+	if times != 0 || out.Len() > 0 {
+		t.Error(times, out.String())
+	}
+	for i := 0; i < 2; i++ {
+		f := l.Follow(Debug)
+		if line := <-f.Lines; len(line) != len("2006/01/02 15:04:05 [DEBUG] a shown?") || !strings.HasSuffix(line, " [DEBUG] a shown?") {
+			t.Errorf("%q", line)
+		}
+		l.Often("[INFO] b")
+		if line := <-f.Lines; !strings.HasSuffix(line, " [INFO] b") || strings.Count(out.String(), "[INFO] b\n") != i+1 {
+			t.Errorf("%q, %q", line, out.String())
+		}
+		f.Close()
+	}
+	if times != 1 {
+		t.Error(times)
 	}
 }
 
@@ -90,16 +125,12 @@ func TestNamesForgeNothing(t *testing.T) {
 func TestSyslog(t *testing.T) {
 	path := filepath.Join(t.TempDir(), "log")
 	syslogd, err := net.ListenUnixgram("unixgram", &net.UnixAddr{Name: path, Net: "unixgram"})
-	if err != nil {
-		t.Fatal(err)
-	}
+	testkit.Must(t, err)
 	defer syslogd.Close()
 	l := New(&bytes.Buffer{}, Debug)
 	l.Print("[ERR] too early")
 	end, err := l.ToSyslog("unixgram", path, "local3")
-	if err != nil {
-		t.Fatal(err)
-	}
+	testkit.Must(t, err)
 	for _, line := range []string{"[TRACE] x", "[DEBUG] a: b", "[INFO] serf: [WARN] c", "none", "[WARN] d\n[ERR] e", "[ERR] f"} {
 		l.Print(line)
 	}

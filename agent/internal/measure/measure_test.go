@@ -7,51 +7,21 @@ import (
 	"net"
 	"net/http"
 	"strings"
-	"sync"
 	"syscall"
 	"testing"
 	"time"
 
 	"github.com/armon/go-metrics"
+
+	"kitchenrue.example/agent/internal/testkit"
 )
-
-func eventually(t *testing.T, what string, holds func() bool) {
-	t.Helper()
-	for i := 0; i < 6000; i++ {
-		if holds() {
-			return
-		}
-		time.Sleep(10 * time.Millisecond)
-	}
-	t.Fatalf("never: %s", what)
-}
-
-// said is what a program said. Many may write.
-type said struct {
-	mu   sync.Mutex
-	text strings.Builder
-}
-
-func (s *said) Write(data []byte) (int, error) {
-	s.mu.Lock()
-	defer s.mu.Unlock()
-	return s.text.Write(data)
-}
-
-func (s *said) has(what string) bool {
-	s.mu.Lock()
-	defer s.mu.Unlock()
-	return strings.Contains(s.text.String(), what)
-}
 
 // shown is the page.
 func shown(t *testing.T, at net.Addr) string {
 	t.Helper()
 	client := http.Client{Transport: &http.Transport{DisableKeepAlives: true}}
 	answer, err := client.Get("http://" + at.String() + "/metrics")
-	if err != nil {
-		t.Fatal(err)
-	}
+	testkit.Must(t, err)
 	defer answer.Body.Close()
 	text, err := io.ReadAll(answer.Body)
 	if err != nil || answer.StatusCode != 200 {
@@ -62,11 +32,9 @@ func shown(t *testing.T, at net.Addr) string {
 
 // What is counted comes to statsite, to statsd, to the page and, at SIGUSR1, to the dumps.
 func TestWhoIsTold(t *testing.T) {
-	var told said
+	var told testkit.Said
 	statsite, err := net.Listen("tcp", "127.0.0.1:0")
-	if err != nil {
-		t.Fatal(err)
-	}
+	testkit.Must(t, err)
 	defer statsite.Close()
 	go func() {
 		conn, err := statsite.Accept()
@@ -79,9 +47,7 @@ func TestWhoIsTold(t *testing.T) {
 		}
 	}()
 	statsd, err := net.ListenPacket("udp", "127.0.0.1:0")
-	if err != nil {
-		t.Fatal(err)
-	}
+	testkit.Must(t, err)
 	defer statsd.Close()
 	go func() {
 		room := make([]byte, 1<<16)
@@ -91,11 +57,9 @@ func TestWhoIsTold(t *testing.T) {
 			}
 		}
 	}()
-	var dumps said
+	var dumps testkit.Said
 	m, err := Start(statsite.Addr().String(), statsd.LocalAddr().String(), "127.0.0.1:0", &dumps)
-	if err != nil {
-		t.Fatal(err)
-	}
+	testkit.Must(t, err)
 	m.Watch(func() map[string]map[string]string {
 		return map[string]map[string]string{"agent": {"handlers_waiting": "3", "name": "a"}, "serf": {"dropped_far": "17"}, "runtime": {"goroutines": "5"}}
 	})
@@ -111,7 +75,7 @@ func TestWhoIsTold(t *testing.T) {
 		"statsite serf-agent.serf.events:1.000000|c", "statsd serf-agent.serf.events:1.000000|c", "statsd serf-agent.serf.events.de-ploy:1.000000|c",
 		"statsite serf-agent.serf.msgs.received:7.000000|ms", "statsd serf-agent.serf.msgs.received:8.000000|ms", ".x:4.000000|g",
 	} {
-		eventually(t, what, func() bool { return told.has(what) })
+		testkit.Eventually(t, what, func() bool { return told.Has(what) })
 	}
 	text := shown(t, m.page.listener.Addr())
 	for _, what := range []string{
@@ -127,12 +91,10 @@ func TestWhoIsTold(t *testing.T) {
 	if strings.Contains(text, "goroutines 5") || strings.Contains(text, "agent_name") {
 		t.Error(text)
 	}
-	eventually(t, "it is dumped", func() bool {
-		if err := syscall.Kill(syscall.Getpid(), syscall.SIGUSR1); err != nil {
-			t.Fatal(err)
-		}
+	testkit.Eventually(t, "it is dumped", func() bool {
+		testkit.Must(t, syscall.Kill(syscall.Getpid(), syscall.SIGUSR1))
 		time.Sleep(100 * time.Millisecond)
-		return dumps.has("serf-agent.serf.events': Count: 2")
+		return dumps.Has("serf-agent.serf.events': Count: 2")
 	})
 	m.Close()
 	if _, err := net.Dial("tcp", m.page.listener.Addr().String()); err == nil {
@@ -143,9 +105,7 @@ func TestWhoIsTold(t *testing.T) {
 // Many names, and many who read, have a bound.
 func TestBounds(t *testing.T) {
 	p, err := listen("127.0.0.1:0", "host")
-	if err != nil {
-		t.Fatal(err)
-	}
+	testkit.Must(t, err)
 	defer p.close()
 	for i := 0; i < 2*maxNames; i++ {
 		p.totals.IncrCounterWithLabels([]string{Service, fmt.Sprint("c", i)}, 1, nil)
@@ -160,27 +120,23 @@ func TestBounds(t *testing.T) {
 	var idle []net.Conn
 	for i := 0; i < maxReaders; i++ {
 		conn, err := net.Dial("tcp", p.listener.Addr().String())
-		if err != nil {
-			t.Fatal(err)
-		}
+		testkit.Must(t, err)
 		idle = append(idle, conn)
 	}
-	eventually(t, "all have come", func() bool {
+	testkit.Eventually(t, "all have come", func() bool {
 		p.mu.Lock()
 		defer p.mu.Unlock()
 		return p.readers == maxReaders
 	})
 	one, err := net.Dial("tcp", p.listener.Addr().String())
-	if err != nil {
-		t.Fatal(err)
-	}
+	testkit.Must(t, err)
 	if _, err := one.Read(make([]byte, 1)); err == nil {
 		t.Error("one more is served")
 	}
 	for _, conn := range idle {
 		conn.Close()
 	}
-	eventually(t, "all have gone", func() bool {
+	testkit.Eventually(t, "all have gone", func() bool {
 		p.mu.Lock()
 		defer p.mu.Unlock()
 		return p.readers == 0

@@ -7,7 +7,7 @@ import (
 	"kitchenrue.example/serfagent"
 )
 
-// lines are calls and replies, as docs/PIPE.md spells them.
+// lines are calls and replies, as docs/SPEC.md spells them.
 type lines struct{ text []byte }
 
 // line begins a line, and ends the one before.
@@ -95,11 +95,6 @@ func (l *lines) open(name string, settings serfagent.Settings, clocks serfagent.
 	l.line("opened").number(clocks.Member).number(clocks.Event).number(clocks.Query).end()
 }
 
-// reasons are the words of why a packet was ignored, by the library's numbers.
-var reasons = []string{
-	"None", "Oversize", "BelowMinimum", "TooOld", "Seen", "TimeFull", "NotOpen", "OtherId", "Closed", "AckNotAsked", "AckTwice", "ResponseTwice",
-}
-
 // came is what came of a packet, or why it was refused.
 func (l *lines) came(packet []byte, outcome serfagent.Outcome, number uint64) {
 	is := outcome.Received
@@ -118,7 +113,7 @@ func (l *lines) came(packet []byte, outcome serfagent.Outcome, number uint64) {
 		l.line("response").line("counted response").number(is.Answer.Time).number(uint64(is.Answer.ID))
 		l.bytes(is.Answer.From).bytes(is.Answer.Payload)
 	case serfagent.Ignored:
-		l.line("ignored").word(reasons[is.Reason])
+		l.line("ignored").word(is.Reason.String())
 	case serfagent.Foreign:
 		l.line("foreign").number(uint64(is.Foreign))
 	case serfagent.PushPull:
@@ -139,11 +134,6 @@ var faults = map[error]string{
 	serfagent.NotHanded: "NoQuery",
 }
 
-// wireFaults are the words of a packet's fault, by the library's numbers.
-var wireFaults = []string{
-	"None", "Empty", "UnknownType", "Truncated", "Unsupported", "TooDeep", "Trailing", "NotAMap", "BadKey", "Twice", "WrongKind", "OutOfRange", "GreatestTime",
-}
-
 // refused is the reply of a call that was refused. Of a fault that isn't of the call, but of the memory or the disk, it says
 // false, and writes nothing.
 func (l *lines) refused(err error, packet []byte) bool {
@@ -155,7 +145,7 @@ func (l *lines) refused(err error, packet []byte) bool {
 	if err != serfagent.NoMessage || !is {
 		return false
 	}
-	l.line("refused Wire").word(wireFaults[fault.Kind])
+	l.line("refused Wire").word(fault.Kind.String())
 	switch fault.Kind {
 	case serfagent.FaultEmpty, serfagent.FaultNotAMap:
 	case serfagent.FaultUnknownType:

@@ -1,4 +1,4 @@
-// Package record writes down what a proved agent is given, and what it answers, as calls and replies of docs/PIPE.md.
+// Package record writes down what a proved agent is given, and what it answers, as calls and replies of docs/SPEC.md.
 //
 // It writes behind each call, so nothing waits for the record but the next call. Where the record can't be written, the agent
 // goes on without it.
@@ -32,17 +32,24 @@ type Agent struct {
 	// file is nil once it could not be written.
 	file  *File
 	lines lines
-	// handed are the numbers of the queries that were handed out in this life, counted from 0, by the library's.
-	handed map[uint64]uint64
+	// handed are the queries that were handed out in this life, by the library's numbers, and count is how many they were.
+	handed map[uint64]*handed
+	count  uint64
 	// saved is the member clock of the last line of it.
 	saved uint64
+}
+
+// handed is a query that was handed out: its number, counted from 0, until when it can be answered, and whether it was.
+type handed struct {
+	number, deadline uint64
+	answered         bool
 }
 
 var _ serf.Agent = &Agent{}
 
 // Start begins a life of this agent in a record.
 func Start(agent serf.Agent, file *File, name string, settings serfagent.Settings, logger *log.Logger) (*Agent, error) {
-	a := &Agent{Agent: agent, name: name, settings: settings, log: logger, file: file, handed: map[uint64]uint64{}}
+	a := &Agent{Agent: agent, name: name, settings: settings, log: logger, file: file, handed: map[uint64]*handed{}}
 	if file.length > 0 {
 		// (the life before may have been cut off in a line)
 		a.lines.text = append(a.lines.text, '\n')
@@ -118,8 +125,9 @@ func (a *Agent) number(query *serfagent.Handed) uint64 {
 	if query == nil {
 		return 0
 	}
-	number := uint64(len(a.handed))
-	a.handed[query.Number] = number
+	number := a.count
+	a.handed[query.Number] = &handed{number: number, deadline: query.Deadline}
+	a.count++
 	return number
 }
 
@@ -251,13 +259,27 @@ func (a *Agent) Respond(now, number uint64, payload []byte) ([]byte, error) {
 	a.mu.Lock()
 	defer a.mu.Unlock()
 	packet, err := a.Agent.Respond(now, number, payload)
-	if handed, is := a.handed[number]; is {
+	if query, is := a.handed[number]; is {
+		why := err
+		if err == serfagent.NotHanded && !query.answered && now > query.deadline {
+			// (the library forgets what is past its deadline)
+			why = serfagent.PastDeadline
+		}
+		query.answered = query.answered || err == nil
 		a.write(func(l *lines) {
-			l.line("respond").number(handed).number(now).bytes(payload)
-			a.answer(l, err, nil, func() { l.line("replied").sent(packet) })
+			l.line("respond").number(query.number).number(now).bytes(payload)
+			a.answer(l, why, nil, func() { l.line("replied").sent(packet) })
 		})
 	}
 	return packet, err
+}
+
+// Forget records nothing: an answer to this query is no call of the record any more.
+func (a *Agent) Forget(number uint64) error {
+	a.mu.Lock()
+	defer a.mu.Unlock()
+	delete(a.handed, number)
+	return a.Agent.Forget(number)
 }
 
 // CloseDue records that queries were closed; where none was, nothing is written.

@@ -1,7 +1,6 @@
 package rpc
 
 import (
-	"bufio"
 	"context"
 	"errors"
 	"fmt"
@@ -9,8 +8,6 @@ import (
 	"net"
 	"sync"
 	"time"
-
-	"github.com/armon/go-metrics"
 
 	"kitchenrue.example/agent/internal/handlers"
 	"kitchenrue.example/serf"
@@ -45,8 +42,10 @@ type client struct {
 	times  times
 	began  time.Time
 
-	// Whether it has said which protocol it speaks, and who it is: the reader's own.
+	// Whether it has said which protocol it speaks, and who it is; and until when what it sends is waited for, where the connection
+	// has that moment: the reader's own.
 	isGreeted, isKnown bool
+	until              time.Time
 
 	mu      sync.Mutex
 	changed *sync.Cond
@@ -55,18 +54,20 @@ type client struct {
 	last   time.Time
 	frames [][]byte
 	bytes  int
-	// isLast: what waits is the last. isOver: nothing is written any more.
-	isLast, isOver bool
-	streams        map[uint64]handlers.Filters
-	stops          map[uint64]*follower
-	asked          map[uint64]*serf.Query
+	// isWriting: somebody writes, who has until then. isLast: what waits is the last. isOver: nothing is written any more.
+	isWriting, isLast, isOver bool
+	written                   time.Time
+	streams                   map[uint64]handlers.Filters
+	stops                     map[uint64]*follower
+	asked                     map[uint64]*serf.Query
 }
 
 func newClient(s *Server, conn net.Conn) *client {
 	c := &client{
-		server: s, conn: conn, in: &reader{in: bufio.NewReaderSize(conn, 4<<10)}, isKnown: s.auth == "", times: s.times, began: time.Now(), last: time.Now(),
+		server: s, conn: conn, isKnown: s.auth == "", times: s.times, began: time.Now(), last: time.Now(),
 		streams: map[uint64]handlers.Filters{}, stops: map[uint64]*follower{}, asked: map[uint64]*serf.Query{},
 	}
+	c.in = newReader(patient{c})
 	c.ctx, c.cancel = context.WithCancel(s.ctx)
 	c.changed = sync.NewCond(&c.mu)
 	return c
@@ -103,32 +104,39 @@ func (c *client) linger() {
 // errLast: the answer that waits is the last one.
 var errLast = fmt.Errorf("it asked for what it may not: %w", io.EOF)
 
+// patient reads what a client sends. Of a request that has begun the rest has to come soon. (Most are there whole, and nothing is waited
+// for.)
+type patient struct{ *client }
+
+func (p patient) Read(room []byte) (int, error) {
+	var until time.Time
+	switch {
+	case p.isBusy:
+		until = p.last.Add(p.times.rest)
+	case !p.isGreeted || !p.isKnown:
+		until = p.began.Add(p.times.greet)
+	}
+	if until != p.until {
+		if err := p.conn.SetReadDeadline(until); err != nil {
+			return 0, err
+		}
+		p.until = until
+	}
+	return p.conn.Read(room)
+}
+
 // request takes one request, and does it.
 func (c *client) request() error {
-	var until time.Time
-	if !c.isGreeted || !c.isKnown {
-		until = c.began.Add(c.times.greet)
-	}
-	if err := c.conn.SetReadDeadline(until); err != nil {
-		return err
-	}
 	if _, err := c.in.in.Peek(1); err != nil {
-		return err
-	}
-	if err := c.conn.SetReadDeadline(time.Now().Add(c.times.rest)); err != nil {
 		return err
 	}
 	c.busy(true)
 	defer c.busy(false)
-	value, err := c.in.next(maxHeader)
-	if err != nil {
-		return err
-	}
 	var header requestHeader
-	if err := decode(value, &header); err != nil {
+	if err := c.in.decode(maxHeader, &header); err != nil {
 		return err
 	}
-	metrics.IncrCounter([]string{"agent", "ipc", "command"}, 1)
+	c.server.commands.Add(1)
 	command, is := commands[header.Command]
 	if refusal := c.refusal(header.Command, is); refusal != "" {
 		c.server.log.Printf("[WARN] agent.ipc: %v asked for %.40q: %s", c.conn.RemoteAddr(), header.Command, refusal)
@@ -144,11 +152,8 @@ func (c *client) request() error {
 	}
 	var body interface{}
 	if command.body != nil {
-		if value, err = c.in.next(maxBody); err != nil {
-			return err
-		}
 		body = command.body()
-		if err := decode(value, body); err != nil {
+		if err := c.in.decode(maxBody, body); err != nil {
 			return err
 		}
 	}
@@ -188,13 +193,24 @@ func (c *client) refusal(command string, is bool) string {
 	return ""
 }
 
-// answer says how a request went, and what it gave.
+// answer says how a request went, and what it gave. Where nothing waits to be written, the reader writes it: nobody has to be told then.
 func (c *client) answer(seq uint64, err error, bodies ...interface{}) error {
 	header := answerHeader{Seq: seq}
 	if err != nil {
 		header.Error = err.Error()
 	}
-	return c.send(append([]interface{}{header}, bodies...)...)
+	frame, err := encode(append([]interface{}{header}, bodies...)...)
+	if err != nil {
+		return err
+	}
+	c.mu.Lock()
+	if len(c.frames) > 0 || c.isWriting || c.isOver || c.isLast {
+		c.mu.Unlock()
+		return c.queue(frame)
+	}
+	c.isWriting = true
+	c.mu.Unlock()
+	return c.writes(frame, c.times.send)
 }
 
 // send queues values for the client, which are written together.
@@ -229,12 +245,13 @@ func (c *client) queue(frame []byte) error {
 func (c *client) next(room []byte) ([]byte, time.Duration) {
 	c.mu.Lock()
 	defer c.mu.Unlock()
-	for len(c.frames) == 0 && !c.isOver && !c.isLast {
+	for (c.isWriting || len(c.frames) == 0 && !c.isLast) && !c.isOver {
 		c.changed.Wait()
 	}
 	if c.isOver {
 		return nil, 0
 	}
+	c.isWriting = true
 	for len(c.frames) > 0 && (len(room) == 0 || len(room)+len(c.frames[0]) <= maxWritten) {
 		room = append(room, c.frames[0]...)
 		c.bytes -= len(c.frames[0])
@@ -253,17 +270,32 @@ func (c *client) write() {
 	var room []byte
 	for {
 		together, length := c.next(room[:0])
-		if len(together) == 0 {
-			return
-		}
-		_ = c.conn.SetWriteDeadline(time.Now().Add(length))
-		if _, err := c.conn.Write(together); err != nil {
+		if len(together) == 0 || c.writes(together, length) != nil {
 			return
 		}
 		if room = together; cap(room) > 2*maxWritten {
 			room = nil
 		}
 	}
+}
+
+// writes writes frames, for so long at most or a quarter less, and ends the client where that fails: who writes alone calls it.
+func (c *client) writes(frames []byte, length time.Duration) error {
+	if until := time.Now().Add(length); c.written.After(until) || c.written.Before(until.Add(-length/4)) {
+		_ = c.conn.SetWriteDeadline(until)
+		c.written = until
+	}
+	_, err := c.conn.Write(frames)
+	if err != nil {
+		c.end()
+		return net.ErrClosed
+	}
+	c.mu.Lock()
+	defer c.mu.Unlock()
+	if c.isWriting = false; len(c.frames) > 0 || c.isLast {
+		c.changed.Signal()
+	}
+	return nil
 }
 
 // finish lets what waits be written, and then ends the client.

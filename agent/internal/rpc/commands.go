@@ -194,6 +194,9 @@ func (c *client) stream(seq uint64, body *streamBody) error {
 	if err := c.answer(seq, nil); err != nil {
 		return err
 	}
+	c.server.mu.Lock()
+	c.server.streaming[c] = struct{}{}
+	c.server.mu.Unlock()
 	c.mu.Lock()
 	defer c.mu.Unlock()
 	if c.streams != nil {

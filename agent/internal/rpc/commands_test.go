@@ -10,6 +10,7 @@ import (
 
 	"github.com/hashicorp/serf/coordinate"
 
+	"kitchenrue.example/agent/internal/testkit"
 	"kitchenrue.example/serf"
 )
 
@@ -57,7 +58,7 @@ func TestCommands(t *testing.T) {
 	p.says(p.ask("stop", stopBody{77}), "")
 	p.says(p.ask("leave"), "")
 	// (the answer comes before the end)
-	eventually(t, f.ended)
+	testkit.Eventually(t, "what is waited for", f.ended)
 	if want := []string{"fire deploy v1", "fire large ", "force-leave beta", "tags", "leave"}; !reflect.DeepEqual(f.calls, want) {
 		t.Error(f.calls)
 	}
@@ -112,7 +113,7 @@ func TestStreams(t *testing.T) {
 	p.says(users, "")
 	queries = p.ask("stream", streamBody{"query,member-join"})
 	p.says(queries, "")
-	eventually(t, func() bool { return streams(s) == 2 })
+	testkit.Eventually(t, "what is waited for", func() bool { return streams(s) == 2 })
 	one, answers := query(t, f, f.withNode(t))
 	s.Publish(serf.UserEvent{Name: "other"})
 	s.Publish(serf.UserEvent{Name: "deploy", LTime: 3, Payload: []byte("v1"), Coalesce: true})
@@ -189,19 +190,7 @@ func TestMonitor(t *testing.T) {
 		}
 	}
 	p.says(p.ask("stop", stopBody{seq}), "")
-	eventually(t, func() bool { return followers(s) == 0 })
-}
-
-// eventually waits until this holds.
-func eventually(t *testing.T, holds func() bool) {
-	t.Helper()
-	for i := 0; i < 3000; i++ {
-		if holds() {
-			return
-		}
-		time.Sleep(10 * time.Millisecond)
-	}
-	t.Fatal("it never came")
+	testkit.Eventually(t, "what is waited for", func() bool { return followers(s) == 0 })
 }
 
 func counted(s *Server, count func(*client) int) int {

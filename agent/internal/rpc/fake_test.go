@@ -1,7 +1,6 @@
 package rpc
 
 import (
-	"bufio"
 	"bytes"
 	"errors"
 	"io"
@@ -14,6 +13,7 @@ import (
 	"github.com/hashicorp/serf/coordinate"
 
 	"kitchenrue.example/agent/internal/logs"
+	"kitchenrue.example/agent/internal/testkit"
 	"kitchenrue.example/serf"
 )
 
@@ -115,9 +115,7 @@ func (f *fake) withNode(t *testing.T) <-chan serf.Event {
 func query(t *testing.T, f *fake, events <-chan serf.Event) (*serf.Query, *serf.QueryResponse) {
 	t.Helper()
 	asked, err := f.node.Query("load", nil, &serf.QueryParam{RequestAck: true, Timeout: 10 * time.Second})
-	if err != nil {
-		t.Fatal(err)
-	}
+	testkit.Must(t, err)
 	for e := range events {
 		if one, is := e.(*serf.Query); is {
 			return one, asked
@@ -139,9 +137,7 @@ func startBy(t *testing.T, token string, times times) (*Server, *fake, *logs.Log
 	f := &fake{}
 	log := logs.New(&bytes.Buffer{}, logs.Trace)
 	s, err := listen("127.0.0.1:0", token, f, log, times)
-	if err != nil {
-		t.Fatal(err)
-	}
+	testkit.Must(t, err)
 	t.Cleanup(s.Close)
 	return s, f, log
 }
@@ -157,19 +153,15 @@ type peer struct {
 func dial(t *testing.T, s *Server) *peer {
 	t.Helper()
 	conn, err := net.Dial("tcp", s.Addr().String())
-	if err != nil {
-		t.Fatal(err)
-	}
+	testkit.Must(t, err)
 	t.Cleanup(func() { conn.Close() })
-	return &peer{t: t, conn: conn, in: &reader{in: bufio.NewReader(conn)}}
+	return &peer{t: t, conn: conn, in: newReader(conn)}
 }
 
 func encoded(t *testing.T, values ...interface{}) []byte {
 	t.Helper()
 	data, err := encode(values...)
-	if err != nil {
-		t.Fatal(err)
-	}
+	testkit.Must(t, err)
 	return data
 }
 
@@ -191,13 +183,7 @@ func (p *peer) ask(command string, body ...interface{}) uint64 {
 func (p *peer) read(to interface{}) {
 	p.t.Helper()
 	_ = p.conn.SetReadDeadline(time.Now().Add(30 * time.Second))
-	value, err := p.in.next(1 << 20)
-	if err != nil {
-		p.t.Fatal(err)
-	}
-	if err := decode(value, to); err != nil {
-		p.t.Fatal(err)
-	}
+	testkit.Must(p.t, p.in.decode(1<<20, to))
 }
 
 // says expects a header of this number and error.

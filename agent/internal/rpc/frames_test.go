@@ -4,9 +4,12 @@ import (
 	"bytes"
 	"net"
 	"reflect"
+	"strings"
 	"sync"
 	"testing"
+	"time"
 
+	"kitchenrue.example/agent/internal/testkit"
 	"kitchenrue.example/serf"
 )
 
@@ -19,9 +22,7 @@ func TestFramesAreWrittenTogether(t *testing.T) {
 	for i, length := range []int{10, maxWritten - 10, 1, 2 * maxWritten, 5, 6} {
 		frame := bytes.Repeat([]byte{byte(i)}, length)
 		want = append(want, frame...)
-		if err := c.queue(frame); err != nil {
-			t.Fatal(err)
-		}
+		testkit.Must(t, c.queue(frame))
 	}
 	var room []byte
 	for len(c.frames) > 0 {
@@ -31,7 +32,7 @@ func TestFramesAreWrittenTogether(t *testing.T) {
 		}
 		lengths = append(lengths, len(together))
 		found = append(found, together...)
-		room = together
+		room, c.isWriting = together, false
 	}
 	if wanted := []int{maxWritten, 1, 2 * maxWritten, 11}; !reflect.DeepEqual(lengths, wanted) || !bytes.Equal(found, want) {
 		t.Error(lengths)
@@ -42,6 +43,65 @@ func TestFramesAreWrittenTogether(t *testing.T) {
 	c.isLast = true
 	if together, _ := c.next(room[:0]); len(together) > 0 {
 		t.Error(together)
+	}
+}
+
+// pipeEnd is a connection that takes one frame after another, when it is told to.
+type pipeEnd struct {
+	net.Conn
+	written chan []byte
+}
+
+func (p *pipeEnd) Close() error                     { return nil }
+func (p *pipeEnd) SetWriteDeadline(time.Time) error { return nil }
+
+func (p *pipeEnd) Write(data []byte) (int, error) {
+	p.written <- append([]byte(nil), data...)
+	return len(data), nil
+}
+
+// An answer is written at once, and behind what waits or is being written.
+func TestAnswersKeepTheirPlace(t *testing.T) {
+	conn := &pipeEnd{written: make(chan []byte)}
+	c := &client{times: quick, conn: conn, cancel: func() {}}
+	c.changed = sync.NewCond(&c.mu)
+	answered := make(chan error, 1)
+	frame := func(seq uint64) []byte { return encoded(t, answerHeader{Seq: seq}) }
+	takes := func(seqs ...uint64) {
+		t.Helper()
+		var want []byte
+		for _, seq := range seqs {
+			want = append(want, frame(seq)...)
+		}
+		select {
+		case data := <-conn.written:
+			if !bytes.Equal(data, want) {
+				t.Fatalf("%q, not %q", data, want)
+			}
+		case <-time.After(time.Minute):
+			t.Fatal("nothing is written")
+		}
+	}
+	go func() { answered <- c.answer(1, nil) }()
+	testkit.Eventually(t, "what is waited for", func() bool {
+		c.mu.Lock()
+		defer c.mu.Unlock()
+		return c.isWriting
+	})
+	// (while that is written, these wait)
+	for _, err := range []error{c.queue(frame(2)), c.answer(3, nil)} {
+		testkit.Must(t, err)
+	}
+	go c.write()
+	takes(1)
+	testkit.Check(t, <-answered)
+	takes(2, 3)
+	c.mu.Lock()
+	c.isLast = true
+	c.changed.Broadcast()
+	c.mu.Unlock()
+	if err := c.answer(4, nil); err != net.ErrClosed {
+		t.Error(err)
 	}
 }
 
@@ -56,7 +116,7 @@ func TestAnEventOfManyStreams(t *testing.T) {
 		other.says(seq, "")
 		seqs[other] = append(seqs[other], seq)
 	}
-	eventually(t, func() bool { return streams(s) == 3 })
+	testkit.Eventually(t, "what is waited for", func() bool { return streams(s) == 3 })
 	for number := uint64(1); number <= 100; number++ {
 		s.Publish(serf.UserEvent{Name: "deploy", LTime: serf.LamportTime(number), Payload: []byte("v1")})
 	}
@@ -96,7 +156,7 @@ func TestBytesAreBin(t *testing.T) {
 	}
 	for _, payload := range []string{"\xa2v1", "\xc4\x02v1"} {
 		var body eventBody
-		if err := decode([]byte("\x82\xa4Name\xa1x\xa7Payload"+payload), &body); err != nil || body.Name != "x" || string(body.Payload) != "v1" {
+		if err := newReader(strings.NewReader("\x82\xa4Name\xa1x\xa7Payload"+payload)).decode(maxBody, &body); err != nil || body.Name != "x" || string(body.Payload) != "v1" {
 			t.Errorf("%q: %+v %v", payload, body, err)
 		}
 	}
@@ -105,9 +165,7 @@ func TestBytesAreBin(t *testing.T) {
 // What can't be written leaves nothing behind in what is written next.
 func TestEncodingBehindAFault(t *testing.T) {
 	want, err := encode(requestHeader{"members", 1})
-	if err != nil {
-		t.Fatal(err)
-	}
+	testkit.Must(t, err)
 	for i := 0; i < 10; i++ {
 		if _, err := encode("half", func() {}); err == nil {
 			t.Error("a function has no bytes")

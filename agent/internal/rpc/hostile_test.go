@@ -1,7 +1,6 @@
 package rpc
 
 import (
-	"bufio"
 	"bytes"
 	"errors"
 	"io"
@@ -10,6 +9,8 @@ import (
 	"testing"
 	"time"
 
+	"kitchenrue.example/agent/internal/testkit"
+	"kitchenrue.example/guard/msgpack"
 	"kitchenrue.example/serf"
 )
 
@@ -51,7 +52,7 @@ func TestTokens(t *testing.T) {
 	p.write(requestHeader{"auth", 1}, authBody{"sesame"}, requestHeader{"handshake", 2}, handshakeBody{1}, requestHeader{"event", 3}, eventBody{Name: "x"})
 	p.says(1, "Handshake required")
 	p.isEnded()
-	eventually(t, func() bool { return clients(s) == 0 })
+	testkit.Eventually(t, "what is waited for", func() bool { return clients(s) == 0 })
 	if len(f.calls) > 0 {
 		t.Error(f.calls)
 	}
@@ -98,7 +99,7 @@ func TestWhatEndsAClient(t *testing.T) {
 			t.Fatal(err)
 		}
 		p.isEnded()
-		eventually(t, func() bool { return clients(s) == 0 })
+		testkit.Eventually(t, "what is waited for", func() bool { return clients(s) == 0 })
 		if len(f.calls) > 0 {
 			t.Errorf("%s: %v", name, f.calls)
 		}
@@ -124,7 +125,7 @@ func TestTooManyClients(t *testing.T) {
 	}
 	// (the oldest asked for something, so it isn't the one that is idle for longest)
 	all[0].greet()
-	eventually(t, func() bool {
+	testkit.Eventually(t, "what is waited for", func() bool {
 		return counted(s, func(c *client) int {
 			if c.isBusy {
 				return 1
@@ -142,7 +143,7 @@ func TestTooManyClients(t *testing.T) {
 			stream(p)
 		}
 	}
-	eventually(t, func() bool { return streams(s) == MaxClients })
+	testkit.Eventually(t, "what is waited for", func() bool { return streams(s) == MaxClients })
 	dial(t, s).isEnded()
 	if clients(s) != MaxClients {
 		t.Error(clients(s))
@@ -180,7 +181,7 @@ func TestSlowClient(t *testing.T) {
 		p.says(p.ask("stream", streamBody{"user:deploy"}), "")
 	}
 	other.says(other.ask("stop", stopBody{2}), "")
-	eventually(t, func() bool { return streams(s) == 1 })
+	testkit.Eventually(t, "what is waited for", func() bool { return streams(s) == 1 })
 	payload := bytes.Repeat([]byte("x"), 4000)
 	began := time.Now()
 	for i := 0; i < 10000; i++ {
@@ -189,7 +190,7 @@ func TestSlowClient(t *testing.T) {
 	if length := time.Since(began); length > 10*time.Second {
 		t.Errorf("it waited %v", length)
 	}
-	eventually(t, func() bool { return clients(s) == 1 })
+	testkit.Eventually(t, "what is waited for", func() bool { return clients(s) == 1 })
 	other.says(other.ask("tags", tagsBody{}), "")
 }
 
@@ -198,11 +199,11 @@ func TestClientThatTakesNothing(t *testing.T) {
 	s, _, _ := start(t, "")
 	p := dial(t, s).greet()
 	p.says(p.ask("stream", streamBody{"user:deploy"}), "")
-	eventually(t, func() bool { return streams(s) == 1 })
+	testkit.Eventually(t, "what is waited for", func() bool { return streams(s) == 1 })
 	for i := 0; i < 1800; i++ {
 		s.Publish(serf.UserEvent{Name: "deploy", Payload: make([]byte, 4000)})
 	}
-	eventually(t, func() bool { return clients(s) == 0 })
+	testkit.Eventually(t, "what is waited for", func() bool { return clients(s) == 0 })
 }
 
 func TestAClientThatOnlyAsks(t *testing.T) {
@@ -210,9 +211,7 @@ func TestAClientThatOnlyAsks(t *testing.T) {
 	f.more = make([]serf.Member, 2000)
 	p := dial(t, s).greet()
 	data, err := encode(requestHeader{"members", 1})
-	if err != nil {
-		t.Fatal(err)
-	}
+	testkit.Must(t, err)
 	many := bytes.Repeat(data, 1000)
 	_ = p.conn.SetWriteDeadline(time.Now().Add(20 * time.Second))
 	for i := 0; i < 1000; i++ {
@@ -223,7 +222,7 @@ func TestAClientThatOnlyAsks(t *testing.T) {
 	if err == nil {
 		t.Error("it isn't ended")
 	}
-	eventually(t, func() bool { return clients(s) == 0 })
+	testkit.Eventually(t, "what is waited for", func() bool { return clients(s) == 0 })
 }
 
 // A join of addresses at which nobody answers holds up neither others nor the end.
@@ -248,16 +247,12 @@ func TestReader(t *testing.T) {
 		bytes string
 		err   error
 	}{
-		{"\xc0", nil}, {"\x7f", nil}, {"\xff", nil}, {"\xc2", nil}, {"\x80", nil}, {"\x90", nil}, {"\xa0", nil}, {"\xa1x", nil},
-		{"\x81\xa1x\x01", nil}, {"\x92\x01\x02", nil}, {"\xcc\x01", nil}, {"\xcf12345678", nil}, {"\xd0\x01", nil},
-		{"\xd3\x0112345678"[:9], nil}, {"\xca1234", nil}, {"\xcb12345678", nil}, {"\xd9\x01x", nil}, {"\xda\x00\x01x", nil},
-		{"\xdb\x00\x00\x00\x01x", nil}, {"\xc4\x01x", nil}, {"\xc5\x00\x01x", nil}, {"\xc6\x00\x00\x00\x01x", nil},
-		{"\xdc\x00\x01\x01", nil}, {"\xdd\x00\x00\x00\x01\x01", nil}, {"\xde\x00\x01\x01\x01", nil}, {"\xdf\x00\x00\x00\x01\x01\x01", nil},
+		{"\xc0", nil}, {"\x81\xa1x\x01", nil}, {"\xcf12345678", nil}, {"\xa1x", nil}, {"\xc6\x00\x00\x00\x01x", nil}, {"\xdd\x00\x00\x00\x01\x01", nil},
 		{"", io.EOF}, {"\xa2x", io.ErrUnexpectedEOF}, {"\x92\x01", io.EOF}, {"\xcf1234", io.ErrUnexpectedEOF},
-		{"\xda\xff\xff", errTooLong}, {"\xdd\xff\xff\xff\xff", errTooLong}, {"\xdf\xff\xff\xff\xff", errTooLong},
-		{strings.Repeat("\x91", 8) + "\x01", nil}, {strings.Repeat("\x91", 9) + "\x01", errTooDeep},
+		{"\xda\xff\xff", msgpack.ErrLong}, {"\xdd\xff\xff\xff\xff", msgpack.ErrLong}, {"\xdf\xff\xff\xff\xff", msgpack.ErrLong},
+		{strings.Repeat("\x91", 8) + "\x01", nil}, {strings.Repeat("\x91", 9) + "\x01", msgpack.ErrDeep},
 	} {
-		r := &reader{in: bufio.NewReader(strings.NewReader(one.bytes))}
+		r := newReader(strings.NewReader(one.bytes))
 		value, err := r.next(64)
 		if !errors.Is(err, one.err) || err == nil && string(value) != one.bytes {
 			t.Errorf("%q: %q %v", one.bytes, value, err)

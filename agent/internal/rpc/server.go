@@ -9,6 +9,7 @@ import (
 	"fmt"
 	"net"
 	"sync"
+	"sync/atomic"
 	"time"
 
 	"github.com/armon/go-metrics"
@@ -51,8 +52,13 @@ type Server struct {
 	stop     context.CancelFunc
 	over     sync.WaitGroup
 
+	// commands is how many requests came that nobody was told of yet.
+	commands atomic.Int64
+
 	mu      sync.Mutex
 	clients map[*client]struct{}
+	// streaming are those that may have a stream.
+	streaming map[*client]struct{}
 	// queries is how many queries were published, by which they are numbered.
 	queries uint64
 }
@@ -68,9 +74,10 @@ func listen(address, token string, backend Backend, log *logs.Log, times times) 
 		return nil, fmt.Errorf("the RPC address: %w", err)
 	}
 	ctx, stop := context.WithCancel(context.Background())
-	s := &Server{backend: backend, log: log, auth: token, times: times, listener: listener, ctx: ctx, stop: stop, clients: map[*client]struct{}{}}
-	s.over.Add(1)
+	s := &Server{backend: backend, log: log, auth: token, times: times, listener: listener, ctx: ctx, stop: stop, clients: map[*client]struct{}{}, streaming: map[*client]struct{}{}}
+	s.over.Add(2)
 	go s.accept()
+	go s.count()
 	return s, nil
 }
 
@@ -117,6 +124,7 @@ func (s *Server) serve(conn net.Conn) {
 		c.read()
 		s.mu.Lock()
 		delete(s.clients, c)
+		delete(s.streaming, c)
 		s.mu.Unlock()
 	}()
 	go func() {
@@ -151,8 +159,25 @@ func (s *Server) Publish(e serf.Event) {
 		s.queries++
 	}
 	one := &published{Event: e, number: s.queries}
-	for c := range s.clients {
+	for c := range s.streaming {
 		c.publish(one)
+	}
+}
+
+// count tells once a second how many requests came: to tell of each takes longer than to read it.
+func (s *Server) count() {
+	defer s.over.Done()
+	second := time.NewTicker(time.Second)
+	defer second.Stop()
+	for isOver := false; !isOver; {
+		select {
+		case <-second.C:
+		case <-s.ctx.Done():
+			isOver = true
+		}
+		if fresh := s.commands.Swap(0); fresh > 0 {
+			metrics.IncrCounter([]string{"agent", "ipc", "command"}, float32(fresh))
+		}
 	}
 }
 

@@ -3,135 +3,67 @@ package rpc
 import (
 	"bufio"
 	"bytes"
-	"encoding/binary"
-	"errors"
 	"fmt"
 	"io"
 	"sync"
 
 	"github.com/hashicorp/go-msgpack/codec"
+
+	"kitchenrue.example/guard/msgpack"
 )
 
 // Limits of what a client may send.
 const (
 	maxHeader = 1 << 10
 	maxBody   = 64 << 10
-	maxDepth  = 8
-)
-
-var (
-	errTooLong = errors.New("the value is too long")
-	errTooDeep = errors.New("the value is nested too deep")
 )
 
 // reader takes one value of MessagePack after another off a stream. It takes each whole, and within a limit, before the
 // library that decodes it sees it: so no length that a client claims is believed before its bytes are there.
 type reader struct {
-	in    *bufio.Reader
-	value []byte
-	limit int
+	in *bufio.Reader
+	of msgpack.Reader
+	// decoder reads what stands in whole, and keeps what it found out of types.
+	whole   bytes.Reader
+	decoder *codec.Decoder
+}
+
+func newReader(in io.Reader) *reader {
+	r := &reader{in: bufio.NewReaderSize(in, 4<<10)}
+	r.of.More = r.more
+	r.decoder = codec.NewDecoder(&r.whole, handle())
+	return r
+}
+
+// decode takes the next value, and reads it into one of Go's.
+func (r *reader) decode(limit int, to interface{}) error {
+	value, err := r.next(limit)
+	if err != nil {
+		return err
+	}
+	r.whole.Reset(value)
+	if err := r.decoder.Decode(to); err != nil {
+		return fmt.Errorf("the value is of another kind: %w", err)
+	}
+	return nil
 }
 
 // next gives the bytes of the next value, until the next call.
 func (r *reader) next(limit int) ([]byte, error) {
-	r.value, r.limit = r.value[:0], limit
-	if err := r.take(0); err != nil {
-		return nil, err
-	}
-	return r.value, nil
+	r.of.Data, r.of.At, r.of.Most, r.of.Err = r.of.Data[:0], 0, limit, nil
+	r.of.Skip()
+	return r.of.Data, r.of.Err
 }
 
-// bytes takes so many bytes, and gives them.
-func (r *reader) bytes(count uint64) ([]byte, error) {
-	if count > uint64(r.limit-len(r.value)) {
-		return nil, errTooLong
+// more takes so many bytes of the stream.
+func (r *reader) more(count int) error {
+	from := len(r.of.Data)
+	if count > r.of.Most-from {
+		return msgpack.ErrLong
 	}
-	from := len(r.value)
-	r.value = append(r.value, make([]byte, count)...)
-	_, err := io.ReadFull(r.in, r.value[from:])
-	return r.value[from:], err
-}
-
-// length takes a length of so many bytes.
-func (r *reader) length(size uint64) (uint64, error) {
-	digits, err := r.bytes(size)
-	if err != nil {
-		return 0, err
-	}
-	var whole [8]byte
-	copy(whole[8-size:], digits)
-	return binary.BigEndian.Uint64(whole[:]), nil
-}
-
-// take takes one value.
-func (r *reader) take(depth int) error {
-	head, err := r.bytes(1)
-	if err != nil {
-		return err
-	}
-	switch b := head[0]; {
-	case b <= 0x7f, b >= 0xe0, b == 0xc0, b == 0xc2, b == 0xc3:
-		return nil
-	case b <= 0x8f:
-		return r.values(2*uint64(b&0x0f), depth)
-	case b <= 0x9f:
-		return r.values(uint64(b&0x0f), depth)
-	case b <= 0xbf:
-		_, err = r.bytes(uint64(b & 0x1f))
-		return err
-	case b >= 0xc4 && b <= 0xc6:
-		return r.raw(1 << (b - 0xc4))
-	case b == 0xca || b == 0xcb:
-		_, err = r.bytes(4 << (b - 0xca))
-		return err
-	case b >= 0xcc && b <= 0xcf:
-		_, err = r.bytes(1 << (b - 0xcc))
-		return err
-	case b >= 0xd0 && b <= 0xd3:
-		_, err = r.bytes(1 << (b - 0xd0))
-		return err
-	case b >= 0xd9 && b <= 0xdb:
-		return r.raw(1 << (b - 0xd9))
-	case b == 0xdc || b == 0xdd:
-		return r.counted(2<<(b-0xdc), 1, depth)
-	case b == 0xde || b == 0xdf:
-		return r.counted(2<<(b-0xde), 2, depth)
-	default:
-		return fmt.Errorf("the byte %#x begins no value", b)
-	}
-}
-
-func (r *reader) raw(size uint64) error {
-	count, err := r.length(size)
-	if err != nil {
-		return err
-	}
-	_, err = r.bytes(count)
+	r.of.Data = append(r.of.Data, make([]byte, count)...)
+	_, err := io.ReadFull(r.in, r.of.Data[from:])
 	return err
-}
-
-func (r *reader) counted(size, each uint64, depth int) error {
-	count, err := r.length(size)
-	if err != nil {
-		return err
-	}
-	return r.values(count*each, depth)
-}
-
-func (r *reader) values(count uint64, depth int) error {
-	if depth >= maxDepth {
-		return errTooDeep
-	}
-	// (each value has a byte at least)
-	if count > uint64(r.limit-len(r.value)) {
-		return errTooLong
-	}
-	for ; count > 0; count-- {
-		if err := r.take(depth + 1); err != nil {
-			return err
-		}
-	}
-	return nil
 }
 
 // handle is how values are written and read, as Serf has it: text is raw, and bytes are bin. A client that reads a payload or an
@@ -140,14 +72,6 @@ func handle() *codec.MsgpackHandle {
 	handle := &codec.MsgpackHandle{WriteExt: true}
 	handle.RawToString = true
 	return handle
-}
-
-// decode reads a value whose bytes are all there.
-func decode(value []byte, to interface{}) error {
-	if err := codec.NewDecoderBytes(value, handle()).Decode(to); err != nil {
-		return fmt.Errorf("the value is of another kind: %w", err)
-	}
-	return nil
 }
 
 // encoder writes values behind one another, and keeps what it found out of their types.

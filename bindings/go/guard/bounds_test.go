@@ -5,6 +5,7 @@ import (
 	"math/rand"
 	"net"
 	"reflect"
+	"runtime"
 	"testing"
 	"time"
 
@@ -125,6 +126,24 @@ func TestHeld(t *testing.T) {
 	}
 }
 
+// What streams gave back is collected where they took twice what they may have.
+func TestCollected(t *testing.T) {
+	g := testGuard(t, false, Settings{StreamBytes: 8000, AllBytes: 8000})
+	user := append(message(kindUser, map[string]any{"UserMsgLen": 5000}), zeros(5000)...)
+	forced := func() uint32 {
+		var is runtime.MemStats
+		runtime.ReadMemStats(&is)
+		return is.NumForcedGC
+	}
+	before := forced()
+	for n := 0; n < 10; n++ {
+		readStream(g, user, false)
+	}
+	if ran := forced() - before; ran < 4 || ran > 10 {
+		t.Errorf("it ran %d times", ran)
+	}
+}
+
 // Where as many nodes are known as may be, new ones stay out; those that are known are heard, and others come when some have left.
 func TestMembers(t *testing.T) {
 	for _, isKeyed := range []bool{false, true} {
@@ -167,6 +186,20 @@ func TestKnown(t *testing.T) {
 	members, isKnown = 100, true
 	if !admits("d") {
 		t.Error("a node that is known is refused")
+	}
+}
+
+// A node that comes just while another one is looked at keeps its place.
+func TestOneThatComesMeanwhile(t *testing.T) {
+	var g *Transport
+	g = testGuard(t, false, Settings{Members: 1, Known: func(name string) (int, bool) {
+		if name == "b" {
+			g.members.NotifyJoin(&memberlist.Node{Name: "a"})
+		}
+		return 0, false
+	}})
+	if !g.members.admit([]byte("a")) || g.members.admit([]byte("b")) {
+		t.Error("one place is two nodes'")
 	}
 }
 
@@ -358,14 +391,14 @@ func TestReadAlike(t *testing.T) {
 	for kind, s := range append(shapes.of[:], shapes.node) {
 		for n := numberOf("GUARD_READS", 5000); n > 0 && s != nil; n-- {
 			bytes := change(r, valueOf(r, s))
-			reader := reader{buf: bytes}
+			reader := readerOf(bytes)
 			var values [greatestShape]value
 			if reader.object(s, &values) != none {
 				continue
 			}
 			taken++
 			into := reflect.New(typeOf(s))
-			decoder := codec.NewDecoderBytes(bytes[:reader.at], &codec.MsgpackHandle{})
+			decoder := codec.NewDecoderBytes(bytes[:reader.At], &codec.MsgpackHandle{})
 			if err := decoder.Decode(into.Interface()); err != nil {
 				t.Fatalf("type %d, %x: %v", kind, bytes, err)
 			}

@@ -221,7 +221,7 @@ func (c *child) send(bytes []byte) {
 		return
 	}
 	defer conn.Close()
-	conn.SetDeadline(time.Now().Add(15 * time.Second))
+	conn.SetDeadline(time.Now().Add(time.Minute))
 	conn.Write(bytes)
 	conn.(*net.TCPConn).CloseWrite()
 	io.Copy(io.Discard, conn)
@@ -244,45 +244,43 @@ func TestAllAtOnce(t *testing.T) {
 	length := time.Duration(numberOf("GUARD_SECONDS", 1)) * time.Second
 	for by, name := range keysOf[:2] {
 		c := startChild(t, order{IsKeyed: by > 0})
-		packets, streams, end := changedPackets(), changedStreams(), time.Now().Add(length)
-		var counts [3]atomic.Int64
-		flood := func(kind int, once func(r *rand.Rand)) func(*rand.Rand) {
-			return func(r *rand.Rand) {
-				for time.Now().Before(end) {
-					once(r)
-					counts[kind].Add(1)
-				}
-			}
+		counts := c.flood(length, 0)
+		if !c.isAlive() {
+			c.Fatal("no answer")
 		}
-		packet := flood(0, func(r *rand.Rand) {
-			if bytes := packets[r.Intn(len(packets))].make(r); by > 0 {
-				c.udp.Write(c.seal(bytes))
-			} else {
-				c.udp.Write(bytes)
-			}
-		})
-		stream := flood(1, func(r *rand.Rand) { c.send(c.changedStream(r, streams[r.Intn(len(streams))], by)) })
-		idle := flood(2, func(r *rand.Rand) {
+		c.mustJoin()
+		t.Logf("%s: %d packets, %d streams, %d idle ones, %d KiB at most, dropped: %v", name, counts[0], counts[1], counts[2], c.peak(), c.drops())
+	}
+}
+
+// flood sends changed packets, changed streams and idle streams at once for so long, and counts each.
+func (c *child) flood(length time.Duration, seed int64) (counts [3]int64) {
+	packets, streams, end, by := changedPackets(), changedStreams(), time.Now().Add(length), 0
+	if c.IsKeyed {
+		by = 1
+	}
+	each := []func(*rand.Rand){
+		func(r *rand.Rand) { c.udp.Write(c.seal(packets[r.Intn(len(packets))].make(r))) },
+		func(r *rand.Rand) { c.send(c.changedStream(r, streams[r.Intn(len(streams))], by)) },
+		func(r *rand.Rand) {
 			if conn, err := net.Dial("tcp", c.address); err == nil {
 				conn.Write(c.sealStream(pushPull(nil, 1<<20))[:1+r.Intn(1<<20)])
 				time.AfterFunc(3*time.Second, func() { conn.Close() })
 			}
 			time.Sleep(5 * time.Millisecond)
-		})
-		var all sync.WaitGroup
-		for at, one := range []func(*rand.Rand){packet, packet, stream, stream, idle} {
-			all.Add(1)
-			go func(one func(*rand.Rand), r *rand.Rand) {
-				defer all.Done()
-				one(r)
-			}(one, rand.New(rand.NewSource(int64(at))))
-		}
-		all.Wait()
-		if !c.isAlive() {
-			c.Fatal("no answer")
-		}
-		c.mustJoin()
-		t.Logf("%s: %d packets, %d streams, %d idle ones, %d KiB at most, dropped: %v", name, counts[0].Load(), counts[1].Load(),
-			counts[2].Load(), c.peak(), c.drops())
+		},
 	}
+	var all sync.WaitGroup
+	for at, kind := range []int{0, 0, 1, 1, 2} {
+		all.Add(1)
+		go func(kind int, r *rand.Rand) {
+			defer all.Done()
+			for time.Now().Before(end) {
+				each[kind](r)
+				atomic.AddInt64(&counts[kind], 1)
+			}
+		}(kind, rand.New(rand.NewSource(seed+int64(at))))
+	}
+	all.Wait()
+	return counts
 }

@@ -125,6 +125,10 @@ func runChild(told string) {
 		c.ProbeInterval, c.ProbeTimeout = 300*time.Millisecond, 150*time.Millisecond
 		c.PushPullInterval, c.GossipInterval = 500*time.Millisecond, 20*time.Millisecond
 	}
+	if o.Members > 0 {
+		// (nobody is there who answers a probe: however long it lasts, none of them fails)
+		c.ProbeInterval = time.Hour
+	}
 	c.Delegate = own
 	if !o.IsAlone {
 		var err error
@@ -304,7 +308,7 @@ func (c *child) call(bytes []byte, isClosed bool) []byte {
 		c.Fatal(err)
 	}
 	defer conn.Close()
-	conn.SetDeadline(time.Now().Add(15 * time.Second))
+	conn.SetDeadline(time.Now().Add(time.Minute))
 	conn.Write(bytes)
 	if isClosed {
 		conn.(*net.TCPConn).CloseWrite()

@@ -20,6 +20,9 @@ type members struct {
 	// probed each other one (state.go, resetNodes).
 	tick, stay time.Duration
 
+	// admitting is held while it is found whether there is room.
+	admitting sync.Mutex
+
 	mu          sync.Mutex
 	there       map[string]bool
 	left, letIn map[string]time.Time
@@ -40,8 +43,15 @@ func newMembers(s *Settings, c *memberlist.Config) *members {
 
 // admit says whether a node may be, and keeps a place for one that memberlist doesn't know yet.
 func (m *members) admit(name []byte) bool {
+	m.admitting.Lock()
+	defer m.admitting.Unlock()
 	now := time.Now()
 	m.sweep(now)
+	// (who is awaited and comes just now counts twice, and so is never missed)
+	m.mu.Lock()
+	awaited := len(m.letIn)
+	_, isLetIn := m.letIn[string(name)]
+	m.mu.Unlock()
 	count, isKnown := m.known(string(name))
 	m.mu.Lock()
 	defer m.mu.Unlock()
@@ -49,13 +59,12 @@ func (m *members) admit(name []byte) bool {
 		delete(m.letIn, string(name))
 		return true
 	}
-	if _, isLetIn := m.letIn[string(name)]; isLetIn {
-		return true
-	}
-	if count+len(m.letIn) >= m.most {
+	if !isLetIn && count+awaited >= m.most {
 		return false
 	}
-	m.letIn[string(name)] = now
+	if !isLetIn {
+		m.letIn[string(name)] = now
+	}
 	return true
 }
 

@@ -1,106 +1,53 @@
 package guard
 
-import "encoding/binary"
+import (
+	"encoding/binary"
 
-// reader reads MessagePack from what is there and, of a stream, from what comes. It takes what go-msgpack writes of memberlist's types,
-// and reads it as go-msgpack does: no length is believed before the bytes are there, and nothing is within a value.
-type reader struct {
-	buf []byte
-	at  int
-	// more has at least so many bytes more come to buf; where it is nil, nothing comes.
-	more func(least int) Reason
-	// lost is why nothing can be read any more.
-	lost Reason
-}
-
-func (r *reader) take(n int) []byte {
-	if missing := n - (len(r.buf) - r.at); missing > 0 && r.lost == none {
-		r.lost = Malformed
-		if r.more != nil {
-			r.lost = r.more(missing)
-		}
-	}
-	if r.lost != none {
-		return nil
-	}
-	r.at += n
-	return r.buf[r.at-n : r.at : r.at]
-}
-
-func (r *reader) fail() {
-	if r.lost == none {
-		r.lost = Malformed
-	}
-}
-
-// uint reads a number of so many bytes; 0 where it is lost.
-func (r *reader) uint(size int) (n uint64) {
-	for _, b := range r.take(size) {
-		n = n<<8 | uint64(b)
-	}
-	return n
-}
-
-func (r *reader) byte() byte { return byte(r.uint(1)) }
-
-// sort is of which sort a value is.
-type sort uint8
-
-const (
-	isNil sort = iota
-	isFlag
-	isNumber
-	isNegative
-	isFloat
-	isText // a string, of bytes too: as go-msgpack writes both
-	isRaw
+	"kitchenrue.example/guard/msgpack"
 )
 
+// reader takes what go-msgpack writes of memberlist's types, and reads it as go-msgpack does: nothing is within a value.
+type reader struct{ msgpack.Reader }
+
+func readerOf(data []byte) reader { return reader{msgpack.Reader{Data: data}} }
+
+// lost is why nothing can be read any more.
+func (r *reader) lost() Reason {
+	switch why := r.Err.(type) {
+	case nil:
+		return none
+	case refusal:
+		return Reason(why)
+	}
+	return Malformed
+}
+
+// lose notes why nothing can be read any more, where there is a reason.
+func (r *reader) lose(why Reason) {
+	if why != none {
+		r.Fail(refusal(why))
+	}
+}
+
 type value struct {
-	sort   sort
+	sort   msgpack.Sort
 	number uint64
 	bytes  []byte
 }
 
 // scalar reads any value that has none within.
 func (r *reader) scalar() value {
-	switch b := r.byte(); {
-	case b < 0x80:
-		return value{sort: isNumber, number: uint64(b)}
-	case b >= 0xe0:
-		return value{sort: isNegative}
-	case b >= 0xa0 && b < 0xc0:
-		return r.bytes(isText, uint64(b&0x1f))
-	case b == 0xc0:
-		return value{sort: isNil}
-	case b == 0xc2 || b == 0xc3:
-		return value{sort: isFlag, number: uint64(b & 1)}
-	case b >= 0xc4 && b <= 0xc6:
-		return r.bytes(isRaw, r.uint(1<<(b-0xc4)))
-	case b == 0xca || b == 0xcb:
-		r.take(4 << (b - 0xca))
-		return value{sort: isFloat}
-	case b >= 0xcc && b <= 0xcf:
-		return value{sort: isNumber, number: r.uint(1 << (b - 0xcc))}
-	case b >= 0xd0 && b <= 0xd3:
-		size := 1 << (b - 0xd0)
-		if n := r.uint(size); n>>(8*size-1) == 0 {
-			return value{sort: isNumber, number: n}
+	sort, is := r.Next()
+	switch sort {
+	case msgpack.Text, msgpack.Bytes:
+		if is > 1<<30 {
+			r.lose(Malformed)
 		}
-		return value{sort: isNegative}
-	case b >= 0xd9 && b <= 0xdb:
-		return r.bytes(isText, r.uint(1<<(b-0xd9)))
+		return value{sort: sort, bytes: r.Take(int(is))}
+	case msgpack.Array, msgpack.Map:
+		r.lose(Malformed)
 	}
-	r.fail()
-	return value{}
-}
-
-func (r *reader) bytes(of sort, n uint64) value {
-	if n > 1<<30 {
-		r.fail()
-		n = 0
-	}
-	return value{sort: of, bytes: r.take(int(n))}
+	return value{sort: sort, number: is}
 }
 
 // greatestKey and greatestExtra are how many bytes the name of a field, and the value of an unknown one, have at most.
@@ -112,16 +59,16 @@ const (
 // object reads a map of the fields of a shape into values, each once at most, and unknown ones beside. Where one is wrong, the rest is
 // read all the same, as long as it can be.
 func (r *reader) object(s shape, values *[greatestShape]value) Reason {
-	head := r.byte()
+	head := r.Uint(1)
 	if head&0xf0 != 0x80 {
-		r.fail()
+		r.lose(Malformed)
 	}
 	var seen uint
 	var fault Reason
-	for n := head & 0x0f; n > 0 && r.lost == none; n-- {
+	for n := head & 0x0f; n > 0 && r.Err == nil; n-- {
 		key := r.scalar()
-		if key.sort != isText || len(key.bytes) > greatestKey {
-			r.fail()
+		if key.sort != msgpack.Text || len(key.bytes) > greatestKey {
+			r.lose(Malformed)
 		}
 		at, v := s.index(key.bytes), r.scalar()
 		why := none
@@ -140,7 +87,7 @@ func (r *reader) object(s shape, values *[greatestShape]value) Reason {
 			fault = fault.or(f.why)
 		}
 	}
-	return r.lost.or(fault)
+	return r.lost().or(fault)
 }
 
 // writeNumber and writeText write as go-msgpack does.

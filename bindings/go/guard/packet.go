@@ -61,12 +61,12 @@ func (l *looker) mayBeSealed(packet []byte) bool {
 }
 
 func (l *looker) expand(in []byte) ([]byte, Reason) {
-	r := reader{buf: in}
+	r := readerOf(in)
 	var values [greatestShape]value
 	if why := r.object(l.shapes.of[kindCompress], &values); why != none {
 		return nil, why
 	}
-	if r.at < len(in) {
+	if r.At < len(in) {
 		return nil, Trailing
 	}
 	return inflate(values[compressBuf].bytes, l.inflated, l.bounds.PacketBytes, nil)
@@ -165,12 +165,12 @@ func (l *looker) message(m []byte) Reason {
 	case kind >= kindErr || kind == kindPushPull:
 		return Kind
 	}
-	r := reader{buf: m[1:]}
+	r := readerOf(m[1:])
 	var values [greatestShape]value
 	if why := r.object(l.shapes.of[m[0]], &values); why != none {
 		return why
 	}
-	if r.at < len(r.buf) {
+	if r.At < len(r.Data) {
 		return Trailing
 	}
 	return l.isDue(m[0], &values)
@@ -219,7 +219,7 @@ func (l *looker) sent(packet []byte) {
 	if body[0] > kindIndirect {
 		return
 	}
-	r := reader{buf: body[1:]}
+	r := readerOf(body[1:])
 	var values [greatestShape]value
 	if why := r.object(l.shapes.of[body[0]], &values); why != none {
 		l.pings.outUnread()

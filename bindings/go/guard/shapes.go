@@ -1,6 +1,10 @@
 package guard
 
-import "net"
+import (
+	"net"
+
+	"kitchenrue.example/guard/msgpack"
+)
 
 // The types of messages, as memberlist's net.go numbers them.
 const (
@@ -119,19 +123,19 @@ func makeShapes(s *Settings) *shapes {
 
 // check says what is wrong with a field's value.
 func (f *field) check(v value) Reason {
-	isBytes := v.sort == isText || v.sort == isRaw || v.sort == isNil
+	isBytes := v.sort == msgpack.Text || v.sort == msgpack.Bytes || v.sort == msgpack.Nil
 	n := uint64(len(v.bytes))
 	switch f.want {
 	case number:
-		if v.sort == isNegative {
+		if v.sort == msgpack.Negative {
 			return f.why
 		}
-		if v.sort != isNumber {
+		if v.sort != msgpack.Number {
 			return Malformed
 		}
 		n = v.number
 	case text:
-		if v.sort != isText {
+		if v.sort != msgpack.Text {
 			return Malformed
 		}
 	case raw, address:
@@ -142,7 +146,7 @@ func (f *field) check(v value) Reason {
 			return f.why
 		}
 	case flag:
-		if v.sort != isFlag {
+		if v.sort != msgpack.Flag {
 			return Malformed
 		}
 	}

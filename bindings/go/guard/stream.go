@@ -40,7 +40,7 @@ const (
 
 func (c *core) newStream(conn net.Conn, isDialed bool) *stream {
 	s := &stream{Conn: conn, core: c, isDialed: isDialed, gone: make(chan struct{})}
-	s.in.more = s.more
+	s.in.More = s.more
 	s.keepDeadline(time.Time{})
 	return s
 }
@@ -80,7 +80,7 @@ func (s *stream) Read(p []byte) (int, error) {
 		} else {
 			s.refuse(why)
 		}
-		s.in.buf = nil
+		s.in.Data = nil
 	}
 	if len(s.out) == 0 {
 		return 0, s.end
@@ -98,7 +98,7 @@ func (s *stream) refuse(why Reason) {
 	default:
 	}
 	// (where nothing came, nothing is dropped)
-	if why != Short || len(s.in.buf) > 0 {
+	if why != Short || len(s.in.Data) > 0 {
 		s.drops.add(why)
 	}
 	switch {
@@ -110,40 +110,40 @@ func (s *stream) refuse(why Reason) {
 }
 
 // more reads from the network. The room at most doubles what came, whatever length was claimed.
-func (s *stream) more(least int) Reason {
+func (s *stream) more(least int) error {
 	for least > 0 {
-		have := len(s.in.buf)
+		have := len(s.in.Data)
 		if have+least > s.bounds.StreamBytes {
-			return TooLong
+			return refusal(TooLong)
 		}
-		if have == cap(s.in.buf) {
+		if have == cap(s.in.Data) {
 			room := lesser(2*have+leastStream, s.bounds.StreamBytes)
 			if least > leastStream {
 				room = lesser(room, have+least)
 			}
 			if why := s.streams.hold(s, room-have); why != none {
-				return why
+				return refusal(why)
 			}
-			s.in.buf = append(make([]byte, 0, room), s.in.buf...)
+			s.in.Data = append(make([]byte, 0, room), s.in.Data...)
 		}
-		n, err := s.Conn.Read(s.in.buf[have:cap(s.in.buf)])
-		s.in.buf = s.in.buf[:have+n]
+		n, err := s.Conn.Read(s.in.Data[have:cap(s.in.Data)])
+		s.in.Data = s.in.Data[:have+n]
 		least -= n
 		if err != nil && least > 0 {
 			s.err = err
-			return Short
+			return refusal(Short)
 		}
 	}
-	return none
+	return nil
 }
 
 // look reads the message, and gives what memberlist may read (net.go, readStream).
 func (s *stream) look() ([]byte, Reason) {
-	first, ciphers := s.in.byte(), s.ring.all()
+	first, ciphers := byte(s.in.Uint(1)), s.ring.all()
 	var changed []byte
 	var isPush bool
 	switch {
-	case s.in.lost != none:
+	case s.in.Err != nil:
 	case first == kindEncrypt && len(ciphers) == 0:
 		return nil, Sealed
 	case first == kindEncrypt:
@@ -151,13 +151,13 @@ func (s *stream) look() ([]byte, Reason) {
 	case len(ciphers) > 0 && s.verifyIn:
 		return nil, Plain
 	default:
-		s.in.at = 0
+		s.in.At = 0
 		changed, isPush = s.message(&s.in, true)
 	}
-	if s.in.lost != none {
-		return nil, s.in.lost
+	if s.in.Err != nil {
+		return nil, s.in.lost()
 	}
-	out := s.in.buf[:s.in.at]
+	out := s.in.Data[:s.in.At]
 	if changed != nil {
 		out = changed
 	}
@@ -172,20 +172,21 @@ func (s *stream) look() ([]byte, Reason) {
 
 // sealed looks into what is encrypted (net.go, decryptRemoteState), and encrypts again what it changes.
 func (s *stream) sealed(ciphers []cipher.AEAD) (changed []byte, isPush bool) {
-	length := s.in.uint(streamHead - 1)
+	length := s.in.Uint(streamHead - 1)
 	if length > uint64(s.bounds.StreamBytes) {
-		s.in.lost = s.in.lost.or(TooLong)
+		s.in.lose(TooLong)
 	}
-	body := s.in.take(int(length))
-	s.in.lost = s.in.lost.or(s.streams.hold(s, len(body)))
-	if s.in.lost != none {
+	body := s.in.Take(int(length))
+	s.in.lose(s.streams.hold(s, len(body)))
+	if s.in.Err != nil {
 		return nil, false
 	}
-	var plain reader
-	plain.buf, s.in.lost = open(ciphers, body, s.in.buf[:streamHead], make([]byte, 0, len(body)))
+	data, why := open(ciphers, body, s.in.Data[:streamHead], make([]byte, 0, len(body)))
+	s.in.lose(why)
+	plain := readerOf(data)
 	changed, isPush = s.within(&plain, true)
-	if changed != nil && s.in.lost == none {
-		s.in.lost = s.streams.hold(s, len(changed))
+	if changed != nil && s.in.Err == nil {
+		s.in.lose(s.streams.hold(s, len(changed)))
 		changed = sealStream(ciphers[0], changed)
 	}
 	return changed, isPush
@@ -193,11 +194,11 @@ func (s *stream) sealed(ciphers []cipher.AEAD) (changed []byte, isPush bool) {
 
 // within looks at a whole message that was in a wrapper.
 func (s *stream) within(r *reader, mayExpand bool) (changed []byte, isPush bool) {
-	if s.in.lost == none {
+	if s.in.Err == nil {
 		changed, isPush = s.message(r, mayExpand)
-		s.in.lost = s.in.lost.or(r.lost)
-		if r.at < len(r.buf) {
-			s.in.lost = s.in.lost.or(Trailing)
+		s.in.lose(r.lost())
+		if r.At < len(r.Data) {
+			s.in.lose(Trailing)
 		}
 	}
 	return changed, isPush
@@ -205,30 +206,32 @@ func (s *stream) within(r *reader, mayExpand bool) (changed []byte, isPush bool)
 
 // message looks at the one of a stream; where it is refused, the reader has why. What it gives is nil where nothing has to be changed.
 func (s *stream) message(r *reader, mayExpand bool) (changed []byte, isPush bool) {
-	kind := r.byte()
+	kind := byte(r.Uint(1))
 	isOne, isAnswer := kind == kindUser || kind == kindPing, kind == kindAck || kind == kindErr
 	isPush = kind == kindPushPull
 	var values [greatestShape]value
 	switch {
-	case r.lost != none:
+	case r.Err != nil:
 	case kind == kindCompress && mayExpand:
-		var all reader
-		if r.lost = r.object(s.shapes.of[kind], &values); r.lost == none {
+		var data []byte
+		why := r.object(s.shapes.of[kind], &values)
+		if why == none {
 			hold := func(more int) Reason { return s.streams.hold(s, more) }
-			all.buf, r.lost = inflate(values[compressBuf].bytes, nil, s.bounds.StreamBytes, hold)
+			data, why = inflate(values[compressBuf].bytes, nil, s.bounds.StreamBytes, hold)
 		}
-		if r.lost == none {
+		if r.lose(why); r.Err == nil {
+			all := readerOf(data)
 			return s.within(&all, false)
 		}
 	case isWrapper(kind):
-		r.lost = Nested
+		r.lose(Nested)
 	case !isPush && !(isOne && !s.isDialed) && !(isAnswer && s.isDialed):
-		r.lost = Kind
+		r.lose(Kind)
 	case isPush:
 		changed = s.state(r)
 	default:
-		if r.lost = r.object(s.shapes.of[kind], &values); kind == kindUser {
-			r.take(int(values[userLength].number))
+		if r.lose(r.object(s.shapes.of[kind], &values)); kind == kindUser {
+			r.Take(int(values[userLength].number))
 		}
 	}
 	return changed, isPush
@@ -238,40 +241,40 @@ func (s *stream) message(r *reader, mayExpand bool) (changed []byte, isPush bool
 // heard.
 func (s *stream) state(r *reader) []byte {
 	var values [greatestShape]value
-	start := r.at - 1
-	if r.lost = r.object(s.shapes.of[kindPushPull], &values); r.lost != none {
+	start := r.At - 1
+	if r.lose(r.object(s.shapes.of[kindPushPull], &values)); r.Err != nil {
 		return nil
 	}
 	count, length, join := int(values[headerNodes].number), int(values[headerState].number), values[headerJoin].number
-	first := r.at
+	first := r.At
 	var cut [][2]int
-	for at := 0; at < count && r.lost == none; at++ {
-		begin := r.at
+	for at := 0; at < count && r.Err == nil; at++ {
+		begin := r.At
 		values = [greatestShape]value{}
 		why := r.object(s.shapes.node, &values)
 		if why == none {
 			why = s.entry(&values)
 		}
-		if why != none && r.lost == none {
+		if why != none && r.Err == nil {
 			s.drops.add(why)
-			cut = append(cut, [2]int{begin, r.at})
+			cut = append(cut, [2]int{begin, r.At})
 		}
 	}
-	r.take(length)
+	r.Take(length)
 	if len(cut) > 0 {
-		r.lost = r.lost.or(s.streams.hold(s, r.at-start))
+		r.lose(s.streams.hold(s, r.At-start))
 	}
-	if r.lost != none || len(cut) == 0 {
+	if r.Err != nil || len(cut) == 0 {
 		return nil
 	}
-	out := writeNumber(append(writeText(append(make([]byte, 0, r.at-start+16), kindPushPull, 0x83), "Nodes")), uint64(count-len(cut)))
+	out := writeNumber(append(writeText(append(make([]byte, 0, r.At-start+16), kindPushPull, 0x83), "Nodes")), uint64(count-len(cut)))
 	out = writeNumber(writeText(out, "UserStateLen"), uint64(length))
 	out = append(writeText(out, "Join"), 0xc2|byte(join))
 	for _, one := range cut {
-		out = append(out, r.buf[first:one[0]]...)
+		out = append(out, r.Data[first:one[0]]...)
 		first = one[1]
 	}
-	return append(out, r.buf[first:r.at]...)
+	return append(out, r.Data[first:r.At]...)
 }
 
 // entry looks at a node of a push/pull. Memberlist asks for the versions of those that are dead too.

@@ -1,6 +1,7 @@
 package guard
 
 import (
+	"runtime"
 	"sync"
 	"time"
 )
@@ -28,6 +29,10 @@ type streams struct {
 	all, going load
 	// changed is closed, and made anew, where there is more room.
 	changed chan struct{}
+
+	// taken is how many bytes were taken since the collector ran for it; collecting is held meanwhile.
+	collecting sync.Mutex
+	taken      int
 }
 
 // enter has one more come. The oldest goes for it, where it has to: an unfinished one, if there is one.
@@ -101,6 +106,7 @@ func (s *streams) pick(may func(*stream) bool, isBefore func(a, b *stream) bool)
 
 // hold has a stream hold so many bytes more, or fewer. Where there is no room, the unfinished one that holds most goes.
 func (s *streams) hold(one *stream, more int) Reason {
+	s.collect(more)
 	return s.await(one, func() bool {
 		if more > 0 && s.all.bytes+more > s.bounds.AllBytes {
 			if s.all.bytes-s.going.bytes+more > s.bounds.AllBytes {
@@ -116,6 +122,20 @@ func (s *streams) hold(one *stream, more int) Reason {
 		}
 		return true
 	})
+}
+
+// collect has Go's collector run, and waits for it, where streams took twice AllBytes since it last did. (A buffer that grows takes twice
+// its length.) On a busy machine the collector comes late, and what streams gave back would grow meanwhile.
+func (s *streams) collect(more int) {
+	if more <= 0 {
+		return
+	}
+	s.collecting.Lock()
+	defer s.collecting.Unlock()
+	if s.taken += 2 * more; s.taken > 2*s.bounds.AllBytes {
+		s.taken = 0
+		runtime.GC()
+	}
 }
 
 // push has a push/pull go on, which memberlist answers. Where there are as many as may be, it waits; the oldest goes for it, once it

@@ -54,11 +54,16 @@ func node(name string, changes map[string]any) map[string]any {
 }
 
 func pushPull(nodes []map[string]any, length int) []byte {
-	out := message(kindPushPull, map[string]any{"Nodes": len(nodes), "UserStateLen": length, "Join": true})
+	return pushPullOf(nodes, make([]byte, length))
+}
+
+// pushPullOf has this state of the program's behind its nodes.
+func pushPullOf(nodes []map[string]any, state []byte) []byte {
+	out := message(kindPushPull, map[string]any{"Nodes": len(nodes), "UserStateLen": len(state), "Join": true})
 	for _, one := range nodes {
 		out = append(out, encode(one)...)
 	}
-	return append(out, make([]byte, length)...)
+	return append(out, state...)
 }
 
 func compound(parts ...[]byte) []byte { return joinParts(parts) }

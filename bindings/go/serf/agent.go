@@ -36,6 +36,8 @@ type Agent interface {
 	LocalState(statuses []serfagent.Status, left []string) ([]byte, error)
 	Query(now uint64, id uint32, name, payload []byte, params serfagent.QueryParams) (*serfagent.Asked, error)
 	Respond(now, number uint64, payload []byte) ([]byte, error)
+	// Forget forgets a query that was handed out and won't be answered. CloseDue forgets those whose deadline is past.
+	Forget(number uint64) error
 	CloseDue(now uint64) ([]*serfagent.Closed, error)
 	Clocks() (serfagent.Clocks, error)
 	// ObserveMember brings the member clock above the time of a member's word; NextMemberTime is the time of this node's own.
@@ -95,10 +97,12 @@ func readAll(from unread, outcomes []serfagent.Outcome, fault error) ([]serfagen
 }
 
 // isClosed says whether this error means that the proved agent is closed: its file failed.
-func isClosed(err error) bool {
+func isClosed(err error) bool { return err != nil && saysClosed(err) }
+
+func saysClosed(err error) bool {
 	var code serfagent.Code
 	var own Error
-	if err == nil || errors.As(err, &own) || errors.Is(err, serfagent.ErrUnread) {
+	if errors.As(err, &own) || errors.Is(err, serfagent.ErrUnread) {
 		return false
 	}
 	return !errors.As(err, &code) || code == serfagent.Empty

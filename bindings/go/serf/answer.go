@@ -14,6 +14,9 @@ import (
 func (s *Serf) respond(query *serfagent.Handed, payload []byte) error {
 	packet, err := s.agent.Respond(s.now(), query.Number, payload)
 	switch {
+	case errors.Is(err, serfagent.NotHanded) && s.now() > query.Deadline:
+		// (the proved agent forgets what is past its deadline)
+		return errTooLate
 	case errors.Is(err, serfagent.NotHanded):
 		return errAnswered
 	case errors.Is(err, serfagent.PastDeadline):

@@ -36,9 +36,7 @@ func TestTheAskerRelaysNothing(t *testing.T) {
 	sockets := map[string]*net.UDPConn{}
 	for _, name := range []string{"asker", "other"} {
 		socket, err := net.ListenUDP("udp", &net.UDPAddr{IP: net.IPv4(127, 0, 0, 1)})
-		if err != nil {
-			t.Fatal(err)
-		}
+		must(t, err)
 		defer socket.Close()
 		sockets[name] = socket
 		a.members.joined(Member{Name: name, Addr: net.IPv4(127, 0, 0, 1).To4(), Port: uint16(socket.LocalAddr().(*net.UDPAddr).Port)})

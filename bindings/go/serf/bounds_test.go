@@ -3,6 +3,9 @@ package serf
 import (
 	"errors"
 	"fmt"
+	"io"
+	"log"
+	"math"
 	"net"
 	"reflect"
 	"strings"
@@ -97,9 +100,7 @@ func TestBounds(t *testing.T) {
 	}
 	close(f.flush)
 	for i := 0; i < 2*Waiting; i++ {
-		if err := a.UserEvent("x", nil, false); err != nil {
-			t.Fatal(err)
-		}
+		must(t, a.UserEvent("x", nil, false))
 	}
 	if events := a.Serf.events.NumQueued(); events > Waiting {
 		t.Error(events)
@@ -131,7 +132,7 @@ func TestLongPackets(t *testing.T) {
 	}
 }
 
-// The proved agent keeps a query until it is answered: one that nobody answered is forgotten behind so many others.
+// A query that nobody answered is forgotten behind so many others, and one that is dropped at once.
 func TestQueriesThatNobodyAnswers(t *testing.T) {
 	f := &fake{}
 	a := start(t, "a", "", withAgent(f))
@@ -140,8 +141,36 @@ func TestQueriesThatNobodyAnswers(t *testing.T) {
 	}
 	f.mu.Lock()
 	defer f.mu.Unlock()
-	if !reflect.DeepEqual(f.answered, []uint64{1, 2, 3}) {
-		t.Error(f.answered)
+	if !reflect.DeepEqual(f.forgotten, []uint64{1, 2, 3}) {
+		t.Error(f.forgotten)
+	}
+}
+
+// A query of the agents among themselves for which there is no room is forgotten at once.
+func TestADroppedQueryIsForgotten(t *testing.T) {
+	f := &fake{}
+	node := &Serf{agent: f, log: log.New(io.Discard, "", 0), internal: make(chan *serfagent.Handed), queryNames: namesOf("queries")}
+	node.handQuery(&serfagent.Handed{Number: 9, Name: []byte(InternalQueryPrefix + "ping")})
+	if !reflect.DeepEqual(f.forgotten, []uint64{9}) {
+		t.Error(f.forgotten)
+	}
+}
+
+// The proved agent knows no query any more that was answered, or whose deadline is past: its Query knows which.
+func TestWhyAQueryIsNotAnswered(t *testing.T) {
+	a := start(t, "a", "", withAgent(&fake{}))
+	for _, one := range []struct {
+		query Query
+		want  error
+	}{
+		{Query{handed: &serfagent.Handed{}}, errTooLate},
+		{Query{handed: &serfagent.Handed{Deadline: math.MaxUint64}}, errAnswered},
+		{Query{handed: &serfagent.Handed{}, answered: 1}, errAnswered},
+	} {
+		one.query.serf = a.Serf
+		if err := one.query.Respond(nil); err != one.want {
+			t.Error(one.query.handed.Deadline, err)
+		}
 	}
 }
 
@@ -218,9 +247,7 @@ func TestASlowReader(t *testing.T) {
 			t.Fatalf("%d: %x", i, payload)
 		}
 	}
-	if err := a.UserEvent("x", nil, false); err != nil {
-		t.Error(err)
-	}
+	check(t, a.UserEvent("x", nil, false))
 }
 
 // A member that changes often behind a reader that takes nothing is told of once.
@@ -266,24 +293,14 @@ func TestFiringsShareAFlush(t *testing.T) {
 	fired := make(chan error, 100)
 	fire := func() { fired <- a.UserEvent("x", nil, false) }
 	go fire()
-	eventually(t, "the first is being fired", func() bool {
-		a.firings.mu.Lock()
-		defer a.firings.mu.Unlock()
-		return f.isBusy() && len(a.firings.waiting) == 0
-	})
+	eventually(t, "the first is being fired", func() bool { return f.isBusy() && a.firing() == 0 })
 	for i := 1; i < 100; i++ {
 		go fire()
 	}
-	eventually(t, "all others wait", func() bool {
-		a.firings.mu.Lock()
-		defer a.firings.mu.Unlock()
-		return len(a.firings.waiting) == 99
-	})
+	eventually(t, "all others wait", func() bool { return a.firing() == 99 })
 	close(f.flush)
 	for i := 0; i < 100; i++ {
-		if err := <-fired; err != nil {
-			t.Error(err)
-		}
+		check(t, <-fired)
 	}
 	if len(f.firings) > 12 || len(a.got("x")) > 100 {
 		t.Error(f.firings)
@@ -291,16 +308,38 @@ func TestFiringsShareAFlush(t *testing.T) {
 	eventually(t, "all are handed out", func() bool { return len(a.got("x")) == 100 })
 }
 
+// Those whom a flush told are waited for until they are back, if they are mostly back sooner than another flush would be over.
+func TestWhoIsWaitedFor(t *testing.T) {
+	const flush = time.Hour
+	f, told := newFirings(), []*firing{{isDone: make(chan struct{}, 9)}, {isDone: make(chan struct{}, 9)}}
+	for _, one := range []struct {
+		sinceTold time.Duration
+		isAwaited bool
+	}{{0, true}, {0, true}, {2 * flush, true}, {2 * flush, true}, {flush, false}, {0, false}, {0, true}} {
+		if f.patience() != 0 {
+			t.Error("nobody is missing")
+		}
+		f.done(told, flush)
+		if left := f.patience(); left > gatherTime || (left > 0) != one.isAwaited {
+			t.Errorf("%+v: %v, where they mostly take %v", one, left, f.back)
+		}
+		f.told = f.told.Add(-one.sinceTold)
+		for i := range told {
+			if len(f.areBack) != 0 {
+				t.Error("one is missing", i)
+			}
+			f.add(told[i])
+		}
+		<-f.areBack
+	}
+}
+
 // A disk that fails ends the node, and ShutdownCh says it.
 func TestFaultOfTheFile(t *testing.T) {
 	f := &fake{receive: serfagent.ErrFull}
 	a := start(t, "a", "", withAgent(f))
 	a.own().NotifyMsg([]byte{3})
-	select {
-	case <-a.ShutdownCh():
-	case <-time.After(time.Minute):
-		t.Fatal("it goes on")
-	}
+	soon(t, "the end", func() { <-a.ShutdownCh() })
 	if err := a.Fault(); !errors.Is(err, serfagent.ErrFull) || a.State() != SerfShutdown {
 		t.Error(err, a.State())
 	}

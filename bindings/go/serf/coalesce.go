@@ -10,7 +10,7 @@ import (
 //
 // What it holds when the process is killed is lost: it was handed out, and never comes again.
 type coalescer struct {
-	out func(Event)
+	out func(...Event)
 
 	mu            sync.Mutex
 	users, member held
@@ -24,32 +24,45 @@ type held struct {
 	until         time.Time
 }
 
-// newCoalescer makes one that gives events to out, one at a time, which may not call back.
-func newCoalescer(c *Config, out func(Event)) *coalescer {
+// newCoalescer makes one that gives events to out, which may not call back.
+func newCoalescer(c *Config, out func(...Event)) *coalescer {
 	return &coalescer{
 		out: out, users: held{period: c.UserCoalescePeriod, quiet: c.UserQuiescentPeriod}, member: held{period: c.CoalescePeriod, quiet: c.QuiescentPeriod},
 	}
 }
 
-// add takes an event.
-func (c *coalescer) add(e Event) {
+// add takes events.
+func (c *coalescer) add(events ...Event) {
 	c.mu.Lock()
 	defer c.mu.Unlock()
+	if c.users.period <= 0 && c.member.period <= 0 {
+		c.out(events...)
+		return
+	}
+	for _, e := range events {
+		if !c.held(e) {
+			c.out(e)
+		}
+	}
+}
+
+// held takes an event that is held for a while; false where it isn't.
+func (c *coalescer) held(e Event) bool {
 	switch e := e.(type) {
 	case UserEvent:
 		if e.Coalesce && c.users.period > 0 {
 			c.hold(&c.users, laterOf(c.users.events, e))
-			return
+			return true
 		}
 	case MemberEvent:
 		if c.member.period > 0 {
 			for _, member := range e.Members {
 				c.hold(&c.member, lastOf(c.member.events, MemberEvent{e.Type, []Member{member}}))
 			}
-			return
+			return true
 		}
 	}
-	c.out(e)
+	return false
 }
 
 // hold has these events wait, of which the last has just come.
@@ -126,9 +139,7 @@ func (c *coalescer) release(h *held) {
 		places[e.EventType()] = len(together)
 		together = append(together, e)
 	}
-	for _, e := range together {
-		c.out(e)
-	}
+	c.out(together...)
 }
 
 // flush lets go all that waits, at the end.

@@ -70,7 +70,7 @@ func TestTagsThatAreTooLong(t *testing.T) {
 func TestFiltersOfSerf(t *testing.T) {
 	packet := unhex(t, queryPacket)
 	want := filtersOf(QueryParam{FilterNodes: []string{"x", "y"}, FilterTags: map[string]string{"role": "web"}})
-	want = append(want, writeTagFilter("a", "b"))
+	want = append(want, serfagent.FilterByTag("a", "b"))
 	found, err := serfagent.FiltersOf(packet)
 	if err != nil || !reflect.DeepEqual(found, want) {
 		t.Errorf("%q %v", found, err)
@@ -94,13 +94,13 @@ func TestExpressionsThatAreTooLarge(t *testing.T) {
 		strings.Repeat("[^q]{1000,}", 100): false,
 	} {
 		began := time.Now()
-		filter := writeTagFilter("role", expression)
+		filter := serfagent.FilterByTag("role", expression)
 		if passes([][]byte{filter}, tags) != isPassing || time.Since(began) > 5*time.Second {
 			t.Errorf("%.30s: %v", expression, time.Since(began))
 		}
 	}
 	// many filters of one query have no more together
-	small := writeTagFilter("role", "x{20}")
+	small := serfagent.FilterByTag("role", "x{20}")
 	if many := func(count int) (all [][]byte) {
 		for i := 0; i < count; i++ {
 			all = append(all, small)
@@ -113,13 +113,13 @@ func TestExpressionsThatAreTooLarge(t *testing.T) {
 
 func TestPasses(t *testing.T) {
 	tags := map[string]string{"role": "web", "n": "17"}
-	of := writeTagFilter
+	of := serfagent.FilterByTag
 	for _, one := range []struct {
 		filters [][]byte
 		passes  bool
 	}{
 		{nil, true},
-		{[][]byte{writeNodeFilter([]string{"x"})}, true},
+		{[][]byte{serfagent.FilterByNames("x")}, true},
 		{[][]byte{of("role", "we")}, true},
 		{[][]byte{of("role", "^we$")}, false},
 		{[][]byte{of("none", ".*"), of("none", "")}, true},
@@ -155,7 +155,7 @@ func TestKeysOfSerf(t *testing.T) {
 		t.Errorf("%x %v", key, err)
 	}
 	answer, err := readKeyAnswered(unhex(t, keyAnsweredPacket))
-	if err != nil || answer.result || answer.message != "Keyring is empty (encryption not enabled)" {
+	if err != nil || answer.Result || answer.Message != "Keyring is empty (encryption not enabled)" {
 		t.Errorf("%+v %v", answer, err)
 	}
 	if written := writeKeyAnswered(answer); !bytes.Equal(written, unhex(t, keyAnsweredPacket)) {
@@ -164,6 +164,11 @@ func TestKeysOfSerf(t *testing.T) {
 	answer = keyAnswered{true, "", []string{"a", "b"}, "a"}
 	if found, err := readKeyAnswered(writeKeyAnswered(answer)); err != nil || !reflect.DeepEqual(found, answer) {
 		t.Errorf("%+v %v", found, err)
+	}
+	for count, isTaken := range map[int]bool{maxKeys: true, maxKeys + 1: false} {
+		if _, err := readKeyAnswered(writeKeyAnswered(keyAnswered{Keys: make([]string, count)})); (err == nil) != isTaken {
+			t.Error(count, err)
+		}
 	}
 	for _, payload := range []string{"", "\x07", "\x08", "\x08\x81\xa4Keys\xdd\xff\xff\xff\xff", "\x07\x81\xa3Key\x01"} {
 		if _, err := readKeyAsked([]byte(payload)); err == nil {
@@ -217,50 +222,6 @@ func TestTimes(t *testing.T) {
 	for _, packet := range []string{"", "\x03", "\x03\x81\xa5LTime\xff", "\x03\x81\xa5LTime\xa1x", "\x02\x81\xa6Events\xdd\xff\xff\xff\xff", "\x02\x81\xacStatusLTimes\x01"} {
 		if found, err := readTimes([]byte(packet)); err == nil {
 			t.Errorf("%q: %+v", packet, found)
-		}
-	}
-}
-
-// A value of each form is passed over whole, and none that is cut, or stands too deep.
-func TestEachFormIsPassedOver(t *testing.T) {
-	for _, value := range []string{
-		"\x07", "\xe0", "\xc0", "\xc2", "\xc3", "\xcc1", "\xcd12", "\xce1234", "\xcf12345678", "\xd01", "\xd112", "\xd21234", "\xd312345678", "\xca1234", "\xcb12345678",
-		"\xa1a", "\xd9\x01a", "\xda\x00\x01a", "\xdb\x00\x00\x00\x01a", "\xc4\x01a", "\xc5\x00\x01a", "\xc6\x00\x00\x00\x01a",
-		"\x90", "\x91\xa1a", "\xdc\x00\x01\xc0", "\xdd\x00\x00\x00\x01\xc0", "\x80", "\x81\xa1a\x91\xc0", "\xde\x00\x01\xa1a\xc0", "\xdf\x00\x00\x00\x01\xa1a\xc0",
-		strings.Repeat("\x91", maxDepth) + "\x05",
-	} {
-		d := &decoder{rest: []byte(value + "\x05")}
-		if d.skip(0); d.err != nil || string(d.rest) != "\x05" {
-			t.Errorf("%q: %q %v", value, d.rest, d.err)
-		}
-		for length := range value {
-			d := &decoder{rest: []byte(value[:length])}
-			if d.skip(0); d.err == nil {
-				t.Errorf("%q is passed over", value[:length])
-			}
-		}
-	}
-	for _, count := range []int{maxDepth + 1, 10_000} {
-		d := &decoder{rest: []byte(strings.Repeat("\x91", count) + "\x05")}
-		if d.skip(0); d.err != errDeep {
-			t.Error(count, d.err)
-		}
-	}
-}
-
-// A count that the bytes can't bear out is refused before anything behind it is read.
-func TestCountsAreNotBelieved(t *testing.T) {
-	for _, text := range []string{"\xdf\x00\x00\x00\x06", "\xdd\x00\x00\x00\x0b", "\xde\x00\x06", "\xdc\x00\x0b", "\x86", "\x9b"} {
-		d := &decoder{rest: []byte(text + strings.Repeat("\xc0", 10))}
-		if count := d.mapping() + d.array(); count != 0 || d.err == nil {
-			t.Errorf("%q: %d", text, count)
-		}
-		d = &decoder{rest: []byte(text + strings.Repeat("\xc0", 10))}
-		if count := d.array(); count != 0 || d.err == nil {
-			t.Errorf("%q: %d", text, count)
-		}
-		if d.skip(0); len(d.rest) != 0 {
-			t.Errorf("%q: %q", text, d.rest)
 		}
 	}
 }

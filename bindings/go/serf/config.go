@@ -163,8 +163,9 @@ type Config struct {
 	// program may record the calls. Serf has no such field.
 	Wrap func(agent Agent, settings serfagent.Settings) (Agent, error)
 
-	// lookTime is how often the file is looked at; shorter in tests.
-	lookTime time.Duration
+	// lookTime is how often the file is looked at; shorter in tests. timeOfDay is time.Now but in tests.
+	lookTime  time.Duration
+	timeOfDay func() time.Time
 }
 
 // Init makes the map of the tags, where there is none.
@@ -215,6 +216,9 @@ func (c *Config) copied() (*Config, error) {
 	}
 	if own.lookTime == 0 {
 		own.lookTime = lookTime
+	}
+	if own.timeOfDay == nil {
+		own.timeOfDay = time.Now
 	}
 	least := DefaultConfig()
 	for _, one := range []struct{ length, where *time.Duration }{

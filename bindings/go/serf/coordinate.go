@@ -1,15 +1,15 @@
 package serf
 
 import (
-	"bytes"
 	"fmt"
 	"sync"
 	"time"
 
 	"github.com/armon/go-metrics"
-	"github.com/hashicorp/go-msgpack/codec"
 	"github.com/hashicorp/memberlist"
 	"github.com/hashicorp/serf/coordinate"
+
+	"kitchenrue.example/guard/msgpack"
 )
 
 // PingVersion begins what an ack of memberlist's pings carries: a coordinate in this form.
@@ -60,13 +60,7 @@ func (d delegate) AckPayload() []byte {
 	if d.places == nil {
 		return nil
 	}
-	var out bytes.Buffer
-	out.WriteByte(PingVersion)
-	if err := codec.NewEncoder(&out, &codec.MsgpackHandle{}).Encode(d.places.client.GetCoordinate()); err != nil {
-		d.log.Printf("[ERR] serf: this node's coordinate isn't sent: %v", err)
-		return nil
-	}
-	return out.Bytes()
+	return written(d.places.client.GetCoordinate(), PingVersion)
 }
 
 // NotifyPingComplete takes another node's coordinate, and how long its ack took.
@@ -86,20 +80,11 @@ func (d delegate) NotifyPingComplete(other *memberlist.Node, rtt time.Duration, 
 
 // readPlace reads a coordinate. It is strict, since whoever acks a ping may have written it.
 func readPlace(payload []byte) (*coordinate.Coordinate, error) {
-	if payload[0] != PingVersion || len(payload) > greatestPing {
-		return nil, errKind
-	}
-	// (no length that it claims is believed)
-	d := &decoder{rest: payload[1:]}
-	d.skip(0)
-	if err := d.end(); err != nil {
-		return nil, err
+	if len(payload) > greatestPing {
+		return nil, msgpack.ErrLong
 	}
 	var at coordinate.Coordinate
-	if err := codec.NewDecoderBytes(payload[1:], &codec.MsgpackHandle{}).Decode(&at); err != nil {
-		return nil, err
-	}
-	return &at, nil
+	return &at, readWhole(payload, PingVersion, &at)
 }
 
 // take moves this node's coordinate by another's.

@@ -1,199 +1,82 @@
 package serf
 
 import (
-	"encoding/binary"
-	"errors"
+	"bytes"
+
+	"github.com/hashicorp/go-msgpack/codec"
+
+	"kitchenrue.example/guard/msgpack"
 )
 
-// Why bytes aren't read.
-var (
-	errShort = errors.New("the packet ends inside a value")
-	errKind  = errors.New("a value is of another kind")
-	errDeep  = errors.New("a value is nested too deep")
-)
-
-// maxDepth is how many containers a value that is passed over may stand in.
-const maxDepth = 8
-
-// decoder reads values of MessagePack one after another. It takes no memory, and believes no length that the bytes don't bear
-// out. The first fault stays.
-type decoder struct {
-	rest []byte
-	err  error
-}
-
-func (d *decoder) fail(err error) {
-	if d.err == nil {
-		d.err = err
+// written is a value behind these bytes, as Serf writes it: text is raw, and so are bytes.
+func written(value interface{}, behind ...byte) []byte {
+	out := bytes.NewBuffer(behind)
+	if err := codec.NewEncoder(out, &codec.MsgpackHandle{}).Encode(value); err != nil {
+		// (each type that is written has bytes)
+		panic(err)
 	}
-	d.rest = nil
+	return out.Bytes()
 }
 
-// take takes so many bytes.
-func (d *decoder) take(count uint64) []byte {
-	if d.err != nil || count > uint64(len(d.rest)) {
-		d.fail(errShort)
-		return nil
+// readFirst reads the value of a message of a type into one of Go's, and gives what stands behind it. The value is passed over first, so
+// that no length is believed.
+func readFirst(message []byte, kind byte, to interface{}) ([]byte, error) {
+	if len(message) == 0 || message[0] != kind {
+		return nil, msgpack.ErrKind
 	}
-	taken := d.rest[:count]
-	d.rest = d.rest[count:]
-	return taken
-}
-
-func (d *decoder) head() byte {
-	if one := d.take(1); one != nil {
-		return one[0]
+	d := decode(message[1:])
+	if d.Skip(); d.Err != nil {
+		return nil, d.Err
 	}
-	return 0xc1
+	return d.Data[d.At:], codec.NewDecoderBytes(d.Data[:d.At], &codec.MsgpackHandle{}).Decode(to)
 }
 
-// number takes an integer of so many bytes.
-func (d *decoder) number(size int) uint64 {
-	digits := d.take(uint64(size))
-	if digits == nil {
+// readWhole is readFirst where nothing may stand behind the value.
+func readWhole(message []byte, kind byte, to interface{}) error {
+	rest, err := readFirst(message, kind, to)
+	if err == nil && len(rest) > 0 {
+		err = msgpack.ErrKind
+	}
+	return err
+}
+
+// decoder reads the values of a message as Serf has them: text is raw, and nil is nothing of any sort.
+type decoder struct{ msgpack.Reader }
+
+func decode(data []byte) *decoder { return &decoder{msgpack.Reader{Data: data}} }
+
+// of takes a value of a sort, or of another: what it is or how long it is. Nil is 0.
+func (d *decoder) of(wanted, other msgpack.Sort) uint64 {
+	found, is := d.Next()
+	if found != wanted && found != other && found != msgpack.Nil {
+		d.Fail(msgpack.ErrKind)
 		return 0
 	}
-	var whole [8]byte
-	copy(whole[8-size:], digits)
-	return binary.BigEndian.Uint64(whole[:])
+	return is
 }
 
-// count is how many values a container has: each has a byte at least.
-func (d *decoder) count(is uint64, each uint64) int {
-	if d.err != nil || is > uint64(len(d.rest))/each {
-		d.fail(errShort)
-		return 0
-	}
-	return int(is)
-}
+// mapping begins a map: how many pairs it has. array begins an array: how many values it has.
+func (d *decoder) mapping() int { return d.Count(d.of(msgpack.Map, msgpack.Map), 2) }
+func (d *decoder) array() int   { return d.Count(d.of(msgpack.Array, msgpack.Array), 1) }
 
-// mapping begins a map: how many pairs it has.
-func (d *decoder) mapping() int {
-	switch b := d.head(); {
-	case b&0xf0 == 0x80:
-		return d.count(uint64(b&0x0f), 2)
-	case b == 0xde:
-		return d.count(d.number(2), 2)
-	case b == 0xdf:
-		return d.count(d.number(4), 2)
-	case b == 0xc0:
-		return 0
-	}
-	d.fail(errKind)
-	return 0
-}
-
-// array begins an array: how many values it has.
-func (d *decoder) array() int {
-	switch b := d.head(); {
-	case b&0xf0 == 0x90:
-		return d.count(uint64(b&0x0f), 1)
-	case b == 0xdc:
-		return d.count(d.number(2), 1)
-	case b == 0xdd:
-		return d.count(d.number(4), 1)
-	case b == 0xc0:
-		return 0
-	}
-	d.fail(errKind)
-	return 0
-}
-
-// raw takes a text; nil is an empty one.
-func (d *decoder) raw() []byte {
-	switch b := d.head(); {
-	case b&0xe0 == 0xa0:
-		return d.take(uint64(b & 0x1f))
-	case b >= 0xd9 && b <= 0xdb:
-		return d.take(d.number(1 << (b - 0xd9)))
-	case b >= 0xc4 && b <= 0xc6:
-		return d.take(d.number(1 << (b - 0xc4)))
-	case b == 0xc0:
-		return nil
-	}
-	d.fail(errKind)
-	return nil
-}
-
-// unsigned takes an integer from 0 on; nil is 0.
-func (d *decoder) unsigned() uint64 {
-	switch b := d.head(); {
-	case b <= 0x7f:
-		return uint64(b)
-	case b >= 0xcc && b <= 0xcf:
-		return d.number(1 << (b - 0xcc))
-	case b >= 0xd0 && b <= 0xd3:
-		size := 1 << (b - 0xd0)
-		if is := d.number(size); is>>(8*size-1) == 0 {
-			return is
-		}
-	case b == 0xc0:
-		return 0
-	}
-	d.fail(errKind)
-	return 0
-}
-
-// truth takes true or false; nil is false.
-func (d *decoder) truth() bool {
-	switch d.head() {
-	case 0xc3:
-		return true
-	case 0xc2, 0xc0:
-		return false
-	}
-	d.fail(errKind)
-	return false
-}
-
-// skip passes over a value.
-func (d *decoder) skip(depth int) {
-	if len(d.rest) == 0 {
-		d.fail(errShort)
-		return
-	}
-	switch b := d.rest[0]; {
-	case b&0xf0 == 0x80, b == 0xde, b == 0xdf:
-		d.skipAll(2*d.mapping(), depth)
-	case b&0xf0 == 0x90, b == 0xdc, b == 0xdd:
-		d.skipAll(d.array(), depth)
-	case b&0xe0 == 0xa0, b >= 0xd9 && b <= 0xdb, b >= 0xc4 && b <= 0xc6:
-		d.raw()
-	case b <= 0x7f, b >= 0xe0, b == 0xc0, b == 0xc2, b == 0xc3:
-		d.take(1)
-	case b >= 0xcc && b <= 0xcf:
-		d.take(1 + 1<<(b-0xcc))
-	case b >= 0xd0 && b <= 0xd3:
-		d.take(1 + 1<<(b-0xd0))
-	case b == 0xca || b == 0xcb:
-		d.take(1 + 4<<(b-0xca))
-	default:
-		d.fail(errKind)
-	}
-}
-
-func (d *decoder) skipAll(count, depth int) {
-	if depth >= maxDepth {
-		d.fail(errDeep)
-	}
-	for ; count > 0 && d.err == nil; count-- {
-		d.skip(depth + 1)
-	}
-}
+// raw takes a text, unsigned an integer from 0 on, and truth a flag.
+func (d *decoder) raw() []byte      { return d.Take(int(d.of(msgpack.Text, msgpack.Bytes))) }
+func (d *decoder) unsigned() uint64 { return d.of(msgpack.Number, msgpack.Number) }
+func (d *decoder) truth() bool      { return d.of(msgpack.Flag, msgpack.Flag) == 1 }
 
 // end says what was wrong, and that nothing may stand behind the value.
 func (d *decoder) end() error {
-	if d.err == nil && len(d.rest) > 0 {
-		return errKind
+	if d.Err == nil && d.At < len(d.Data) {
+		return msgpack.ErrKind
 	}
-	return d.err
+	return d.Err
 }
 
 // fields reads a map: known is called with each key, and takes its value or says that it doesn't know it.
 func (d *decoder) fields(known func(key string) bool) {
-	for pairs := d.mapping(); pairs > 0 && d.err == nil; pairs-- {
-		if key := string(d.raw()); d.err == nil && !known(key) {
-			d.skip(0)
+	for pairs := d.mapping(); pairs > 0 && d.Err == nil; pairs-- {
+		if key := string(d.raw()); d.Err == nil && !known(key) {
+			d.Skip()
 		}
 	}
 }

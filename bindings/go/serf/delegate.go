@@ -32,7 +32,7 @@ func (d delegate) NodeMeta(int) []byte {
 
 // NotifyMsg takes a packet.
 func (d delegate) NotifyMsg(packet []byte) {
-	sample(len(packet), "msgs", "received")
+	sample(len(packet), receivedKey)
 	if len(packet) > longestPacket || len(packet) > 0 && !d.packets.add(packet, false) {
 		d.dropped.Add(1)
 	}
@@ -64,7 +64,7 @@ func (d delegate) GetBroadcasts(overhead, limit int) [][]byte {
 		}
 		for _, packet := range packets {
 			limit -= overhead + len(packet)
-			sample(len(packet), "msgs", "sent")
+			sample(len(packet), sentKey)
 			all = append(all, packet)
 		}
 	}
@@ -226,7 +226,7 @@ func (s *Serf) checkQueues() {
 		}
 		for name, queue := range map[string]*memberlist.TransmitLimitedQueue{"Intent": s.intents, "Event": s.events, "Query": s.queries} {
 			depth := queue.NumQueued()
-			sample(depth, "queue", name)
+			sample(depth, []string{"serf", "queue", name})
 			if depth >= s.config.QueueDepthWarning && depth > 0 {
 				s.log.Printf("[WARN] serf: %s queue depth: %d", name, depth)
 			}

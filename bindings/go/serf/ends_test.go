@@ -29,9 +29,7 @@ func withFile(t *testing.T, path string) change {
 	t.Helper()
 	write(t, path, "")
 	file, _, err := openSnapshot(path, false)
-	if err != nil {
-		t.Fatal(err)
-	}
+	must(t, err)
 	return func(m *made) { m.file = file }
 }
 
@@ -43,11 +41,7 @@ func TestEachFaultEndsTheNode(t *testing.T) {
 			f.left.Store(1 << 40)
 			a := start(t, "a", "", withAgent(f), withFile(t, filepath.Join(t.TempDir(), "file")))
 			cause(t, a)
-			select {
-			case <-a.ShutdownCh():
-			case <-time.After(2 * time.Minute):
-				t.Fatal(call, " fails, and the node goes on")
-			}
+			soon(t, "the end behind "+call, func() { <-a.ShutdownCh() })
 			if err := a.Fault(); !errors.Is(err, fault) || a.State() != SerfShutdown {
 				t.Error(call, err, a.State())
 			}
@@ -108,9 +102,7 @@ func TestShutdown(t *testing.T) {
 	var want []string
 	for i := 0; i < 10; i++ {
 		want = append(want, fmt.Sprint(i))
-		if err := a.UserEvent("x", []byte(want[i]), false); err != nil {
-			t.Fatal(err)
-		}
+		must(t, a.UserEvent("x", []byte(want[i]), false))
 	}
 	for i := 0; i < 2; i++ {
 		if err := a.Shutdown(); err != nil || a.State() != SerfShutdown || a.Fault() != nil {
@@ -136,21 +128,39 @@ func TestShutdown(t *testing.T) {
 	}
 }
 
+// Firings that wait at the end are refused.
+func TestFiringsThatWaitAtTheEnd(t *testing.T) {
+	a, fired := start(t, "a", "", withAgent(&fake{})), make(chan error)
+	a.order.Lock()
+	for i := 0; i < 3; i++ {
+		go func() { fired <- a.UserEvent("x", nil, false) }()
+	}
+	eventually(t, "all wait", func() bool { return a.firing() == 3 })
+	a.isEnded = true
+	a.order.Unlock()
+	for i := 0; i < 3; i++ {
+		select {
+		case err := <-fired:
+			if err != ErrEnded {
+				t.Error(err)
+			}
+		case <-time.After(time.Minute):
+			t.Fatal("one waits on")
+		}
+	}
+}
+
 // A node of the file that takes a join and never answers doesn't hold the end up. Its name isn't looked up, whatever it is.
 func TestShutdownWaitsForNoJoin(t *testing.T) {
 	silent, err := net.ListenTCP("tcp", &net.TCPAddr{IP: net.IPv4(127, 0, 0, 1)})
-	if err != nil {
-		t.Fatal(err)
-	}
+	must(t, err)
 	defer silent.Close()
 	_ = silent.SetDeadline(time.Now().Add(2 * time.Minute))
 	folder := t.TempDir()
 	write(t, filepath.Join(folder, "a"), fmt.Sprintf("alive: b/c.invalid %s\n", silent.Addr()))
 	a := start(t, "a", folder, func(m *made) { m.MemberlistConfig.TCPTimeout = time.Hour })
 	joins, err := silent.Accept()
-	if err != nil {
-		t.Fatal(err)
-	}
+	must(t, err)
 	defer joins.Close()
 	soon(t, "Shutdown", func() { _ = a.Shutdown() })
 }
@@ -161,9 +171,7 @@ func TestShutdownThatNobodyWaitsFor(t *testing.T) {
 	a := start(t, "a", "", withAgent(&fake{}), withLog(said))
 	a.hold(true)
 	for i := 0; i < 10; i++ {
-		if err := a.UserEvent("x", nil, false); err != nil {
-			t.Fatal(err)
-		}
+		must(t, a.UserEvent("x", nil, false))
 	}
 	soon(t, "Shutdown", func() { _ = a.Shutdown() })
 	count, text := 0, said.String()
@@ -231,11 +239,7 @@ func TestTheLogSaysWhyItEnded(t *testing.T) {
 	said := &logged{}
 	a := start(t, "a", "", withAgent(&fake{receive: fmt.Errorf("/file: %w", serfagent.ErrFull)}), withLog(said))
 	a.own().NotifyMsg([]byte{3})
-	select {
-	case <-a.ShutdownCh():
-	case <-time.After(time.Minute):
-		t.Fatal("it goes on")
-	}
+	soon(t, "the end", func() { <-a.ShutdownCh() })
 	var errs []string
 	lines := strings.Split(strings.TrimSpace(said.String()), "\n")
 	for _, line := range lines {

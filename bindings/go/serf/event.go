@@ -3,6 +3,7 @@ package serf
 import (
 	"errors"
 	"fmt"
+	"sync/atomic"
 	"time"
 
 	"kitchenrue.example/serfagent"
@@ -77,6 +78,8 @@ type Query struct {
 
 	serf   *Serf
 	handed *serfagent.Handed
+	// 1 once it was answered; it is read by many.
+	answered uint32
 }
 
 // EventType is EventQuery.
@@ -106,5 +109,12 @@ func (q *Query) Respond(payload []byte) error {
 	if q.serf == nil {
 		return errHandMade
 	}
-	return q.serf.respond(q.handed, payload)
+	if atomic.LoadUint32(&q.answered) == 1 {
+		return errAnswered
+	}
+	err := q.serf.respond(q.handed, payload)
+	if err == nil {
+		atomic.StoreUint32(&q.answered, 1)
+	}
+	return err
 }

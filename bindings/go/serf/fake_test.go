@@ -14,6 +14,21 @@ import (
 	"kitchenrue.example/serfagent"
 )
 
+// must ends a test at a fault, and check goes on behind it.
+func must(t *testing.T, err error) {
+	t.Helper()
+	if err != nil {
+		t.Fatal(err)
+	}
+}
+
+func check(t *testing.T, err error) {
+	t.Helper()
+	if err != nil {
+		t.Error(err)
+	}
+}
+
 // one is a node of a test, and what it handed out.
 type one struct {
 	*Serf
@@ -81,6 +96,13 @@ func (o *one) query(name string) *Query {
 		}
 	}
 	return nil
+}
+
+// firing is how many events wait to be fired.
+func (o *one) firing() int {
+	o.firings.mu.Lock()
+	defer o.firings.mu.Unlock()
+	return len(o.firings.waiting)
 }
 
 func (o *one) status(name string) string {
@@ -153,9 +175,7 @@ func start(t *testing.T, name, folder string, changes ...change) *one {
 	} else {
 		o.Serf, err = over(&options)
 	}
-	if err != nil {
-		t.Fatal(err)
-	}
+	must(t, err)
 	go o.read(events)
 	t.Cleanup(func() { _ = o.Shutdown() })
 	return o
@@ -195,9 +215,7 @@ func b() *memberlist.Node {
 func intent(t *testing.T, time uint64, node string, isLeave bool) []byte {
 	t.Helper()
 	packet, err := serfagent.Intent{Time: time, Node: []byte(node), Leave: isLeave}.Packet()
-	if err != nil {
-		t.Fatal(err)
-	}
+	must(t, err)
 	return packet
 }
 
@@ -224,7 +242,7 @@ func eventually(t *testing.T, what string, holds func() bool) {
 	t.Fatalf("never: %s", what)
 }
 
-// soon does this, which has to be done at once.
+// soon does this, which waits for nothing.
 func soon(t *testing.T, what string, done func()) {
 	t.Helper()
 	over := make(chan struct{})
@@ -234,7 +252,7 @@ func soon(t *testing.T, what string, done func()) {
 	}()
 	select {
 	case <-over:
-	case <-time.After(10 * time.Second):
+	case <-time.After(2 * time.Minute):
 		t.Fatalf("it waits: %s", what)
 	}
 }
@@ -252,8 +270,8 @@ type fake struct {
 	word chan struct{}
 	// For so many of them memory is wanting.
 	wanting atomic.Int64
-	// The numbers of the queries that were answered.
-	answered []uint64
+	// The numbers of the queries that were forgotten.
+	forgotten []uint64
 }
 
 // wordTime is the time of each word of this node's.
@@ -323,12 +341,15 @@ func (f *fake) Query(uint64, uint32, []byte, []byte, serfagent.QueryParams) (*se
 	return nil, serfagent.TooLarge
 }
 
-func (f *fake) Respond(_, number uint64, _ []byte) ([]byte, error) {
+func (f *fake) Respond(uint64, uint64, []byte) ([]byte, error) { return nil, serfagent.NotHanded }
+
+func (f *fake) Forget(number uint64) error {
 	f.mu.Lock()
 	defer f.mu.Unlock()
-	f.answered = append(f.answered, number)
-	return nil, serfagent.NotHanded
+	f.forgotten = append(f.forgotten, number)
+	return nil
 }
+
 func (f *fake) CloseDue(uint64) ([]*serfagent.Closed, error) { return nil, nil }
 func (f *fake) Clocks() (serfagent.Clocks, error)            { return serfagent.Clocks{}, nil }
 func (f *fake) ObserveMember(uint64) error                   { return nil }

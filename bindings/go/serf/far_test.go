@@ -6,6 +6,7 @@ import (
 	"os"
 	"path/filepath"
 	"strings"
+	"sync/atomic"
 	"testing"
 	"time"
 
@@ -44,29 +45,35 @@ var farStates = map[string]func(time uint64) []byte{
 // works expects that two nodes go on: each of the three clocks moves, and the other node hears of it.
 func works(t *testing.T, a, b *one) {
 	t.Helper()
-	if err := a.UserEvent("deploy", []byte("on"), false); err != nil {
-		t.Fatal(err)
-	}
+	must(t, a.UserEvent("deploy", []byte("on"), false))
 	eventually(t, "the event comes", func() bool { return len(b.got("deploy")) == 1 })
 	if _, err := a.Query("load", nil, &QueryParam{Timeout: time.Minute}); err != nil {
 		t.Fatal(err)
 	}
 	eventually(t, "the query comes", func() bool { return b.query("load") != nil })
-	if err := a.Leave(); err != nil {
-		t.Fatal(err)
-	}
+	must(t, a.Leave())
 	eventually(t, "the leave comes", func() bool { return b.status("a") == "left" || b.status("a") == "leaving" })
+}
+
+// farAfter is the first time that will be far so much later.
+func farAfter(later time.Duration) uint64 { return farTimes(time.Now().Add(later)) }
+
+// clocks are a node's.
+func (o *one) clocks() serfagent.Clocks {
+	o.t.Helper()
+	clocks, err := o.agent.Clocks()
+	if err != nil {
+		o.t.Fatal(err)
+	}
+	return clocks
 }
 
 // A time that no honest clock reaches is dropped and counted, wherever it stands, and no clock moves.
 func TestFarTimesAreDropped(t *testing.T) {
 	a, b := pair(t)
-	before, err := a.agent.Clocks()
-	if err != nil {
-		t.Fatal(err)
-	}
+	before := a.clocks()
 	want := int64(0)
-	for _, far := range []uint64{FarTime, 1<<64 - 2} {
+	for _, far := range []uint64{farAfter(time.Hour), 2 * FarTime, 1<<64 - 2} {
 		for what, packet := range farPackets {
 			want++
 			a.own().NotifyMsg(packet(far))
@@ -78,8 +85,8 @@ func TestFarTimesAreDropped(t *testing.T) {
 			eventually(t, what+" is dropped", func() bool { return a.far.Load() == want })
 		}
 	}
-	if after, err := a.agent.Clocks(); err != nil || after.Event != before.Event || after.Query != before.Query || after.Member >= FarTime {
-		t.Errorf("%+v, and then %+v %v", before, after, err)
+	if after := a.clocks(); after.Event != before.Event || after.Query != before.Query || after.Member >= FarTime {
+		t.Errorf("%+v, and then %+v", before, after)
 	}
 	if a.Stats()["dropped"] != fmt.Sprint(want) || len(a.got("far")) > 0 || a.query("far") != nil || a.timeOf("b") >= FarTime {
 		t.Error(a.Stats(), a.got("far"))
@@ -87,57 +94,139 @@ func TestFarTimesAreDropped(t *testing.T) {
 	works(t, a, b)
 }
 
-// A time just below brings the clocks to where times are far: the nodes go on from there, and take nothing that is farther still.
-func TestTimesJustBelowFar(t *testing.T) {
-	a, b := pair(t)
-	for what, packet := range farPackets {
-		if what != "a leave" {
-			a.own().NotifyMsg(packet(FarTime - 1))
+// The bound rises by one a nanosecond, and is from 2^62 to 2^63, whatever a machine takes for the time of day.
+func TestTheBoundRises(t *testing.T) {
+	second := time.Unix(1_800_000_000, 7)
+	for _, one := range []struct {
+		now  time.Time
+		want uint64
+	}{
+		{time.Time{}, 1 << 62}, {time.Unix(-1, 999_999_999), 1 << 62}, {time.Unix(0, 0), 1 << 62}, {time.Unix(0, 1), 1<<62 + 1},
+		{second, 1<<62 + 1_800_000_000_000_000_007}, {time.Unix(4_611_686_017, 999_999_999), 1<<62 + 4_611_686_017_999_999_999},
+		{time.Unix(4_611_686_018, 0), 1 << 63}, {time.Unix(1<<40, 0), 1 << 63},
+	} {
+		if found := farTimes(one.now); found != one.want {
+			t.Errorf("%v: %d, not %d", one.now, found, one.want)
 		}
 	}
+}
+
+// flooded gives a node packets and states with times around the bound and around 2^63, for a while. (It leaves out what says that it left.)
+func flooded(a *one, while time.Duration) {
+	for end := time.Now().Add(while); time.Now().Before(end); {
+		for _, near := range []uint64{farAfter(-time.Millisecond), farAfter(0) - 1, farAfter(0), farAfter(time.Second), 1<<63 - 1, 1 << 63} {
+			for what, packet := range farPackets {
+				if what != "a leave" {
+					a.own().NotifyMsg(packet(near))
+				}
+			}
+			for _, state := range farStates {
+				a.own().MergeRemoteState(state(near), false)
+			}
+		}
+		time.Sleep(time.Millisecond)
+	}
+}
+
+// A flood of times at the bound moves the clocks there. The node goes on, and one that comes then, whose clocks are at their beginning,
+// takes what it fires, and is heard.
+func TestWhoComesBehindAFlood(t *testing.T) {
+	a, b := pair(t)
+	flooded(a, time.Second)
 	eventually(t, "both have the clocks", func() bool {
 		for _, node := range []*one{a, b} {
-			if clocks, err := node.agent.Clocks(); err != nil || clocks.Event < FarTime || clocks.Query < FarTime || clocks.Member < FarTime {
+			if is := node.clocks(); is.Event < FarTime || is.Query < FarTime || is.Member < FarTime {
 				return false
 			}
 		}
-		return true
+		return a.far.Load() > 0
 	})
-	for _, packet := range farPackets {
-		a.own().NotifyMsg(packet(1<<64 - 2))
+	if err := a.UserEvent("before", nil, false); err != nil {
+		t.Fatal(err)
 	}
-	eventually(t, "they are dropped", func() bool { return a.far.Load() == int64(len(farPackets)) })
-	// (a node that missed what came between takes what comes now)
-	a.own().NotifyMsg(farPackets["an event"](FarTime + 1000))
-	eventually(t, "what is near is taken", func() bool { clocks, err := a.agent.Clocks(); return err == nil && clocks.Event == FarTime+1001 })
-	works(t, a, b)
+	c := start(t, "c", "")
+	if is := c.clocks(); is.Event > 9 || is.Query > 9 || is.Member > 9 {
+		t.Fatalf("it is new: %+v", is)
+	}
+	if _, err := c.Join([]string{a.address()}, false); err != nil {
+		t.Fatal(err)
+	}
+	eventually(t, "what was fired before comes", func() bool { return len(c.got("before")) == 1 })
+	if err := c.UserEvent("mine", nil, false); err != nil {
+		t.Fatal(err)
+	}
+	for _, node := range []*one{a, b, c} {
+		eventually(t, "its event comes", func() bool { return len(node.got("mine")) == 1 })
+	}
+	if _, err := c.Query("mine", nil, &QueryParam{Timeout: time.Minute}); err != nil {
+		t.Fatal(err)
+	}
+	eventually(t, "its query comes", func() bool { return a.query("mine") != nil && b.query("mine") != nil })
+	works(t, a, c)
+	if err := c.Leave(); err != nil {
+		t.Fatal(err)
+	}
+	eventually(t, "its leave comes", func() bool { return b.status("c") == "left" || b.status("c") == "leaving" })
+}
+
+// A flood can't bring a clock beyond the bound by what is near to it: each packet moves it by 512 at most.
+func TestTimesFarFromTheirOwnClock(t *testing.T) {
+	var back atomic.Int64
+	a := start(t, "a", t.TempDir(), func(m *made) {
+		m.timeOfDay = func() time.Time { return time.Now().Add(-time.Duration(back.Load())) }
+	})
+	clockOf := map[string]func(serfagent.Clocks) uint64{
+		"an event": func(is serfagent.Clocks) uint64 { return is.Event }, "an event whose time comes last": func(is serfagent.Clocks) uint64 { return is.Event },
+		"a query": func(is serfagent.Clocks) uint64 { return is.Query }, "a join": func(is serfagent.Clocks) uint64 { return is.Member },
+	}
+	for what, clock := range clockOf {
+		back.Store(0)
+		first := farAfter(0) - 1
+		a.own().NotifyMsg(farPackets[what](first))
+		eventually(t, what+" is taken", func() bool { return clock(a.clocks()) == first+1 })
+		// (the time of day is set back, and the clock is beyond the bound)
+		back.Store(int64(time.Hour))
+		for _, near := range []uint64{first + 1, first + 2 + 512} {
+			a.own().NotifyMsg(farPackets[what](near))
+			eventually(t, what+" that is near is taken", func() bool { return clock(a.clocks()) == near+1 })
+		}
+		dropped, before := a.far.Load(), a.clocks()
+		a.own().NotifyMsg(farPackets[what](first + 4 + 2*512))
+		eventually(t, what+" that is farther isn't", func() bool { return a.far.Load() == dropped+1 })
+		if after := a.clocks(); after != before {
+			t.Errorf("%s: %+v, and then %+v", what, before, after)
+		}
+	}
 }
 
 // What is near to one clock is far from another.
-func TestTimesAreFarFromTheirOwnClock(t *testing.T) {
-	clockOf := map[string]string{"an event": "event", "an event whose time comes last": "event", "a query": "query", "a join": "member"}
-	for near, clock := range clockOf {
-		packet := farPackets[near]
-		a := start(t, "a", t.TempDir())
-		var before serfagent.Clocks
-		for _, time := range []uint64{FarTime - 1, FarTime + 5} {
-			a.own().NotifyMsg(packet(time))
-			eventually(t, near+" is taken", func() bool {
-				var err error
-				before, err = a.agent.Clocks()
-				return err == nil && (before.Event == time+1 || before.Query == time+1 || before.Member == time+1)
-			})
+func TestTimesAreFarFromAnotherClock(t *testing.T) {
+	for near, packet := range farPackets {
+		if near == "a leave" {
+			continue
 		}
+		var back atomic.Int64
+		a := start(t, "a", "", func(m *made) {
+			m.timeOfDay = func() time.Time { return time.Now().Add(-time.Duration(back.Load())) }
+		})
+		first := farAfter(0) - 1
+		a.own().NotifyMsg(packet(first))
+		eventually(t, near+" is taken", func() bool {
+			return a.clocks().Event == first+1 || a.clocks().Query == first+1 || a.clocks().Member == first+1
+		})
+		back.Store(int64(time.Hour))
+		before := a.clocks()
+		isOf := func(what string) string { return strings.Fields(what)[1] }
 		dropped := int64(0)
-		for what, other := range clockOf {
-			a.own().NotifyMsg(farPackets[what](FarTime + 5))
-			if other != clock {
+		for what, other := range farPackets {
+			if isOf(what) != isOf(near) && !(near == "a join" && what == "a leave") {
 				dropped++
+				a.own().NotifyMsg(other(first + 5))
 			}
 		}
-		eventually(t, fmt.Sprint("beside ", near), func() bool { return a.far.Load() == dropped && len(a.packets.came) == 0 })
-		if after, err := a.agent.Clocks(); err != nil || after != before {
-			t.Errorf("%s: %+v, and then %+v %v", near, before, after, err)
+		eventually(t, fmt.Sprint("beside ", near), func() bool { return a.far.Load() == dropped })
+		if after := a.clocks(); after != before {
+			t.Errorf("%s: %+v, and then %+v", near, before, after)
 		}
 	}
 }
@@ -198,10 +287,10 @@ func TestWhatIsToldOfDropped(t *testing.T) {
 	said := &logged{}
 	a := start(t, "a", "", withAgent(&fake{}), withLog(said))
 	for i := 0; i < 100; i++ {
-		a.own().NotifyMsg(farPackets["an event"](FarTime))
+		a.own().NotifyMsg(farPackets["an event"](2 * FarTime))
 	}
 	eventually(t, "it is told", func() bool {
-		return strings.Contains(said.String(), " packets or states were dropped, since a time in them is from 2^63 on")
+		return strings.Contains(said.String(), " packets or states were dropped, since a time in them is farther than any honest clock")
 	})
 }
 
@@ -217,9 +306,7 @@ func TestALeaveThatFails(t *testing.T) {
 	eventually(t, "b says that it is there", func() bool { return b.intents.NumQueued() == 1 })
 	b.join(a)
 	eventually(t, "a hears that b is there", func() bool { return a.timeOf("b") == f.wordTime() })
-	if err := b.Leave(); err != nil {
-		t.Error(err)
-	}
+	check(t, b.Leave())
 	if _, err := b.Join([]string{a.address()}, true); err != ErrLeft {
 		t.Error("it left")
 	}
@@ -228,9 +315,7 @@ func TestALeaveThatFails(t *testing.T) {
 // On a file whose clock of members is at its end no leave can be said, and all else goes on.
 func TestALeaveOfAnExhaustedClock(t *testing.T) {
 	folder := t.TempDir()
-	if err := os.WriteFile(filepath.Join(folder, "b"), []byte("clock: 18446744073709551614\n"), 0o600); err != nil {
-		t.Fatal(err)
-	}
+	must(t, os.WriteFile(filepath.Join(folder, "b"), []byte("clock: 18446744073709551614\n"), 0o600))
 	a, b := start(t, "a", folder), start(t, "b", folder)
 	for range []int{1, 2} {
 		if err := b.Leave(); err != serfagent.Exhausted {
@@ -238,8 +323,6 @@ func TestALeaveOfAnExhaustedClock(t *testing.T) {
 		}
 	}
 	b.join(a)
-	if err := b.UserEvent("deploy", nil, false); err != nil {
-		t.Fatal(err)
-	}
+	must(t, b.UserEvent("deploy", nil, false))
 	eventually(t, "its events come", func() bool { return len(a.got("deploy")) == 1 })
 }

@@ -1,8 +1,8 @@
 //go:build faults
 
-// Built by `-tags faults`, for tests alone: a transport that loses packets, repeats them, and is cut off from addresses, as the
-// file says that KITCHENRUE_FAULTS names. It is read again each tenth of a second. Its lines are `lose SHARE`, `repeat SHARE`
-// and `cut ADDRESS..`.
+// Built by `-tags faults`, for tests alone: a transport that loses packets, repeats them, has them come late and so out of their order,
+// and is cut off from addresses, as the file says that KITCHENRUE_FAULTS names. It is read again each tenth of a second. Its lines are
+// `lose SHARE`, `repeat SHARE`, `late SHARE`, `cut ADDRESS..` and `refuse streams`: whose a stream is that comes its address doesn't say.
 
 package serf
 
@@ -19,15 +19,19 @@ import (
 	"github.com/hashicorp/memberlist"
 )
 
-// faultsTime is how often the file is read.
-const faultsTime = 100 * time.Millisecond
+// faultsTime is how often the file is read, and latest how late a packet is at most.
+const (
+	faultsTime = 100 * time.Millisecond
+	latest     = 300 * time.Millisecond
+)
 
 var errCut = errors.New("the link is cut")
 
 // faults say what becomes of packets and streams.
 type faults struct {
-	lose, repeat float64
-	cut          map[string]bool
+	lose, repeat, late float64
+	cut                map[string]bool
+	isDeaf             bool
 }
 
 func readFaults(text string) *faults {
@@ -42,6 +46,10 @@ func readFaults(text string) *faults {
 			fmt.Sscan(words[1], &f.lose)
 		case "repeat":
 			fmt.Sscan(words[1], &f.repeat)
+		case "late":
+			fmt.Sscan(words[1], &f.late)
+		case "refuse":
+			f.isDeaf = true
 		case "cut":
 			for _, address := range words[1:] {
 				f.cut[address] = true
@@ -59,15 +67,22 @@ func (f *faults) isCut(address string) bool {
 	return f.cut[address]
 }
 
-// count is how often a packet comes, for an address.
-func (f *faults) count(address string) int {
-	switch {
-	case f.isCut(address) || rand.Float64() < f.lose:
-		return 0
-	case rand.Float64() < f.repeat:
-		return 2
+// pass does this as often, and as late, as a packet from an address, or to it, comes.
+func (f *faults) pass(address string, done func()) {
+	if f.isCut(address) || rand.Float64() < f.lose {
+		return
 	}
-	return 1
+	count, late := 1, rand.Float64() < f.late
+	if rand.Float64() < f.repeat {
+		count = 2
+	}
+	for ; count > 0; count-- {
+		if late {
+			time.AfterFunc(time.Duration(rand.Int63n(int64(latest))), done)
+		} else {
+			done()
+		}
+	}
 }
 
 // faulty is a transport with faults.
@@ -110,24 +125,24 @@ func (t *faulty) read(path string) {
 	t.now.Store(readFaults(string(text)))
 }
 
-// pass lets in what isn't lost. Whose a stream is its address doesn't say, so while anything is cut none comes in.
+// pass lets in what isn't lost.
 func (t *faulty) pass() {
 	for {
 		select {
 		case <-t.over:
 			return
 		case packet := <-t.NodeAwareTransport.PacketCh():
-			for count := t.now.Load().count(packet.From.String()); count > 0; count-- {
+			t.now.Load().pass(packet.From.String(), func() {
+				// (memberlist takes the bytes apart where they lie)
 				again := *packet
 				again.Buf = append([]byte(nil), packet.Buf...)
 				select {
 				case t.packets <- &again:
 				case <-t.over:
-					return
 				}
-			}
+			})
 		case stream := <-t.NodeAwareTransport.StreamCh():
-			if len(t.now.Load().cut) > 0 {
+			if t.now.Load().isDeaf {
 				stream.Close()
 				continue
 			}
@@ -148,12 +163,10 @@ func (t *faulty) WriteTo(b []byte, address string) (time.Time, error) {
 	return t.WriteToAddress(b, memberlist.Address{Addr: address})
 }
 
-func (t *faulty) WriteToAddress(b []byte, address memberlist.Address) (sent time.Time, err error) {
-	sent = time.Now()
-	for count := t.now.Load().count(address.Addr); count > 0 && err == nil; count-- {
-		sent, err = t.NodeAwareTransport.WriteToAddress(b, address)
-	}
-	return sent, err
+func (t *faulty) WriteToAddress(b []byte, address memberlist.Address) (time.Time, error) {
+	own := append([]byte(nil), b...)
+	t.now.Load().pass(address.Addr, func() { _, _ = t.NodeAwareTransport.WriteToAddress(own, address) })
+	return time.Now(), nil
 }
 
 func (t *faulty) DialTimeout(address string, timeout time.Duration) (net.Conn, error) {

@@ -8,9 +8,6 @@ import (
 	"kitchenrue.example/serfagent"
 )
 
-// nodeFilter is the type of a filter of names; serfagent.TagFilter is that of tags.
-const nodeFilter = 0
-
 // maxFilters is how many filters of a query are looked at.
 const maxFilters = 128
 
@@ -78,38 +75,9 @@ func readExpression(expression string, left *int) (*regexp.Regexp, error) {
 
 // readTagFilter reads a filter of tags: an expression that a tag's value has to match somewhere.
 func readTagFilter(filter []byte) (tag, expression string, err error) {
-	d := &decoder{rest: filter[1:]}
-	d.fields(func(key string) bool {
-		switch key {
-		case "Tag":
-			tag = string(d.raw())
-		case "Expr":
-			expression = string(d.raw())
-		default:
-			return false
-		}
-		return true
-	})
-	return tag, expression, d.end()
-}
-
-// writeNodeFilter makes a filter that these nodes pass.
-func writeNodeFilter(names []string) []byte {
-	e := &encoder{[]byte{nodeFilter}}
-	e.array(len(names))
-	for _, name := range names {
-		e.raw(name)
-	}
-	return e.bytes
-}
-
-// writeTagFilter makes a filter of tags.
-func writeTagFilter(tag, expression string) []byte {
-	e := &encoder{[]byte{serfagent.TagFilter}}
-	e.mapping(2)
-	e.field("Expr").raw(expression)
-	e.field("Tag").raw(tag)
-	return e.bytes
+	var found struct{ Tag, Expr string }
+	err = readWhole(filter, serfagent.TagFilter, &found)
+	return found.Tag, found.Expr, err
 }
 
 // WithoutTagFilters is a query's packet without its filters of tags: for a record whose reader knows no tags, of a query that this
@@ -118,30 +86,24 @@ func WithoutTagFilters(packet []byte) []byte {
 	if len(packet) == 0 || packet[0] != queryType {
 		return packet
 	}
-	var kept [][]byte
+	kept := [][]byte{}
 	from, to, isFound := 0, 0, false
-	d := &decoder{rest: packet[1:]}
-	at := func() int { return len(packet) - len(d.rest) }
+	d := decode(packet[1:])
 	d.fields(func(key string) bool {
 		if key != "Filters" {
 			return false
 		}
-		from, isFound = at(), true
-		for count := d.array(); count > 0 && d.err == nil; count-- {
+		from, isFound = 1+d.At, true
+		for count := d.array(); count > 0 && d.Err == nil; count-- {
 			if filter := d.raw(); !IsTagFilter(filter) {
 				kept = append(kept, filter)
 			}
 		}
-		to = at()
+		to = 1 + d.At
 		return true
 	})
 	if d.end() != nil || !isFound {
 		return packet
 	}
-	e := &encoder{append([]byte(nil), packet[:from]...)}
-	e.array(len(kept))
-	for _, filter := range kept {
-		e.raw(string(filter))
-	}
-	return append(e.bytes, packet[to:]...)
+	return append(written(kept, append([]byte(nil), packet[:from]...)...), packet[to:]...)
 }

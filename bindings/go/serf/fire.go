@@ -3,7 +3,6 @@ package serf
 import (
 	"errors"
 	"fmt"
-	"math"
 	"runtime"
 	"sync"
 	"time"
@@ -11,58 +10,109 @@ import (
 	"kitchenrue.example/serfagent"
 )
 
-// gatherTime is how long those who were told of a flush just now are waited for at most, so that their next events share a flush too;
-// and a quarter of what the flush took.
-const gatherTime = 250 * time.Microsecond
+// spinTime is how long those who were told of a flush just now are waited for without a sleep, since who calls in a loop is back sooner; and
+// gatherTime how long at most.
+const (
+	spinTime   = 20 * time.Microsecond
+	gatherTime = 5 * time.Millisecond
+)
 
 // firing is an event that is to be fired. What came of it is there when it is done.
 type firing struct {
 	Firing
 
 	isDone chan struct{}
-	fired  *serfagent.Fired
+	// The event's time and its packet, or why it wasn't fired.
+	time   LamportTime
+	packet []byte
 	err    error
 }
+
+// firingsOver are firings that are over: another event takes the place of each.
+var firingsOver = sync.Pool{New: func() interface{} { return &firing{isDone: make(chan struct{}, 1)} }}
 
 // firings wait to be fired. Each has a goroutine that waits for it.
 type firings struct {
 	mu      sync.Mutex
 	waiting []*firing
-	isOver  bool
-	// callers is how many were firing when some were told last: these, and those that waited.
-	callers int
-	// came has something where one waits.
+	// isBusy: somebody fires what waits. isOver: no more are taken.
+	isBusy, isOver bool
+	// told is when some were told last, of whom missing didn't fire again yet. took is how long their flush took, and back how long it
+	// takes, by the last times, until all of them fire again.
+	told       time.Time
+	missing    int
+	took, back time.Duration
+	// areBack has something where nobody is missing any more.
+	areBack chan struct{}
+	// came has something where what waits is left to fireAll.
 	came chan struct{}
+	// taken, and given, are those of a burst: order is held.
+	taken []*firing
+	given []Firing
 }
 
-func newFirings() *firings { return &firings{came: make(chan struct{}, 1)} }
+func newFirings() *firings {
+	return &firings{came: make(chan struct{}, 1), areBack: make(chan struct{}, 1)}
+}
 
-// add adds one; false where no more are taken.
-func (f *firings) add(one *firing) bool {
+// add adds one. leads says that nobody fires, so that who adds it does; false for is where no more are taken.
+func (f *firings) add(one *firing) (leads, is bool) {
 	f.mu.Lock()
 	defer f.mu.Unlock()
 	if f.isOver {
-		return false
+		return false, false
 	}
 	f.waiting = append(f.waiting, one)
-	tell(f.came)
-	return true
+	if f.missing--; f.missing == 0 {
+		f.learn(time.Since(f.told))
+		tell(f.areBack)
+	}
+	leads, f.isBusy = !f.isBusy, true
+	return leads, true
 }
 
-// lacks says whether some of the callers don't wait again yet.
-func (f *firings) lacks() bool {
+// pass leaves what waits to fireAll, or nobody fires from then on.
+func (f *firings) pass() {
 	f.mu.Lock()
 	defer f.mu.Unlock()
-	return len(f.waiting) < f.callers
+	if f.isBusy = len(f.waiting) > 0; f.isBusy {
+		tell(f.came)
+	}
 }
 
-// done tells these what came of them.
-func (f *firings) done(told []*firing) {
+// learn notes how long those who were told last took to fire again, or took at least. mu is held.
+func (f *firings) learn(length time.Duration) {
+	if most := 2 * f.took; length > most {
+		length = most
+	}
+	f.back = (3*f.back + length) / 4
+}
+
+// patience is for how long those are waited for who are missing. If all of them are back before the flush of the others would be over, one
+// flush of all is sooner than two of a half each; if not, nobody is waited for.
+func (f *firings) patience() time.Duration {
 	f.mu.Lock()
-	f.callers = len(told) + len(f.waiting)
+	defer f.mu.Unlock()
+	if f.missing <= 0 || 4*f.back > 3*f.took {
+		return 0
+	}
+	most := f.took
+	if most > gatherTime {
+		most = gatherTime
+	}
+	return most - time.Since(f.told)
+}
+
+// done tells these what came of them, which took so long.
+func (f *firings) done(told []*firing, took time.Duration) {
+	f.mu.Lock()
+	if f.missing > 0 {
+		f.learn(time.Since(f.told))
+	}
+	f.told, f.missing, f.took = time.Now(), len(told), took
 	f.mu.Unlock()
 	for _, one := range told {
-		close(one.isDone)
+		one.isDone <- struct{}{}
 	}
 }
 
@@ -71,59 +121,70 @@ func (f *firings) refuse(told []*firing, why error) {
 	for _, one := range told {
 		one.err = why
 	}
-	f.done(told)
+	f.done(told, 0)
 }
 
-// first takes the first of them, so many at most.
-func (f *firings) first(count int) []*firing {
+// first takes the first of them, so many at most, for a burst. order is held.
+func (f *firings) first(count int) ([]*firing, []Firing) {
 	f.mu.Lock()
 	defer f.mu.Unlock()
 	if count > len(f.waiting) {
 		count = len(f.waiting)
 	}
-	taken := append([]*firing(nil), f.waiting[:count]...)
-	if f.waiting = f.waiting[count:]; len(f.waiting) == 0 {
-		f.waiting = nil
-	} else {
-		tell(f.came)
+	f.taken, f.given = append(f.taken[:0], f.waiting[:count]...), f.given[:0]
+	f.waiting = f.waiting[:copy(f.waiting, f.waiting[count:])]
+	for _, one := range f.taken {
+		f.given = append(f.given, one.Firing)
 	}
-	return taken
+	return f.taken, f.given
 }
 
 // end takes no more, and refuses those that wait.
 func (f *firings) end() {
 	f.mu.Lock()
-	f.isOver = true
+	waiting := f.waiting
+	f.waiting, f.isOver = nil, true
 	f.mu.Unlock()
-	f.refuse(f.first(math.MaxInt), ErrEnded)
+	f.refuse(waiting, ErrEnded)
 }
 
-// fireAll fires what waits, behind one flush what came together.
+// fireAll fires what waits and is left to it, behind one flush what came together.
 func (s *Serf) fireAll() {
 	defer s.firings.end()
-	var took time.Duration
 	for {
 		select {
 		case <-s.ctx.Done():
 			return
 		case <-s.firings.came:
 		}
-		s.gather(took / 4)
-		began := time.Now()
-		if err := s.takeBurst(nil); isOver(err) {
-			return
-		}
-		took = time.Since(began)
+		s.takeFirings()
 	}
 }
 
-// gather waits until all wait again that were firing, but not for long: who was told of a flush just now may be about to fire again.
-func (s *Serf) gather(longest time.Duration) {
-	if longest > gatherTime {
-		longest = gatherTime
+// takeFirings fires what waits, and leaves to fireAll what came meanwhile.
+func (s *Serf) takeFirings() {
+	s.gather()
+	if err := s.takeBurst(nil); isOver(err) {
+		s.firings.end()
+	} else {
+		s.firings.pass()
 	}
-	for late := time.Now().Add(longest); s.firings.lacks() && time.Now().Before(late); {
-		runtime.Gosched()
+}
+
+// gather waits until all wait again whom a flush has just told, where that is worth it.
+func (s *Serf) gather() {
+	for began := time.Now(); time.Since(began) < spinTime; runtime.Gosched() {
+		if s.firings.patience() <= 0 {
+			return
+		}
+	}
+	for left := s.firings.patience(); left > 0; left = s.firings.patience() {
+		late := time.NewTimer(left)
+		select {
+		case <-s.firings.areBack:
+		case <-late.C:
+		}
+		late.Stop()
 	}
 }
 
@@ -140,36 +201,48 @@ func (s *Serf) UserEvent(name string, payload []byte, coalesce bool) error {
 
 // Fire is UserEvent, and gives the event's time. Serf has no such method.
 func (s *Serf) Fire(name string, payload []byte, coalesce bool) (LamportTime, error) {
-	late := time.NewTimer(s.config.BroadcastTimeout)
-	defer late.Stop()
+	one := firingsOver.Get().(*firing)
+	defer firingsOver.Put(one)
+	one.Firing, one.time = Firing{append(one.Name[:0], name...), payload, coalesce}, 0
+	var late <-chan time.Time
 	for {
-		if err := s.waitForRoom(late.C); err != nil {
-			return 0, err
+		if s.pipe.isFull.Load() {
+			if late == nil {
+				timer := time.NewTimer(s.config.BroadcastTimeout)
+				defer timer.Stop()
+				late = timer.C
+			}
+			if err := s.waitForRoom(late); err != nil {
+				return 0, err
+			}
 		}
-		one := &firing{Firing: Firing{[]byte(name), payload, coalesce}, isDone: make(chan struct{})}
-		if !s.firings.add(one) {
-			return 0, ErrEnded
-		}
-		<-one.isDone
-		if one.err == nil {
-			return LamportTime(one.fired.Event.Time), nil
-		}
-		if one.err != ErrBusy {
-			return 0, s.named(one.err)
+		if err := s.fired(one); err != ErrBusy {
+			return one.time, s.named(err)
 		}
 	}
 }
 
+// fired waits until an event is fired, and queues its packet: why it wasn't.
+func (s *Serf) fired(one *firing) error {
+	leads, is := s.firings.add(one)
+	if !is {
+		return ErrEnded
+	}
+	if leads {
+		s.takeFirings()
+	}
+	<-one.isDone
+	if one.err == nil {
+		s.gossip(s.events, one.packet, nil)
+	}
+	one.packet = nil
+	return one.err
+}
+
 // waitForRoom waits until events may be handed out.
 func (s *Serf) waitForRoom(late <-chan time.Time) error {
-	room := s.pipe.room()
 	select {
-	case <-room:
-		return nil
-	default:
-	}
-	select {
-	case <-room:
+	case <-s.pipe.room():
 		return nil
 	case <-s.ctx.Done():
 		return ErrEnded

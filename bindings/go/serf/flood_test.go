@@ -27,64 +27,70 @@ func small(t *testing.T) Agent {
 	settings := serfagent.DefaultSettings()
 	settings.EventBuffer, settings.QueryBuffer, settings.PerTime, settings.Responders = few, few, few, few
 	agent, err := serfagent.OpenInMemory("a", settings)
-	if err != nil {
-		t.Fatal(err)
-	}
+	must(t, err)
 	return Proved(agent)
 }
 
 // Packets that no agent made: an event, a query of a node that isn't there, an answer, and a state of so many slots.
 
+type eventMessage struct {
+	LTime   uint64
+	Name    string
+	Payload []byte
+	CC      bool
+}
+
+type queryMessage struct {
+	LTime   uint64
+	ID      uint32
+	Name    string
+	Addr    []byte
+	Port    uint16
+	Flags   uint64
+	Timeout time.Duration
+	Filters [][]byte
+}
+
+type answerMessage struct {
+	LTime uint64
+	ID    uint32
+	From  string
+	Flags uint64
+}
+
+type slotMessage struct {
+	Events []eventMessage
+	LTime  uint64
+}
+
+type stateMessage struct {
+	LTime        uint64
+	StatusLTimes map[string]uint64
+	LeftMembers  []string
+	EventLTime   uint64
+	Events       []*slotMessage
+	QueryLTime   uint64
+}
+
 func strangersEvent(at uint64, payload string) []byte {
-	e := &encoder{[]byte{eventType}}
-	e.mapping(3)
-	e.field("LTime").unsigned(at)
-	e.field("Name").raw("flood")
-	e.field("Payload").raw(payload)
-	return e.bytes
+	return written(eventMessage{LTime: at, Name: "flood", Payload: []byte(payload)}, eventType)
 }
 
 func strangersQuery(at uint64, id uint32, flags uint64, filters ...[]byte) []byte {
-	e := &encoder{[]byte{queryType}}
-	e.mapping(8)
-	e.field("LTime").unsigned(at)
-	e.field("ID").unsigned(uint64(id))
-	e.field("Name").raw("asked")
-	e.field("Addr").raw("\x7f\x00\x00\x09")
-	e.field("Port").unsigned(9)
-	e.field("Flags").unsigned(flags)
-	e.field("Timeout").unsigned(uint64(time.Hour))
-	e.field("Filters").array(len(filters))
-	for _, filter := range filters {
-		e.raw(string(filter))
-	}
-	return e.bytes
+	return written(queryMessage{at, id, "asked", []byte{127, 0, 0, 9}, 9, flags, time.Hour, filters}, queryType)
 }
 
 func strangersAnswer(at uint64, id uint32, from string, flags uint64) []byte {
-	e := &encoder{[]byte{5}}
-	e.mapping(4)
-	e.field("LTime").unsigned(at)
-	e.field("ID").unsigned(uint64(id))
-	e.field("From").raw(from)
-	e.field("Flags").unsigned(flags)
-	return e.bytes
+	return written(answerMessage{at, id, from, flags}, 5)
 }
 
 func strangersState(clock uint64, slots int, payload func(slot int) string) []byte {
-	e := &encoder{[]byte{stateType}}
-	e.mapping(2)
-	e.field("EventLTime").unsigned(clock)
-	e.field("Events").array(slots)
+	state := stateMessage{EventLTime: clock}
 	for slot := 0; slot < slots; slot++ {
-		e.mapping(2)
-		e.field("LTime").unsigned(clock - uint64(slot) - 1)
-		e.field("Events").array(1)
-		e.mapping(2)
-		e.field("Name").raw("flood")
-		e.field("Payload").raw(payload(slot))
+		one := eventMessage{Name: "flood", Payload: []byte(payload(slot))}
+		state.Events = append(state.Events, &slotMessage{[]eventMessage{one}, clock - uint64(slot) - 1})
 	}
-	return e.bytes
+	return written(state, stateType)
 }
 
 // marked sends an event of a new time, and waits until it comes: then all packets and states before it are taken, and have come.
@@ -108,7 +114,7 @@ var noMessages = []string{
 // A query for others goes on as it came, and doesn't come here.
 func TestAQueryForOthersGoesOn(t *testing.T) {
 	a := start(t, "a", "", withAgent(small(t)), withTags("role", "web"))
-	for i, filter := range [][]byte{writeTagFilter("role", "db"), writeTagFilter("role", "("), writeTagFilter("none", "x"), writeNodeFilter([]string{"b"})} {
+	for i, filter := range [][]byte{serfagent.FilterByTag("role", "db"), serfagent.FilterByTag("role", "("), serfagent.FilterByTag("none", "x"), serfagent.FilterByNames("b")} {
 		packet := strangersQuery(uint64(i+1), 7, 0, filter)
 		a.own().NotifyMsg(packet)
 		a.marked(uint64(i + 1))
@@ -133,9 +139,7 @@ func TestAnswersWithoutEnd(t *testing.T) {
 	}{"a small agent": {few, []change{withAgent(small(t))}}, "the agent of a configuration": {1 + 16, nil}} {
 		a := start(t, "a", "", one.with...)
 		asked, err := a.Query("who", nil, &QueryParam{Timeout: MaxTimeout, RequestAck: true})
-		if err != nil {
-			t.Fatal(err)
-		}
+		must(t, err)
 		eventually(t, "it is asked", func() bool { return a.query("who") != nil })
 		query := a.query("who").handed
 		for i := 0; i < 1500; i++ {
@@ -288,7 +292,7 @@ func (f *flooder) round(count int) (packets [][]byte) {
 		garbage[0] %= 12
 		packets = append(packets,
 			strangersEvent(at-at%64, f.payload(900)), strangersEvent(at, f.payload(900)), strangersEvent(at/2, f.payload(900)), strangersEvent(0, f.payload(900)),
-			strangersEvent(at, f.payload(9_900)), strangersEvent(FarTime+at, f.payload(9)), strangersQuery(at, id, 0), strangersQuery(at, id+1<<20, 1),
+			strangersEvent(at, f.payload(9_900)), strangersEvent(2*FarTime+at, f.payload(9)), strangersQuery(at, id, 0), strangersQuery(at, id+1<<20, 1),
 			strangersAnswer(at, id, nobody, 0), strangersAnswer(at, id, nobody, 1), timed("\x01\x82\xa5LTime", at, "\xa4Node\xb0"+f.payload(0)[4:]),
 			[]byte(noMessages[i%len(noMessages)]), garbage, writeRelay(relay{addr: net.IPv4(127, 0, 0, 9), port: 9, name: nobody, message: garbage}),
 		)
@@ -352,16 +356,12 @@ func TestAFloodOfPackets(t *testing.T) {
 	eventually(t, "an honest event comes", func() bool {
 		// (on a busy machine the state that b hears may be an old one)
 		b.join(a)
-		if err := b.UserEvent("honest", []byte(f.payload(0)), false); err != nil {
-			t.Error(err)
-		}
+		check(t, b.UserEvent("honest", []byte(f.payload(0)), false))
 		return f.ends("honest")
 	})
 	f.judge(t, a, rounds*count)
 	for _, node := range []*one{a, b} {
-		if err := node.Shutdown(); err != nil {
-			t.Error(err)
-		}
+		check(t, node.Shutdown())
 	}
 	eventually(t, "no goroutine is left", func() bool { return runtime.NumGoroutine() <= routines })
 }

@@ -29,6 +29,7 @@ func (s *Serf) Join(existing []string, ignoreOld bool) (int, error) {
 	if count > 0 {
 		// (some were joined, so it worked)
 		tell(s.joined)
+		tell(s.lacking)
 		return count, nil
 	}
 	return 0, err

@@ -29,17 +29,11 @@ func TestAJoinDoesNotWaitForTheDisk(t *testing.T) {
 // No word that a node is there comes behind the word that it leaves.
 func TestNoWordBehindTheLeave(t *testing.T) {
 	_, b := pair(t)
-	if err := b.Leave(); err != nil {
-		t.Fatal(err)
-	}
+	must(t, b.Leave())
 	before, err := b.agent.Clocks()
-	if err != nil {
-		t.Fatal(err)
-	}
+	must(t, err)
 	for _, say := range []func() error{b.sayThere, func() error { b.wronged(); return nil }, func() error { tell(b.joined); return nil }} {
-		if err := say(); err != nil {
-			t.Error(err)
-		}
+		check(t, say())
 	}
 	eventually(t, "the word of a join was looked at", func() bool { return len(b.joined) == 0 })
 	b.saying.Lock()
@@ -60,9 +54,7 @@ func TestALeaveBesideAShutdown(t *testing.T) {
 	go func() { said <- a.Leave() }()
 	eventually(t, "it leaves", func() bool { return a.intents.NumQueued() == 1 })
 	soon(t, "both end", func() {
-		if err := a.Shutdown(); err != nil {
-			t.Error(err)
-		}
+		check(t, a.Shutdown())
 		if err := <-said; err != ErrEnded {
 			t.Error(err)
 		}

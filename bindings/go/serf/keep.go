@@ -1,6 +1,10 @@
 package serf
 
-import "time"
+import (
+	"time"
+
+	"github.com/armon/go-metrics"
+)
 
 // keepTime is how often lines are written at most, and lookTime how often the file is looked at: how long it is, and whether it is the
 // node's still.
@@ -58,7 +62,7 @@ func (s *Serf) writeLines() error {
 	if !isTooMany && !s.snapshot.shouldCompact(alive) {
 		return nil
 	}
-	defer lasted(time.Now(), "snapshot", "compact")
+	defer metrics.MeasureSince(compactKey, time.Now())
 	err := s.snapshot.compact(alive, s.agent.Compact)
 	if err != nil && isTooMany {
 		s.lines.lost()

@@ -20,7 +20,7 @@ const (
 // growth is by how many bytes the file may grow before it is looked at, whether it is worth a compaction.
 const growth = 1 << 20
 
-// What the line of an event has beside its texts, of which each byte is two (docs/FORMATS.md).
+// What the line of an event has beside its texts, of which each byte is two (docs/SPEC.md).
 const (
 	eventWord  = "#event "
 	eventSpare = 30
@@ -137,7 +137,7 @@ func (k *kept) packet(data []byte) bool {
 	if k == nil || data[0] != eventType {
 		return true
 	}
-	d := &decoder{rest: data[1:]}
+	d := decode(data[1:])
 	time, name, payload := d.event()
 	return d.end() != nil || k.takes(time, name, payload, false)
 }
@@ -166,12 +166,12 @@ func (k *kept) state(data []byte) bool {
 		return true
 	}
 	hasRoom := true
-	d := &decoder{rest: data[1:]}
+	d := decode(data[1:])
 	d.fields(func(key string) bool {
 		if key != "Events" {
 			return false
 		}
-		for slots := d.array(); slots > 0 && d.err == nil; slots-- {
+		for slots := d.array(); slots > 0 && d.Err == nil; slots-- {
 			hasRoom = k.slot(d) && hasRoom
 		}
 		return true
@@ -188,7 +188,7 @@ func (k *kept) slot(d *decoder) bool {
 		case "LTime":
 			time = d.unsigned()
 		case "Events":
-			for events := d.array(); events > 0 && d.err == nil; events-- {
+			for events := d.array(); events > 0 && d.Err == nil; events-- {
 				_, name, payload := d.event()
 				texts = append(texts, [2][]byte{name, payload})
 			}

@@ -8,40 +8,7 @@ import (
 	"strings"
 	"testing"
 	"time"
-
-	"github.com/hashicorp/go-msgpack/codec"
 )
-
-// written is a message of Serf's: its type, and this behind it.
-func written(t *testing.T, kind byte, message interface{}) []byte {
-	t.Helper()
-	out := bytes.NewBuffer([]byte{kind})
-	if err := codec.NewEncoder(out, &codec.MsgpackHandle{}).Encode(message); err != nil {
-		t.Fatal(err)
-	}
-	return out.Bytes()
-}
-
-type eventMessage struct {
-	LTime   uint64
-	Name    string
-	Payload []byte
-	CC      bool
-}
-
-type slotMessage struct {
-	Events []eventMessage
-	LTime  uint64
-}
-
-type stateMessage struct {
-	LTime        uint64
-	StatusLTimes map[string]uint64
-	LeftMembers  []string
-	EventLTime   uint64
-	Events       []*slotMessage
-	QueryLTime   uint64
-}
 
 // Who floods some times takes no room from the others, and all together has the bound.
 func TestKeptEventsAreBounded(t *testing.T) {
@@ -95,7 +62,7 @@ func TestKeptEventsAreBounded(t *testing.T) {
 		t.Error(slot)
 	}
 	var none *kept
-	if !none.packet(written(t, eventType, eventMessage{LTime: 1})) || !none.state(nil) {
+	if !none.packet(written(eventMessage{LTime: 1}, eventType)) || !none.state(nil) {
 		t.Error("without the setting all is taken")
 	}
 }
@@ -111,11 +78,11 @@ func TestAFloodThatIsKept(t *testing.T) {
 	var longest int64
 	for life := 0; life < 2; life++ {
 		a := start(t, "a", folder, keeping)
-		a.own().MergeRemoteState(written(t, stateType, stateMessage{LTime: 3, EventLTime: 1, Events: []*slotMessage{nil, {LTime: 1, Events: []eventMessage{{Name: "of a state"}}}}}), false)
+		a.own().MergeRemoteState(written(stateMessage{LTime: 3, EventLTime: 1, Events: []*slotMessage{nil, {LTime: 1, Events: []eventMessage{{Name: "of a state"}}}}}, stateType), false)
 		for time := uint64(1); time < 200; time++ {
 			for i := 0; i < 40; i++ {
 				name := fmt.Sprintf("e%d-%d-%d", time, i, i%2*life)
-				packet := written(t, eventType, eventMessage{LTime: time, Name: name, Payload: payload})
+				packet := written(eventMessage{LTime: time, Name: name, Payload: payload}, eventType)
 				eventually(t, "it has room", func() bool { return a.packets.add(packet, false) })
 			}
 			if size := sizeOf(t, path); size > longest {
@@ -132,15 +99,11 @@ func TestAFloodThatIsKept(t *testing.T) {
 		for i := 0; i < 40; i++ {
 			many = append(many, eventMessage{Name: fmt.Sprint("s", i), Payload: payload})
 		}
-		a.own().MergeRemoteState(written(t, stateType, stateMessage{LTime: 77, EventLTime: 300, Events: []*slotMessage{{many, 199}}}), false)
+		a.own().MergeRemoteState(written(stateMessage{LTime: 77, EventLTime: 300, Events: []*slotMessage{{many, 199}}}, stateType), false)
 		eventually(t, "the state is dropped", func() bool { return a.unkept.Load() > before })
 		eventually(t, "its member clock is taken", func() bool { return a.Stats()["member_time"] >= "77" })
-		if err := a.UserEvent("own", []byte(fmt.Sprint(life)), false); err != nil {
-			t.Error(err)
-		}
-		if err := a.Shutdown(); err != nil {
-			t.Error(err)
-		}
+		check(t, a.UserEvent("own", []byte(fmt.Sprint(life)), false))
+		check(t, a.Shutdown())
 		a.mu.Lock()
 		for _, e := range a.handed {
 			if e, is := e.(UserEvent); is {
@@ -172,7 +135,7 @@ func TestAFileThatGrows(t *testing.T) {
 	a := start(t, "a", folder, keeping, func(m *made) { m.lookTime = time.Hour })
 	payload := bytes.Repeat([]byte("z"), 480)
 	for time := uint64(1); time < 5000; time++ {
-		packet := written(t, eventType, eventMessage{LTime: time, Name: "e", Payload: payload})
+		packet := written(eventMessage{LTime: time, Name: "e", Payload: payload}, eventType)
 		eventually(t, "it has room", func() bool { return a.packets.add(packet, false) })
 	}
 	eventually(t, "it is compacted", func() bool { return len(a.packets.came) == 0 && sizeOf(t, filepath.Join(folder, "a")) < 2*growth })

@@ -113,22 +113,22 @@ func (r *KeyResponse) take(answer NodeResponse) {
 	r.NumResp++
 	said, err := readKeyAnswered(answer.Payload)
 	if err != nil {
-		said = keyAnswered{message: err.Error()}
+		said = keyAnswered{Message: err.Error()}
 	}
-	if !said.result {
+	if !said.Result {
 		r.NumErr++
 	}
-	if said.message != "" {
-		r.Messages[answer.From] = said.message
+	if said.Message != "" {
+		r.Messages[answer.From] = said.Message
 	}
-	if r.Keys == nil || !said.result {
+	if r.Keys == nil || !said.Result {
 		return
 	}
-	for _, key := range said.keys {
+	for _, key := range said.Keys {
 		r.Keys[key]++
 	}
-	if said.primary != "" {
-		r.PrimaryKeys[said.primary]++
+	if said.PrimaryKey != "" {
+		r.PrimaryKeys[said.PrimaryKey]++
 	}
 }
 
@@ -148,9 +148,9 @@ func (s *Serf) keyAnswer(command keyCommand, payload []byte) []byte {
 	key, err := readKeyAsked(payload)
 	switch {
 	case command == listKeys:
-		answer.keys, err = s.keys.list()
+		answer.Keys, err = s.keys.list()
 		if err == nil {
-			answer.primary = answer.keys[0]
+			answer.PrimaryKey = answer.Keys[0]
 		}
 	case err != nil:
 	case command == installKey:
@@ -160,25 +160,25 @@ func (s *Serf) keyAnswer(command keyCommand, payload []byte) []byte {
 	case command == removeKey:
 		err = s.keys.remove(key)
 	}
-	if answer.result = err == nil; err != nil {
+	if answer.Result = err == nil; err != nil {
 		s.log.Printf("[ERR] serf: %s failed: %v", command, err)
-		answer.message = err.Error()
+		answer.Message = err.Error()
 	}
 	return fitting(s.config.QueryResponseSizeLimit, answer)
 }
 
 // fitting is an answer that isn't too long for a limit: with as many keys as have room.
 func fitting(limit int, answer keyAnswered) []byte {
-	all := len(answer.keys)
-	if len(answer.message) > 512 {
-		answer.message = answer.message[:512]
+	all := len(answer.Keys)
+	if len(answer.Message) > 512 {
+		answer.Message = answer.Message[:512]
 	}
 	for {
 		written := writeKeyAnswered(answer)
-		if len(written) <= limit-160-greatestName || len(answer.keys) == 0 {
+		if len(written) <= limit-160-greatestName || len(answer.Keys) == 0 {
 			return written
 		}
-		answer.keys = answer.keys[:len(answer.keys)-1]
-		answer.message = fmt.Sprintf("truncated key list response, showing first %d of %d keys", len(answer.keys), all)
+		answer.Keys = answer.Keys[:len(answer.Keys)-1]
+		answer.Message = fmt.Sprintf("truncated key list response, showing first %d of %d keys", len(answer.Keys), all)
 	}
 }

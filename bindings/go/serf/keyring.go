@@ -8,6 +8,8 @@ import (
 	"sync"
 
 	"github.com/hashicorp/memberlist"
+
+	"kitchenrue.example/serfagent"
 )
 
 // Serf's own words for a node that doesn't encrypt.
@@ -61,7 +63,7 @@ func (k *keyring) changed(change func() error) error {
 	if err != nil {
 		return err
 	}
-	return writeFile(k.path, data, 0o600)
+	return serfagent.WriteFile(k.path, data, 0o600)
 }
 
 // install adds a key, which then decrypts.

@@ -4,6 +4,7 @@ import (
 	"bytes"
 	"encoding/base64"
 	"encoding/json"
+	"fmt"
 	"os"
 	"path/filepath"
 	"reflect"
@@ -21,9 +22,7 @@ func keys(t *testing.T, path string) *keyring {
 	c := quiet("a")
 	c.KeyringFile, c.MemberlistConfig.SecretKey = path, testKey(1)
 	k, err := keyringOf(&c)
-	if err != nil {
-		t.Fatal(err)
-	}
+	must(t, err)
 	return k
 }
 
@@ -66,16 +65,26 @@ func TestChangesOfKeys(t *testing.T) {
 	}
 }
 
+// There are no more keys than are read of an answer.
+func TestKeysAreBounded(t *testing.T) {
+	k := keys(t, "")
+	for i := 1; i < maxKeys; i++ {
+		must(t, k.install([]byte(fmt.Sprintf("%016d", i))))
+	}
+	if err := k.install(testKey(2)); err == nil || !strings.Contains(err.Error(), "1024 keys") {
+		t.Error(err)
+	}
+	if all, err := k.list(); err != nil || len(all) != maxKeys {
+		t.Error(len(all), err)
+	}
+}
+
 // A change that can't be kept is a fault, and the keys that there were are there.
 func TestKeysThatCannotBeKept(t *testing.T) {
 	folder := filepath.Join(t.TempDir(), "folder")
-	if err := os.Mkdir(folder, 0o700); err != nil {
-		t.Fatal(err)
-	}
+	must(t, os.Mkdir(folder, 0o700))
 	k := keys(t, filepath.Join(folder, "keys"))
-	if err := os.RemoveAll(folder); err != nil {
-		t.Fatal(err)
-	}
+	must(t, os.RemoveAll(folder))
 	if err := k.install(testKey(2)); err == nil {
 		t.Error("it isn't kept")
 	}

@@ -3,7 +3,6 @@ package serf
 import (
 	"strings"
 	"sync"
-	"time"
 
 	"github.com/armon/go-metrics"
 )
@@ -22,22 +21,53 @@ type names struct {
 	kind string
 
 	mu sync.Mutex
-	// fresh has how often each came since that was told, and all how often any did.
-	fresh map[string]int
+	// known are those that came, and fresh how often each did since that was told, by its plain name; all is how often any did.
+	known map[string]*name
+	fresh map[string]*int
 	all   int
 }
 
-func namesOf(kind string) *names { return &names{kind: kind, fresh: map[string]int{}} }
+// name is a name that came, and how often it did.
+type name struct {
+	text  string
+	fresh *int
+}
 
-// count counts one of a name. A sink is told by tell, once for many, since to tell it takes longer than all else here.
-func (n *names) count(name string) {
-	name = plainName(name)
+func namesOf(kind string) *names {
+	return &names{kind: kind, known: map[string]*name{}, fresh: map[string]*int{}}
+}
+
+// tellNames tells the sink what events and queries came: once a second, since to tell of one takes longer than to take it.
+func (s *Serf) tellNames() {
+	s.eventNames.tell()
+	s.queryNames.tell()
+}
+
+// count counts one of a name, and gives it as a text. A sink is told by tell.
+func (n *names) count(text []byte) string {
 	n.mu.Lock()
 	defer n.mu.Unlock()
 	n.all++
-	if _, is := n.fresh[name]; is || len(n.fresh) < countedNames {
-		n.fresh[name]++
+	one := n.known[string(text)]
+	if one == nil {
+		if one = n.of(string(text)); len(n.known) < countedNames && len(text) <= countedLength {
+			n.known[one.text] = one
+		}
 	}
+	*one.fresh++
+	return one.text
+}
+
+// of is a name that isn't known, of which its plain name may be.
+func (n *names) of(text string) *name {
+	plain := plainName(text)
+	fresh := n.fresh[plain]
+	if fresh == nil {
+		if fresh = new(int); len(n.fresh) < countedNames {
+			n.fresh[plain] = fresh
+		}
+	}
+	return &name{text, fresh}
 }
 
 // tell tells the sink what came.
@@ -50,9 +80,9 @@ func (n *names) tell() {
 	metrics.IncrCounter([]string{"serf", n.kind}, float32(n.all))
 	n.all = 0
 	for name, count := range n.fresh {
-		if count > 0 {
-			metrics.IncrCounter([]string{"serf", n.kind, name}, float32(count))
-			n.fresh[name] = 0
+		if *count > 0 {
+			metrics.IncrCounter([]string{"serf", n.kind, name}, float32(*count))
+			*count = 0
 		}
 	}
 }
@@ -73,12 +103,14 @@ func plainName(name string) string {
 // countOf counts something.
 func countOf(words ...string) { metrics.IncrCounter(append([]string{"serf"}, words...), 1) }
 
-// sample notes a size.
-func sample(size int, words ...string) {
-	metrics.AddSample(append([]string{"serf"}, words...), float32(size))
-}
+// What is noted of each packet, or of each burst. (A sink gets a copy where it changes anything.)
+var (
+	receivedKey = []string{"serf", "msgs", "received"}
+	sentKey     = []string{"serf", "msgs", "sent"}
+	burstKey    = []string{"serf", "burst"}
+	appendKey   = []string{"serf", "snapshot", "appendLine"}
+	compactKey  = []string{"serf", "snapshot", "compact"}
+)
 
-// lasted notes how long something lasted, in milliseconds.
-func lasted(since time.Time, words ...string) {
-	metrics.MeasureSince(append([]string{"serf"}, words...), since)
-}
+// sample notes a size.
+func sample(size int, key []string) { metrics.AddSample(key, float32(size)) }

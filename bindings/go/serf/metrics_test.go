@@ -52,21 +52,13 @@ func counting(t *testing.T) func() string {
 func TestMetrics(t *testing.T) {
 	counted := counting(t)
 	a, b := pair(t, func(m *made) { m.QueueCheckInterval, m.ReapInterval = 10*time.Millisecond, time.Hour })
-	if err := a.UserEvent("deploy app", nil, false); err != nil {
-		t.Fatal(err)
-	}
-	asked, err := a.Query("load", nil, &QueryParam{RequestAck: true, Timeout: 5 * time.Second})
-	if err != nil {
-		t.Fatal(err)
-	}
+	must(t, a.UserEvent("deploy app", nil, false))
+	asked, err := a.Query("load", nil, &QueryParam{RequestAck: true, Timeout: time.Minute})
+	must(t, err)
 	eventually(t, "b is asked", func() bool { return b.query("load") != nil })
-	if err := b.query("load").Respond([]byte("1")); err != nil {
-		t.Fatal(err)
-	}
+	must(t, b.query("load").Respond([]byte("1")))
 	<-asked.ResponseCh()
-	if err := b.SetTags(map[string]string{"x": "y"}); err != nil {
-		t.Fatal(err)
-	}
+	must(t, b.SetTags(map[string]string{"x": "y"}))
 	a.own().NotifyLeave(b.memberlist().LocalNode())
 	a.own().NotifyJoin(b.memberlist().LocalNode())
 	for _, what := range []string{
@@ -84,8 +76,8 @@ func TestNamesThatAreCounted(t *testing.T) {
 	counted := counting(t)
 	all := namesOf("events")
 	for i := 0; i < 2*countedNames; i++ {
-		all.count(fmt.Sprint("e", i))
-		all.count("e0")
+		all.count([]byte(fmt.Sprint("e", i)))
+		all.count([]byte("e0"))
 		if i%10 == 0 {
 			all.tell()
 		}

@@ -32,9 +32,7 @@ func pair(t *testing.T, changes ...change) (*one, *one) {
 func TestEventsGoBothWays(t *testing.T) {
 	a, b := pair(t)
 	for i, from := range []*one{a, b, a, b} {
-		if err := from.UserEvent("deploy", []byte(fmt.Sprint(i)), false); err != nil {
-			t.Fatal(err)
-		}
+		must(t, from.UserEvent("deploy", []byte(fmt.Sprint(i)), false))
 		want := []string{"0", "1", "2", "3"}[:i+1]
 		eventually(t, "both have it", func() bool {
 			return reflect.DeepEqual(a.got("deploy"), want) && reflect.DeepEqual(b.got("deploy"), want)
@@ -81,9 +79,7 @@ func TestQueries(t *testing.T) {
 		for _, node := range []*one{a, b} {
 			if name := node.config.NodeName; strings.Contains(test.takes, name) {
 				eventually(t, name+" is asked "+test.name, func() bool { return node.query(test.name) != nil })
-				if err := node.query(test.name).Respond([]byte("of " + name)); err != nil {
-					t.Error(err)
-				}
+				check(t, node.query(test.name).Respond([]byte("of "+name)))
 				if err := node.query(test.name).Respond(nil); err == nil {
 					t.Error("it answered twice")
 				}
@@ -202,38 +198,26 @@ func TestComingAndGoing(t *testing.T) {
 			return node.status("a") == "alive" && node.status("b") == "alive" && node.status("c") == "alive"
 		})
 	}
-	if err := b.SetTags(map[string]string{"size": "big"}); err != nil {
-		t.Fatal(err)
-	}
+	must(t, b.SetTags(map[string]string{"size": "big"}))
 	eventually(t, "a sees tags", func() bool { m, _ := a.members.get("b"); return m.Tags["size"] == "big" })
 	if err := b.SetTags(map[string]string{"size": strings.Repeat("x", 600)}); err == nil {
 		t.Error("too long")
 	}
-	if err := b.Leave(); err != nil {
-		t.Fatal(err)
-	}
+	must(t, b.Leave())
 	if err := b.Leave(); err != nil || b.State() != SerfLeft {
 		t.Error("it left before", err)
 	}
-	if err := b.Shutdown(); err != nil {
-		t.Error(err)
-	}
+	check(t, b.Shutdown())
 	for _, node := range []*one{a, c} {
 		eventually(t, "b left", func() bool { return node.status("b") == "left" })
 	}
 	if text, err := os.ReadFile(filepath.Join(folder, "b")); err != nil || !strings.Contains(string(text), "leave\n") {
 		t.Errorf("%q %v", text, err)
 	}
-	if err := c.Shutdown(); err != nil {
-		t.Error(err)
-	}
+	check(t, c.Shutdown())
 	eventually(t, "c failed", func() bool { return a.status("c") == "failed" })
-	if err := a.RemoveFailedNode("c"); err != nil {
-		t.Error(err)
-	}
-	if err := a.RemoveFailedNodePrune("b"); err != nil {
-		t.Error(err)
-	}
+	check(t, a.RemoveFailedNode("c"))
+	check(t, a.RemoveFailedNodePrune("b"))
 	if a.status("c") != "left" || a.status("b") != "" {
 		t.Error(a.status("c"), a.status("b"))
 	}
@@ -248,9 +232,7 @@ func TestComingBack(t *testing.T) {
 	a, b := start(t, "a", folder), start(t, "b", folder)
 	b.join(a)
 	for i := 0; i < 5; i++ {
-		if err := a.UserEvent("deploy", []byte(fmt.Sprint(i)), false); err != nil {
-			t.Fatal(err)
-		}
+		must(t, a.UserEvent("deploy", []byte(fmt.Sprint(i)), false))
 	}
 	eventually(t, "b has them", func() bool { return len(b.got("deploy")) == 5 })
 	eventually(t, "b keeps a", func() bool {
@@ -258,14 +240,10 @@ func TestComingBack(t *testing.T) {
 		return err == nil && strings.Contains(string(text), "alive: a ")
 	})
 	where := b.memberlist().LocalNode().Port
-	if err := b.Shutdown(); err != nil {
-		t.Fatal(err)
-	}
+	must(t, b.Shutdown())
 	again := start(t, "b", folder, at(where))
 	eventually(t, "it is back", func() bool { return again.status("a") == "alive" })
-	if err := a.UserEvent("deploy", []byte("last"), false); err != nil {
-		t.Fatal(err)
-	}
+	must(t, a.UserEvent("deploy", []byte("last"), false))
 	eventually(t, "it has the new one", func() bool { return len(again.got("deploy")) > 0 })
 	time.Sleep(300 * time.Millisecond)
 	if found := again.got("deploy"); !reflect.DeepEqual(found, []string{"last"}) {
@@ -287,12 +265,8 @@ func TestOldLeavesAreRefuted(t *testing.T) {
 func TestStatesThatSayItLeftAreRefuted(t *testing.T) {
 	a, b := pair(t)
 	state, err := b.agent.LocalState([]serfagent.Status{{Name: "a", Time: 900}}, []string{"a"})
-	if err != nil {
-		t.Fatal(err)
-	}
-	if err := a.agent.ObserveMember(899); err != nil {
-		t.Fatal(err)
-	}
+	must(t, err)
+	must(t, a.agent.ObserveMember(899))
 	a.own().MergeRemoteState(state, false)
 	eventually(t, "b hears that a is there", func() bool { return b.timeOf("a") >= 900 })
 	if b.status("a") != "alive" || a.status("a") != "alive" {
@@ -343,28 +317,26 @@ func TestKeys(t *testing.T) {
 	if data, err := os.ReadFile(file); err != nil || json.Unmarshal(data, &kept) != nil || !reflect.DeepEqual(kept, []string{text(2)}) {
 		t.Errorf("%q %v", kept, err)
 	}
-	if err := b.UserEvent("deploy", nil, false); err != nil {
-		t.Fatal(err)
-	}
+	must(t, b.UserEvent("deploy", nil, false))
 	eventually(t, "the event goes on", func() bool { return len(a.got("deploy")) == 1 })
 }
 
 func TestKeysThatAreTooMany(t *testing.T) {
-	answer := keyAnswered{result: true}
+	answer := keyAnswered{Result: true}
 	for i := 0; i < 100; i++ {
-		answer.keys = append(answer.keys, fmt.Sprintf("%044d", i))
+		answer.Keys = append(answer.Keys, fmt.Sprintf("%044d", i))
 	}
 	before := 0
 	for _, limit := range []int{500, 1024, 2048} {
 		written := fitting(limit, answer)
 		found, err := readKeyAnswered(written)
-		if err != nil || len(written) > limit-288 || !strings.Contains(found.message, "of 100 keys") {
+		if err != nil || len(written) > limit-288 || !strings.Contains(found.Message, "of 100 keys") {
 			t.Errorf("%d: %d %+v %v", limit, len(written), found, err)
 		}
-		if limit > 1000 && len(found.keys) < before+10 {
-			t.Errorf("%d: %d keys, and %d before", limit, len(found.keys), before)
+		if limit > 1000 && len(found.Keys) < before+10 {
+			t.Errorf("%d: %d keys, and %d before", limit, len(found.Keys), before)
 		}
-		before = len(found.keys)
+		before = len(found.Keys)
 	}
 }
 
@@ -392,9 +364,7 @@ func TestEndsWhileItsNameIsAskedFor(t *testing.T) {
 	go func() { ended <- a.Shutdown() }()
 	select {
 	case err := <-ended:
-		if err != nil {
-			t.Error(err)
-		}
+		check(t, err)
 	case <-time.After(20 * time.Second):
 		t.Fatal("it goes on")
 	}
@@ -410,11 +380,7 @@ func TestTwoNodesOfOneName(t *testing.T) {
 	if _, err := twin.Join([]string{b.address()}, true); err != nil {
 		t.Log(err)
 	}
-	select {
-	case <-twin.ShutdownCh():
-	case <-time.After(2 * time.Minute):
-		t.Fatal("the second one goes on")
-	}
+	soon(t, "the end of the second one", func() { <-twin.ShutdownCh() })
 	if err := twin.Fault(); err == nil || !strings.Contains(err.Error(), "another node has the name") {
 		t.Error(err)
 	}
@@ -430,9 +396,7 @@ func TestANameOf129Bytes(t *testing.T) {
 	a.own().NotifyJoin(&memberlist.Node{Name: name, Addr: []byte{127, 0, 0, 9}, Port: 1, Meta: []byte("\xff\x80")})
 	a.own().NotifyMsg(intent(t, 9, name, true))
 	a.own().NotifyMsg(intent(t, 9, strings.Repeat("y", 129), true))
-	if err := b.UserEvent("deploy", nil, false); err != nil {
-		t.Fatal(err)
-	}
+	must(t, b.UserEvent("deploy", nil, false))
 	eventually(t, "events go on", func() bool { return len(a.got("deploy")) == 1 })
 	a.own().NotifyLeave(&memberlist.Node{Name: name})
 	if a.status(name) == "" || a.Fault() != nil {
@@ -453,9 +417,7 @@ func TestHostilePackets(t *testing.T) {
 		a.own().NotifyMsg(intent(t, uint64(i), fmt.Sprint("n", i), i%2 == 0))
 	}
 	eventually(t, "all is taken", func() bool { return len(a.packets.came) == 0 && len(a.states.came) == 0 })
-	if err := b.UserEvent("deploy", nil, false); err != nil {
-		t.Fatal(err)
-	}
+	must(t, b.UserEvent("deploy", nil, false))
 	eventually(t, "events go on", func() bool { return len(a.got("deploy")) == 1 })
 	if a.Fault() != nil {
 		t.Error(a.Fault())
@@ -469,9 +431,7 @@ func TestRelaysGoToMembersAlone(t *testing.T) {
 	a.own().NotifyMsg(writeRelay(passed))
 	eventually(t, "it is passed on", func() bool { return len(b.got("r")) == 1 })
 	stranger, err := net.ListenUDP("udp", &net.UDPAddr{IP: net.IPv4(127, 0, 0, 1)})
-	if err != nil {
-		t.Fatal(err)
-	}
+	must(t, err)
 	defer stranger.Close()
 	passed.port = uint16(stranger.LocalAddr().(*net.UDPAddr).Port)
 	a.own().NotifyMsg(writeRelay(passed))

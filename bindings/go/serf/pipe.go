@@ -2,6 +2,7 @@ package serf
 
 import (
 	"sync"
+	"sync/atomic"
 	"time"
 )
 
@@ -23,7 +24,7 @@ type pipe struct {
 	came   chan struct{}
 	// roomy is closed while there is room.
 	roomy  chan struct{}
-	isFull bool
+	isFull atomic.Bool
 }
 
 func newPipe() *pipe {
@@ -32,19 +33,21 @@ func newPipe() *pipe {
 	return p
 }
 
-// add adds an event behind the others.
-func (p *pipe) add(e Event) {
+// add adds events behind the others.
+func (p *pipe) add(events ...Event) {
 	p.mu.Lock()
 	defer p.mu.Unlock()
 	if p.isOver {
 		return
 	}
-	if about, is := e.(MemberEvent); is && p.size() >= Waiting {
-		for _, member := range about.Members {
-			p.fold(MemberEvent{about.Type, []Member{member}})
+	for _, e := range events {
+		if about, is := e.(MemberEvent); is && p.size() >= Waiting {
+			for _, member := range about.Members {
+				p.fold(MemberEvent{about.Type, []Member{member}})
+			}
+		} else {
+			p.waiting = append(p.waiting, e)
 		}
-	} else {
-		p.waiting = append(p.waiting, e)
 	}
 	p.noteRoom()
 	tell(p.came)
@@ -97,10 +100,10 @@ func (p *pipe) size() int { return len(p.waiting) - p.holes }
 // noteRoom lets those go on that wait for room, or has them wait.
 func (p *pipe) noteRoom() {
 	isFull := p.size() >= Waiting
-	if isFull == p.isFull {
+	if isFull == p.isFull.Load() {
 		return
 	}
-	if p.isFull = isFull; isFull {
+	if p.isFull.Store(isFull); isFull {
 		p.roomy = make(chan struct{})
 	} else {
 		close(p.roomy)
@@ -135,7 +138,7 @@ func (p *pipe) length() int {
 }
 
 // hasRoom says whether more may be taken from the network.
-func (p *pipe) hasRoom() bool { return p.length() < Waiting }
+func (p *pipe) hasRoom() bool { return !p.isFull.Load() }
 
 // room is closed while there is room.
 func (p *pipe) room() <-chan struct{} {
@@ -166,6 +169,11 @@ func (p *pipe) run(to chan<- Event, ends <-chan struct{}, grace time.Duration) i
 				}
 			}
 			continue
+		}
+		select {
+		case to <- e:
+			continue
+		default:
 		}
 		select {
 		case to <- e:

@@ -144,7 +144,7 @@ func (s *Serf) ask(name string, payload []byte, params QueryParam) (*QueryRespon
 	own := s.memberlist().LocalNode()
 	filters := filtersOf(params)
 	how := serfagent.QueryParams{
-		Timeout: int64(params.Timeout), Addr: []byte(short(own.Addr)), Port: own.Port, RelayFactor: params.RelayFactor, WantAck: params.RequestAck,
+		Timeout: params.Timeout, Addr: []byte(short(own.Addr)), Port: own.Port, RelayFactor: params.RelayFactor, WantAck: params.RequestAck,
 		Filters: filters, TagsPass: passes(filters, s.ownTags()),
 	}
 	var response *QueryResponse
@@ -162,7 +162,7 @@ func (s *Serf) ask(name string, payload []byte, params QueryParam) (*QueryRespon
 		}
 		response = s.opened(asking{asked.Time, id}, params)
 		s.handQuery(asked.Query)
-		s.queryNames.tell()
+		s.handOver()
 		return nil
 	})
 	if errors.Is(err, serfagent.TooLarge) {
@@ -182,7 +182,7 @@ func (s *Serf) ask(name string, payload []byte, params QueryParam) (*QueryRespon
 func filtersOf(params QueryParam) [][]byte {
 	var filters [][]byte
 	if len(params.FilterNodes) > 0 {
-		filters = append(filters, writeNodeFilter(params.FilterNodes))
+		filters = append(filters, serfagent.FilterByNames(params.FilterNodes...))
 	}
 	keys := make([]string, 0, len(params.FilterTags))
 	for key := range params.FilterTags {
@@ -190,7 +190,7 @@ func filtersOf(params QueryParam) [][]byte {
 	}
 	sort.Strings(keys)
 	for _, key := range keys {
-		filters = append(filters, writeTagFilter(key, params.FilterTags[key]))
+		filters = append(filters, serfagent.FilterByTag(key, params.FilterTags[key]))
 	}
 	return filters
 }

@@ -3,6 +3,8 @@ package serf
 import (
 	"fmt"
 	"net"
+
+	"kitchenrue.example/guard/msgpack"
 )
 
 // relay is a message that is to be passed to another node.
@@ -13,69 +15,42 @@ type relay struct {
 	message []byte
 }
 
-// readRelay reads a packet of type 9.
-func readRelay(packet []byte) (relay, error) {
-	var found relay
-	if len(packet) == 0 || packet[0] != relayType {
-		return found, errKind
-	}
-	d := &decoder{rest: packet[1:]}
-	d.fields(func(key string) bool {
-		switch key {
-		case "DestName":
-			found.name = string(d.raw())
-		case "DestAddr":
-			d.fields(func(key string) bool {
-				switch key {
-				case "IP":
-					found.addr = append(net.IP(nil), d.raw()...)
-				case "Port":
-					found.port = d.port()
-				default:
-					return false
-				}
-				return true
-			})
-		default:
-			return false
-		}
-		return true
-	})
-	if d.err == nil && (len(d.rest) == 0 || len(found.addr) != net.IPv4len && len(found.addr) != net.IPv6len) {
-		d.fail(errKind)
-	}
-	if d.err != nil {
-		return relay{}, fmt.Errorf("a relay: %w", d.err)
-	}
-	found.message = d.rest
-	return found, nil
+// relayHead is what stands before that message.
+type relayHead struct {
+	DestAddr place
+	DestName string
 }
 
-// port takes a port.
-func (d *decoder) port() uint16 {
-	is := d.unsigned()
-	if is > 65535 {
-		d.fail(errKind)
+// place is where a node is.
+type place struct {
+	IP   []byte
+	Port uint16
+	Zone string
+}
+
+// readRelay reads a packet of type 9.
+func readRelay(packet []byte) (relay, error) {
+	var head relayHead
+	rest, err := readFirst(packet, relayType, &head)
+	to := head.DestAddr
+	if err == nil && (len(rest) == 0 || len(to.IP) != net.IPv4len && len(to.IP) != net.IPv6len) {
+		err = msgpack.ErrKind
 	}
-	return uint16(is)
+	if err != nil {
+		return relay{}, fmt.Errorf("a relay: %w", err)
+	}
+	return relay{to.IP, to.Port, head.DestName, rest}, nil
 }
 
 // short is an address in its shortest form.
-func short(addr net.IP) string {
+func short(addr net.IP) []byte {
 	if four := addr.To4(); four != nil {
-		return string(four)
+		return four
 	}
-	return string(addr)
+	return addr
 }
 
 // writeRelay makes a packet of type 9.
 func writeRelay(to relay) []byte {
-	e := &encoder{[]byte{relayType}}
-	e.mapping(2)
-	e.field("DestAddr").mapping(3)
-	e.field("IP").raw(short(to.addr))
-	e.field("Port").unsigned(uint64(to.port))
-	e.field("Zone").raw("")
-	e.field("DestName").raw(to.name)
-	return append(e.bytes, to.message...)
+	return append(written(relayHead{place{short(to.addr), to.port, ""}, to.name}, relayType), to.message...)
 }

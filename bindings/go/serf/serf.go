@@ -88,6 +88,8 @@ type Serf struct {
 	// it.
 	order   sync.Mutex
 	isEnded bool
+	// handing is what a call handed out, until it goes on together.
+	handing []Event
 	open    map[asking]*QueryResponse
 	firings *firings
 
@@ -129,6 +131,10 @@ type Serf struct {
 	kept   *kept
 	unkept atomic.Int64
 	grown  int
+
+	// nextTime is behind the times of all events that were handed out: order is held. lacking has something where some may be missed.
+	nextTime uint64
+	lacking  chan struct{}
 
 	// Names of events, and of queries, that are counted.
 	eventNames, queryNames *names
@@ -182,7 +188,7 @@ func create(c *Config, agent Agent, file *snapshotFile, keys *keyring, data []by
 	s := &Serf{
 		config: c, log: c.logger(), agent: agent, keys: keys, snapshot: file, previous: previous, began: time.Now(), ctx: ctx, stop: stop,
 		shutdown: make(chan struct{}), pipe: newPipe(), left: make(chan int, 1), open: map[asking]*QueryResponse{}, firings: newFirings(), packets: newQueue(),
-		states: newQueue(), due: make(chan struct{}, 1), internal: make(chan *serfagent.Handed, 64), conflicts: make(chan struct{}, 1),
+		states: newQueue(), due: make(chan struct{}, 1), internal: make(chan *serfagent.Handed, 64), conflicts: make(chan struct{}, 1), lacking: make(chan struct{}, 1),
 		joined: make(chan struct{}, 1), tags: c.Tags, data: data, asked: make(chan chan<- []byte), lines: newLines(), eventNames: namesOf("events"),
 		queryNames: namesOf("queries"),
 	}
@@ -225,6 +231,7 @@ func create(c *Config, agent Agent, file *snapshotFile, keys *keyring, data []by
 	// (these may wait for a node that doesn't answer, which the end doesn't wait for: they call the proved agent nowhere)
 	go s.reconnect()
 	go s.rejoin()
+	go s.catchUp()
 	return s, nil
 }
 
@@ -266,10 +273,10 @@ func (s *Serf) listen() error {
 	return nil
 }
 
-// out lets an event go on that was handed out. It doesn't wait.
-func (s *Serf) out(e Event) {
-	if s.config.EventCh != nil {
-		s.coalescer.add(e)
+// out lets events go on that were handed out. It doesn't wait.
+func (s *Serf) out(events ...Event) {
+	if s.config.EventCh != nil && len(events) > 0 {
+		s.coalescer.add(events...)
 	}
 }
 

@@ -22,9 +22,7 @@ func TestPingsWhileTheDiskIsSlow(t *testing.T) {
 	a.own().NotifyMsg([]byte("\x03\x80"))
 	eventually(t, "the agent flushes", f.isBusy)
 	where, err := net.ResolveUDPAddr("udp", a.address())
-	if err != nil {
-		t.Fatal(err)
-	}
+	must(t, err)
 	for i := 0; i < 3; i++ {
 		other.join(a)
 		if _, err := other.memberlist().Ping("a", where); err != nil {
@@ -129,9 +127,7 @@ func TestAMillionPacketsBehindAStuckReader(t *testing.T) {
 		if err := a.SetTags(map[string]string{"role": "web"}); err != nil || a.LocalMember().Tags["role"] != "web" || len(a.own().LocalState(false)) == 0 {
 			t.Error(err, a.LocalMember())
 		}
-		if err := a.Leave(); err != nil {
-			t.Error(err)
-		}
+		check(t, a.Leave())
 	})
 }
 
@@ -149,9 +145,7 @@ func TestAReaderThatCallsBack(t *testing.T) {
 			if e.Name != "first" {
 				return
 			}
-			if err = a.UserEvent("second", nil, false); err != nil {
-				t.Error(err)
-			}
+			check(t, a.UserEvent("second", nil, false))
 			if err = a.SetTags(map[string]string{"role": "web"}); err != nil || len(a.Members()) != 1 || a.Stats()["members"] != "1" {
 				t.Error(err, a.Members(), a.Stats())
 			}
@@ -161,19 +155,13 @@ func TestAReaderThatCallsBack(t *testing.T) {
 				t.Error(err)
 			}
 		case *Query:
-			if err := e.Respond([]byte("here")); err != nil {
-				t.Error(err)
-			}
+			check(t, e.Respond([]byte("here")))
 			if answer := <-asked.ResponseCh(); answer.From != "a" || string(answer.Payload) != "here" {
 				t.Error(answer)
 			}
 			// (what nobody takes meanwhile doesn't hold the end up)
-			if err := a.UserEvent("last", nil, false); err != nil {
-				t.Error(err)
-			}
-			if err := a.Shutdown(); err != nil {
-				t.Error(err)
-			}
+			check(t, a.UserEvent("last", nil, false))
+			check(t, a.Shutdown())
 			if asked.late.Stop() {
 				t.Error("a timer keeps the node in memory")
 			}
@@ -182,14 +170,8 @@ func TestAReaderThatCallsBack(t *testing.T) {
 	}
 	a = start(t, "a", "", withTap(reads))
 	close(made)
-	if err := a.UserEvent("first", nil, false); err != nil {
-		t.Fatal(err)
-	}
-	select {
-	case <-over:
-	case <-time.After(2 * time.Minute):
-		t.Fatal("the reader waits for itself")
-	}
+	must(t, a.UserEvent("first", nil, false))
+	soon(t, "what the reader does", func() { <-over })
 }
 
 // noting notes what an agent hands out, in its order.
@@ -270,9 +252,7 @@ func TestTheAgentsOrder(t *testing.T) {
 	for i := 0; i < callers; i++ {
 		go func() {
 			for j := 0; j < calls; j++ {
-				if err := a.UserEvent("own", nil, false); err != nil {
-					t.Error(err)
-				}
+				check(t, a.UserEvent("own", nil, false))
 				if _, err := a.Query("who", nil, &QueryParam{Timeout: time.Millisecond}); err != nil && err != ErrQueries {
 					t.Error(err)
 				}

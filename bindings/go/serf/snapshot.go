@@ -7,6 +7,8 @@ import (
 	"os"
 	"path/filepath"
 	"strings"
+
+	"kitchenrue.example/serfagent"
 )
 
 // snapshotLimit is how many bytes the file may have before it is worth a compaction: Serf's own number.
@@ -69,7 +71,7 @@ func openSnapshot(path string, isRejoining bool) (*snapshotFile, []PreviousNode,
 	if err := f.reopen(); err != nil {
 		return nil, nil, err
 	}
-	beside, err := readFile(f.beside(), maxBeside)
+	beside, err := serfagent.ReadFile(f.beside(), maxBeside)
 	if err == nil {
 		_ = readLines(bytes.NewReader(beside), alive.line)
 		err = f.restore(beside)
@@ -213,7 +215,7 @@ func (f *snapshotFile) shouldCompact(lines []string) bool {
 // file beside it meanwhile, so that a crash loses neither.
 func (f *snapshotFile) compact(lines []string, library func() error) error {
 	text := whole(lines)
-	if err := writeFile(f.beside(), text, 0o600); err != nil {
+	if err := serfagent.WriteFile(f.beside(), text, 0o600); err != nil {
 		return err
 	}
 	if err := library(); err != nil {

@@ -14,17 +14,13 @@ import (
 
 func write(t *testing.T, path, text string) {
 	t.Helper()
-	if err := os.WriteFile(path, []byte(text), 0o600); err != nil {
-		t.Fatal(err)
-	}
+	must(t, os.WriteFile(path, []byte(text), 0o600))
 }
 
 func read(t *testing.T, path string) string {
 	t.Helper()
 	data, err := os.ReadFile(path)
-	if err != nil {
-		t.Fatal(err)
-	}
+	must(t, err)
 	return string(data)
 }
 
@@ -45,9 +41,7 @@ func TestMembersOfATextAreFound(t *testing.T) {
 		{"alive: a 1:1\nalive: b 2:", false, "[b: 2: a: 1:1]"},
 	} {
 		alive := aliveOf{isRejoining: one.isRejoining, addrs: map[string]string{}}
-		if err := readLines(strings.NewReader(one.text), alive.line); err != nil {
-			t.Fatal(err)
-		}
+		must(t, readLines(strings.NewReader(one.text), alive.line))
 		if found := fmt.Sprint(alive.left()); found != one.want {
 			t.Errorf("%q: %s", one.text, found)
 		}
@@ -58,15 +52,11 @@ func TestCompaction(t *testing.T) {
 	path := filepath.Join(t.TempDir(), "file")
 	write(t, path, "alive: a 1:1\nevent-clock: 3\n")
 	f, _, err := openSnapshot(path, false)
-	if err != nil {
-		t.Fatal(err)
-	}
+	must(t, err)
 	defer f.close()
 	lines := []string{"alive: a 1:1\n", "alive: b 2:2\n"}
 	for !f.shouldCompact(lines) {
-		if err := f.append("alive: b 2:2\n", "not-alive: b\n"); err != nil {
-			t.Fatal(err)
-		}
+		must(t, f.append("alive: b 2:2\n", "not-alive: b\n"))
 	}
 	if size := len(read(t, path)); size < snapshotLimit || size > snapshotLimit+100 {
 		t.Error(size)
@@ -79,12 +69,8 @@ func TestCompaction(t *testing.T) {
 		write(t, path+".new", "event-clock: 3\n")
 		return os.Rename(path+".new", path)
 	}
-	if err := f.compact(lines, library); err != nil {
-		t.Fatal(err)
-	}
-	if err := f.append("not-alive: b\n"); err != nil {
-		t.Fatal(err)
-	}
+	must(t, f.compact(lines, library))
+	must(t, f.append("not-alive: b\n"))
 	if text := read(t, path); text != "event-clock: 3\nalive: a 1:1\nalive: b 2:2\nnot-alive: b\n" {
 		t.Errorf("%q", text)
 	}
@@ -99,9 +85,7 @@ func TestCompactionOfAFileThatKeepsEvents(t *testing.T) {
 	kept := "event-clock: 03\n" + strings.Repeat("#event 3 61 62\n", snapshotLimit/15)
 	write(t, path, kept+kept)
 	f, _, err := openSnapshot(path, false)
-	if err != nil {
-		t.Fatal(err)
-	}
+	must(t, err)
 	defer f.close()
 	lines := []string{"alive: a 1:1\n"}
 	if !f.knowsEvents || !f.shouldCompact(lines) {
@@ -111,17 +95,13 @@ func TestCompactionOfAFileThatKeepsEvents(t *testing.T) {
 		write(t, path+".new", kept)
 		return os.Rename(path+".new", path)
 	}
-	if err := f.compact(lines, library); err != nil {
-		t.Fatal(err)
-	}
+	must(t, f.compact(lines, library))
 	size, left := len(kept)+len(lines[0]), len(kept)+len(lines[0])
 	for ; size < 2*left; size += len(lines[0]) {
 		if f.shouldCompact(lines) {
 			t.Fatalf("%d bytes, and %d of them stay", size, left)
 		}
-		if err := f.append(lines...); err != nil {
-			t.Fatal(err)
-		}
+		must(t, f.append(lines...))
 	}
 	if !f.shouldCompact(lines) {
 		t.Errorf("%d bytes, and %d of them stay", size, left)
@@ -144,9 +124,7 @@ func TestCrashes(t *testing.T) {
 			write(t, path, left.file+"\n")
 		}
 		f, found, err := openSnapshot(path, false)
-		if err != nil {
-			t.Fatal(err)
-		}
+		must(t, err)
 		f.close()
 		if fmt.Sprint(found) != "[a: 1:1]" || !strings.Contains(read(t, path), "event-clock: 3\n") {
 			t.Errorf("%s: %v", name, found)
@@ -173,9 +151,7 @@ func TestFaults(t *testing.T) {
 	path := filepath.Join(folder, "file")
 	write(t, path, "")
 	f, _, err := openSnapshot(path, false)
-	if err != nil {
-		t.Fatal(err)
-	}
+	must(t, err)
 	defer f.close()
 	bad := []string{"alive: a\x00b 1:1\n", "alive: a 1:1\r\n", "alive: a\nevent-clock: 9 1:1\n", "alive: a 1:1", "", "\n\n"}
 	if err := f.append(bad...); err != nil || read(t, path) != "" {
@@ -217,9 +193,7 @@ func TestTextsThatSayWhichEventsAreOld(t *testing.T) {
 // The file beside goes when its lines are on the disk, and not before. (A pipe takes bytes, and no sync.)
 func TestLinesThatAreNotOnTheDisk(t *testing.T) {
 	reads, writes, err := os.Pipe()
-	if err != nil {
-		t.Fatal(err)
-	}
+	must(t, err)
 	defer reads.Close()
 	f := &snapshotFile{path: filepath.Join(t.TempDir(), "file"), file: writes}
 	defer f.close()
@@ -237,9 +211,7 @@ func TestAFileThatAnotherHas(t *testing.T) {
 	path := filepath.Join(t.TempDir(), "file")
 	for tries := 0; tries < 5; tries++ {
 		store, err := serfagent.OpenStore(path)
-		if err != nil {
-			t.Fatal(err)
-		}
+		must(t, err)
 		if _, err := openWhenFree("a", path, serfagent.DefaultSettings()); !errors.Is(err, serfagent.ErrLocked) {
 			t.Fatal(err)
 		}

@@ -20,27 +20,19 @@ func TestABurstOfMoreThanMemoryHas(t *testing.T) {
 		t.Skip("the library has memory")
 	}
 	other, err := serfagent.OpenInMemory("other", serfagent.DefaultSettings())
-	if err != nil {
-		t.Fatal(err)
-	}
+	must(t, err)
 	packets, want := [][]byte{[]byte("\x03\x80\x00")}, []string(nil)
 	for i := 0; i < 8; i++ {
 		want = append(want, fmt.Sprint("e", i))
 		_, packet, err := other.Fire([]byte(want[i]), nil, false)
-		if err != nil {
-			t.Fatal(err)
-		}
+		must(t, err)
 		packets = append(packets, packet)
 	}
-	asked, err := other.Query(1, 7, []byte("q"), nil, serfagent.QueryParams{Timeout: int64(time.Hour)})
-	if err != nil {
-		t.Fatal(err)
-	}
+	asked, err := other.Query(1, 7, []byte("q"), nil, serfagent.QueryParams{Timeout: time.Hour})
+	must(t, err)
 	packets[2], want = asked.Packet, append(want, "q")
 	state, err := other.LocalState(nil, nil)
-	if err != nil {
-		t.Fatal(err)
-	}
+	must(t, err)
 	said := &logged{}
 	a := start(t, "a", t.TempDir(), withLog(said))
 	for i := 0; i < 2; i++ {

@@ -1,9 +1,6 @@
 package serf
 
-import (
-	"fmt"
-	"sort"
-)
+import "fmt"
 
 // maxTags is how many bytes a node's tags may have.
 const maxTags = 512
@@ -16,20 +13,14 @@ const tagsMark = 0xff
 
 // writeTags makes the data of a node.
 func writeTags(tags map[string]string) ([]byte, error) {
-	keys := make([]string, 0, len(tags))
-	for key := range tags {
-		keys = append(keys, key)
+	if tags == nil {
+		tags = map[string]string{}
 	}
-	sort.Strings(keys)
-	e := &encoder{[]byte{tagsMark}}
-	e.mapping(len(tags))
-	for _, key := range keys {
-		e.field(key).raw(tags[key])
-	}
-	if len(e.bytes) > maxTags {
+	data := written(tags, tagsMark)
+	if len(data) > maxTags {
 		return nil, errTags
 	}
-	return e.bytes, nil
+	return data, nil
 }
 
 // ValidateTags says whether tags are too long for SetTags. Serf has no such function.
@@ -44,12 +35,7 @@ func readTags(data []byte) (map[string]string, error) {
 		return map[string]string{"role": string(data)}, nil
 	}
 	tags := map[string]string{}
-	d := &decoder{rest: data[1:]}
-	d.fields(func(key string) bool {
-		tags[key] = string(d.raw())
-		return true
-	})
-	if err := d.end(); err != nil {
+	if err := readWhole(data, tagsMark, &tags); err != nil {
 		return map[string]string{}, fmt.Errorf("tags: %w", err)
 	}
 	return tags, nil

@@ -4,6 +4,8 @@ import (
 	"strings"
 	"time"
 
+	"github.com/armon/go-metrics"
+
 	"kitchenrue.example/serfagent"
 )
 
@@ -11,6 +13,7 @@ import (
 func (s *Serf) take() {
 	second := time.NewTicker(time.Second)
 	defer second.Stop()
+	defer s.tellNames()
 	var told told
 	for {
 		var err error
@@ -34,6 +37,7 @@ func (s *Serf) take() {
 			err = s.closeDue()
 		case <-second.C:
 			s.tellDropped(&told)
+			s.tellNames()
 			s.states.again()
 			err = s.closeDue()
 		}
@@ -57,7 +61,7 @@ func (s *Serf) tellDropped(before *told) {
 		s.log.Printf("[WARN] serf: %d packets or states were dropped, since too many wait", now.dropped-before.dropped)
 	}
 	if now.far > before.far {
-		s.log.Printf("[WARN] serf: %d packets or states were dropped, since a time in them is from 2^63 on, which no honest clock reaches", now.far-before.far)
+		s.log.Printf("[WARN] serf: %d packets or states were dropped, since a time in them is farther than any honest clock", now.far-before.far)
 	}
 	if now.unkept > before.unkept {
 		s.log.Printf("[WARN] serf: %d packets or states were dropped, since the events that are kept have no more room than %d bytes", now.unkept-before.unkept, s.config.KeepEventsSize)
@@ -77,7 +81,7 @@ func (s *Serf) merge(state piece) error {
 	events, err := s.mergeEvents(state)
 	// (some may have entered before the memory was out)
 	s.hand(events...)
-	s.eventNames.tell()
+	s.handOver()
 	if err != nil {
 		s.log.Printf("[WARN] serf: a state was not taken: %v", err)
 		return err
@@ -174,22 +178,21 @@ func (s *Serf) takeBurst(packets [][]byte) error {
 // makeBurst makes a burst of packets and of the firings that wait, and hands out what comes of it. order is held.
 func (s *Serf) makeBurst(packets []Packet) ([]serfagent.Outcome, error) {
 	var firings []*firing
+	var given []Firing
 	if s.pipe.hasRoom() {
-		firings = s.firings.first(Burst)
+		firings, given = s.firings.first(Burst)
 	} else {
-		s.firings.refuse(s.firings.first(Waiting), ErrBusy)
+		refused, _ := s.firings.first(Waiting)
+		s.firings.refuse(refused, ErrBusy)
 	}
 	if len(packets)+len(firings) == 0 {
 		return nil, nil
 	}
-	fired := make([]Firing, len(firings))
-	for i, one := range firings {
-		fired[i] = one.Firing
-	}
 	began := time.Now()
-	outcomes, err := s.agent.TakeAll(s.now(), packets, fired)
-	lasted(began, "snapshot", "appendLine")
-	sample(len(packets)+len(firings), "burst")
+	outcomes, err := s.agent.TakeAll(s.now(), packets, given)
+	took := time.Since(began)
+	metrics.MeasureSince(appendKey, began)
+	sample(len(packets)+len(firings), burstKey)
 	for i, outcome := range outcomes {
 		if i < len(packets) && outcome.Received != nil {
 			s.hand(outcome.Received.Event)
@@ -197,19 +200,18 @@ func (s *Serf) makeBurst(packets []Packet) ([]serfagent.Outcome, error) {
 			s.counted(outcome.Received)
 		}
 	}
-	defer s.eventNames.tell()
-	defer s.queryNames.tell()
 	for i, one := range firings {
 		one.err = err
 		if at := len(packets) + i; at < len(outcomes) {
-			one.fired, one.err = outcomes[at].Fired, outcomes[at].Err
-		}
-		if one.fired != nil {
-			s.hand(one.fired.Event)
-			s.gossip(s.events, one.fired.Packet, nil)
+			one.err = outcomes[at].Err
+			if fired := outcomes[at].Fired; fired != nil {
+				one.time, one.packet = LamportTime(fired.Event.Time), fired.Packet
+				s.hand(fired.Event)
+			}
 		}
 	}
-	s.firings.done(firings)
+	s.handOver()
+	s.firings.done(firings, took)
 	return outcomes, err
 }
 
@@ -262,15 +264,24 @@ func (s *Serf) sendOn(packet []byte, received *serfagent.Received) {
 	}
 }
 
-// hand lets events go on that were handed out.
+// hand lets events go on that were handed out, together with those behind them, by handOver. order is held.
 func (s *Serf) hand(events ...*serfagent.Event) {
 	for _, one := range events {
 		if one != nil {
-			s.eventNames.count(string(one.Name))
 			s.noteKept(one)
-			s.out(UserEvent{LamportTime(one.Time), string(one.Name), one.Payload, one.Coalesce})
+			s.noteOrder(one.Time)
+			s.handing = append(s.handing, UserEvent{LamportTime(one.Time), s.eventNames.count(one.Name), one.Payload, one.Coalesce})
 		}
 	}
+}
+
+// handOver lets go what was handed out. order is held.
+func (s *Serf) handOver() {
+	s.out(s.handing...)
+	for i := range s.handing {
+		s.handing[i] = nil
+	}
+	s.handing = s.handing[:0]
 }
 
 // unanswered is how many queries may be answered, of those that were handed out last: as many as wait for EventCh at most, and as many
@@ -280,24 +291,26 @@ const unanswered = 2 * Waiting
 // InternalQueryPrefix begins the names of the queries of the agents among themselves, which never come on EventCh.
 const InternalQueryPrefix = "_serf_"
 
-// handQuery lets a query go on that was handed out.
+// forget lets the proved agent forget a query that won't be answered. It may be gone: it was answered, or its deadline is past.
+func (s *Serf) forget(number uint64) { _ = s.agent.Forget(number) }
+
+// handQuery is hand for a query.
 func (s *Serf) handQuery(query *serfagent.Handed) {
 	if query == nil {
 		return
 	}
 	if query.Number > unanswered {
-		// (the proved agent keeps a query until it is answered: the answer to this one is thrown away)
-		_, _ = s.agent.Respond(0, query.Number-unanswered, nil)
+		s.forget(query.Number - unanswered)
 	}
-	name := string(query.Name)
-	s.queryNames.count(name)
+	name := s.queryNames.count(query.Name)
 	if strings.HasPrefix(name, InternalQueryPrefix) {
 		select {
 		case s.internal <- query:
 		default:
 			s.log.Printf("[WARN] serf: the query %s was dropped, since too many wait", name)
+			s.forget(query.Number)
 		}
 		return
 	}
-	s.out(&Query{LTime: LamportTime(query.Time), Name: name, Payload: query.Payload, serf: s, handed: query})
+	s.handing = append(s.handing, &Query{LTime: LamportTime(query.Time), Name: name, Payload: query.Payload, serf: s, handed: query})
 }

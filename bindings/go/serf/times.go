@@ -1,5 +1,7 @@
 package serf
 
+import "kitchenrue.example/guard/msgpack"
+
 // times are the greatest times that a packet or a state says of each clock; 0 where it says none.
 type times struct{ member, event, query uint64 }
 
@@ -19,9 +21,9 @@ func (t times) latest() uint64 {
 func readTimes(packet []byte) (times, error) {
 	var found times
 	if len(packet) == 0 {
-		return found, errShort
+		return found, msgpack.ErrLong
 	}
-	d := &decoder{rest: packet[1:]}
+	d := decode(packet[1:])
 	switch packet[0] {
 	case leaveType, joinType:
 		d.timeInto(&found.member)
@@ -61,14 +63,14 @@ func (d *decoder) state(found *times) {
 		case "LTime":
 			d.latest(&found.member)
 		case "StatusLTimes":
-			for pairs := d.mapping(); pairs > 0 && d.err == nil; pairs-- {
+			for pairs := d.mapping(); pairs > 0 && d.Err == nil; pairs-- {
 				d.raw()
 				d.latest(&found.member)
 			}
 		case "EventLTime":
 			d.latest(&found.event)
 		case "Events":
-			for slots := d.array(); slots > 0 && d.err == nil; slots-- {
+			for slots := d.array(); slots > 0 && d.Err == nil; slots-- {
 				d.timeInto(&found.event)
 			}
 		case "QueryLTime":

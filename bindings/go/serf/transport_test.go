@@ -11,9 +11,7 @@ func TestWhatMemberlistIsSpared(t *testing.T) {
 	log := &logged{}
 	a := start(t, "a", "", withLog(log))
 	conn, err := net.Dial("udp", a.Memberlist().LocalNode().Address())
-	if err != nil {
-		t.Fatal(err)
-	}
+	must(t, err)
 	defer conn.Close()
 	// (an alive whose only field is a map of 2^32 - 1 fields)
 	if _, err := conn.Write([]byte("\x04\x81\xa1x\xdf\xff\xff\xff\xff")); err != nil {
@@ -23,23 +21,25 @@ func TestWhatMemberlistIsSpared(t *testing.T) {
 	eventually(t, "it is told", func() bool {
 		return strings.Contains(log.String(), "1 packets, streams or parts of them were refused; by reason since the start: malformed 1")
 	})
-	if err := a.UserEvent("x", nil, false); err != nil {
-		t.Error(err)
-	}
+	check(t, a.UserEvent("x", nil, false))
 }
 
-// A node takes no more members than its guard says.
+// A node takes no more members than its guard says. Those that failed count, also where memberlist has forgotten them.
 func TestABoundOfMembers(t *testing.T) {
-	a := start(t, "a", "", func(m *made) { m.Guard.Members = 2 })
-	b, c := start(t, "b", ""), start(t, "c", "")
-	if _, err := b.Join([]string{a.Memberlist().LocalNode().Address()}, false); err != nil {
-		t.Fatal(err)
-	}
-	eventually(t, "a knows b", func() bool { return a.status("b") == "alive" })
-	_, _ = c.Join([]string{a.Memberlist().LocalNode().Address()}, false)
-	eventually(t, "c is refused", func() bool { return a.Stats()["refused_full"] != "" })
-	if a.NumNodes() != 2 {
-		t.Error(a.Members())
+	for _, status := range []string{"alive", "failed"} {
+		a, c := start(t, "a", "", func(m *made) { m.Guard.Members = 2 }), start(t, "c", "")
+		if status == "alive" {
+			start(t, "b", "").join(a)
+		} else {
+			a.own().NotifyJoin(b())
+			a.own().NotifyLeave(b())
+		}
+		eventually(t, "a knows b", func() bool { return a.status("b") == status })
+		_, _ = c.Join([]string{a.address()}, false)
+		eventually(t, "c is refused", func() bool { return a.Stats()["refused_full"] != "" })
+		if a.NumNodes() != 2 {
+			t.Error(status, a.Members())
+		}
 	}
 }
 

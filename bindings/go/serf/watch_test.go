@@ -46,24 +46,14 @@ func TestAFileThatIsChangedFromOutside(t *testing.T) {
 		t.Run(what, func(t *testing.T) {
 			t.Parallel()
 			folder := filepath.Join(t.TempDir(), "in")
-			if err := os.Mkdir(folder, 0o700); err != nil {
-				t.Fatal(err)
-			}
+			must(t, os.Mkdir(folder, 0o700))
 			a := start(t, "a", folder, looking)
 			path := filepath.Join(folder, "a")
 			copied(t, path, path+".old")
-			if err := a.UserEvent("deploy", []byte("v1"), false); err != nil {
-				t.Fatal(err)
-			}
+			must(t, a.UserEvent("deploy", []byte("v1"), false))
 			eventually(t, "it is looked at", func() bool { return a.seen() == sizeOf(t, path) })
-			if err := test.does(path); err != nil {
-				t.Fatal(err)
-			}
-			select {
-			case <-a.ShutdownCh():
-			case <-time.After(time.Minute):
-				t.Fatal("it goes on")
-			}
+			must(t, test.does(path))
+			soon(t, "the end", func() { <-a.ShutdownCh() })
 			if err := a.Fault(); !errors.Is(err, ErrSnapshotChanged) || !strings.Contains(err.Error(), test.says) || !strings.Contains(err.Error(), path) {
 				t.Error(err)
 			}
@@ -84,9 +74,7 @@ func (o *one) seen() int64 {
 func sizeOf(t *testing.T, path string) int64 {
 	t.Helper()
 	about, err := os.Stat(path)
-	if err != nil {
-		t.Fatal(err)
-	}
+	must(t, err)
 	return about.Size()
 }
 
@@ -94,9 +82,7 @@ func sizeOf(t *testing.T, path string) int64 {
 func TestAFileThatIsTheNodesOwn(t *testing.T) {
 	folder := t.TempDir()
 	write(t, filepath.Join(folder, "real"), "")
-	if err := os.Symlink(filepath.Join(folder, "real"), filepath.Join(folder, "a")); err != nil {
-		t.Fatal(err)
-	}
+	must(t, os.Symlink(filepath.Join(folder, "real"), filepath.Join(folder, "a")))
 	for life := 0; life < 2; life++ {
 		a := start(t, "a", folder, looking, func(m *made) { m.KeepEvents, m.LogOutput = true, io.Discard })
 		for i := 0; i < 60; i++ {
@@ -107,17 +93,11 @@ func TestAFileThatIsTheNodesOwn(t *testing.T) {
 			if i%3 > 0 {
 				continue
 			}
-			if err := a.inOrder(func() error { return a.snapshot.compact(a.members.lines(), a.agent.Compact) }); err != nil {
-				t.Fatal(err)
-			}
+			must(t, a.inOrder(func() error { return a.snapshot.compact(a.members.lines(), a.agent.Compact) }))
 		}
 		time.Sleep(20 * time.Millisecond)
-		if err := a.Fault(); err != nil {
-			t.Fatal(err)
-		}
-		if err := a.Shutdown(); err != nil {
-			t.Fatal(err)
-		}
+		must(t, a.Fault())
+		must(t, a.Shutdown())
 	}
 }
 
@@ -125,9 +105,7 @@ func TestAFileThatIsTheNodesOwn(t *testing.T) {
 func TestAFileThatIsGoneAtTheEnd(t *testing.T) {
 	folder := t.TempDir()
 	a := start(t, "a", folder)
-	if err := os.Remove(filepath.Join(folder, "a")); err != nil {
-		t.Fatal(err)
-	}
+	must(t, os.Remove(filepath.Join(folder, "a")))
 	err := a.Shutdown()
 	if err == nil {
 		err = a.Fault()

@@ -33,16 +33,21 @@ type Agent struct {
 	staleFilters, staleMembers bool
 	// the calls of bursts whose outcomes nobody has read yet
 	unread []burstCall
+	// the place in its burst of the first of these
+	place int
 	// how often the file was flushed
 	flushes atomic.Uint64
 	// where texts are read to, before each gets a copy of its own
 	room []byte
+	// events that are fired together, and what the file lacks
+	many  manyFirings
+	lacks C.struct_serf_agent_bytes
 }
 
 // How many bytes are read at once: of an event's name, and of all that is read.
 const (
 	nameRoom = 128
-	allRoom  = 2048
+	allRoom  = 8192
 )
 
 var nothing [1]byte
@@ -63,7 +68,7 @@ type keeper interface {
 	Close() error
 }
 
-// Open opens the file, or makes it, and an agent of this name on its text.
+// Open opens the file, or makes it, and an agent of this name on its text. A setting that is out of its bounds is a SettingError.
 func Open(name, path string, settings Settings) (*Agent, error) {
 	store, err := OpenStore(path)
 	if err != nil {
@@ -108,6 +113,9 @@ func open(name string, store keeper, text []byte, settings Settings) (*Agent, er
 	named := []byte(name)
 	if err := agent.settled(C.serf_agent_open(agent.handle, ptr(named), size(named), &set, ptr(text), size(text))); err != nil {
 		agent.Close()
+		if err == BadConfig {
+			err = settings.refusal(name)
+		}
 		return nil, err
 	}
 	return agent, nil
@@ -130,13 +138,17 @@ func (a *Agent) free() {
 
 // settled brings what a call wrote to the file, also where the call was refused.
 func (a *Agent) settled(code C.uint32_t) error {
-	var about C.struct_serf_agent_bytes
-	if C.serf_agent_unwritten(a.handle, &about, ptr(nil), 0) != C.SERF_AGENT_OK || (about.len == 0 && !bool(about.replaces)) {
+	data := a.room
+	if C.serf_agent_unwritten(a.handle, &a.lacks, ptr(data), size(data)) != C.SERF_AGENT_OK || (a.lacks.len == 0 && !bool(a.lacks.replaces)) {
 		return refused(code)
 	}
-	data := make([]byte, about.len)
-	err := refused(C.serf_agent_unwritten(a.handle, &about, ptr(data), size(data)))
-	if err == nil && bool(about.replaces) {
+	var err error
+	if int(a.lacks.len) > len(data) {
+		data = make([]byte, a.lacks.len)
+		err = refused(C.serf_agent_unwritten(a.handle, &a.lacks, ptr(data), size(data)))
+	}
+	data = data[:a.lacks.len]
+	if err == nil && bool(a.lacks.replaces) {
 		err = a.store.Replace(data)
 	} else if err == nil {
 		err = a.store.Append(data)
@@ -449,6 +461,14 @@ func (a *Agent) Respond(now, number uint64, payload []byte) ([]byte, error) {
 		return nil, err
 	}
 	return a.packet(false)
+}
+
+// Forget forgets a query that was handed out and won't be answered: until it is answered or forgotten, or CloseDue finds its deadline
+// past, it takes memory.
+func (a *Agent) Forget(number uint64) error {
+	a.mu.Lock()
+	defer a.mu.Unlock()
+	return a.settled(C.serf_agent_forget_query(a.handle, C.uint64_t(number)))
 }
 
 // ObserveMember observes the time of a member's word or status: the member clock is later than it from then on.

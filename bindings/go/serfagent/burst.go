@@ -1,6 +1,54 @@
 package serfagent
 
-// #include "serf_agent.h"
+/*
+#include "serf_agent.h"
+
+// An event of many that are fired: how long its texts are, which stand behind those of the one before it. And what came of it: its
+// texts, as it is handed out, and its packet stand behind those of the one before it.
+struct firing {
+    uint64_t time;
+    size_t name_len, payload_len, packet_len;
+    uint32_t answered;
+    bool coalesce;
+};
+
+// How many were done, and what the call answered behind which no other was made.
+struct done {
+    size_t count;
+    uint32_t code;
+};
+
+static struct done fire_all(struct serf_agent *handle, struct firing *all, size_t count, const uint8_t *texts) {
+    for (size_t i = 0; i < count; i++) {
+        struct firing *one = &all[i];
+        uint32_t code = serf_agent_burst_fire(handle, texts, one->name_len, texts + one->name_len, one->payload_len, one->coalesce);
+        if (code == SERF_AGENT_OUT_OF_MEMORY || code == SERF_AGENT_EMPTY)
+            return (struct done){i, code};
+        texts += one->name_len + one->payload_len;
+    }
+    return (struct done){count, SERF_AGENT_OK};
+}
+
+static struct done read_all(struct serf_agent *handle, struct firing *all, size_t count, uint8_t *to, size_t packet_room) {
+    for (size_t i = 0; i < count; i++) {
+        struct firing *one = &all[i];
+        struct serf_agent_event about;
+        uint32_t code = serf_agent_next(handle, &one->answered);
+        if (code == SERF_AGENT_OK && one->answered == SERF_AGENT_OK) {
+            uint8_t *payload = to + one->name_len, *packet = payload + one->payload_len;
+            code = serf_agent_event(handle, 0, &about, to, one->name_len, payload, one->payload_len);
+            if (code == SERF_AGENT_OK)
+                code = serf_agent_packet(handle, &one->packet_len, packet, one->name_len + one->payload_len + packet_room);
+            one->time = about.time;
+            one->coalesce = about.coalesce;
+            to = packet + one->packet_len;
+        }
+        if (code != SERF_AGENT_OK)
+            return (struct done){i, code};
+    }
+    return (struct done){count, SERF_AGENT_OK};
+}
+*/
 import "C"
 
 import "errors"
@@ -14,8 +62,10 @@ type Burst struct {
 	calls []burstCall
 }
 
-// Outcome is what came of a call of a burst: one of the four is set. Err is why the call was refused, such as NoMessage.
+// Outcome is what came of a call of a burst: one of the last four is set. Err is why the call was refused, such as NoMessage.
 type Outcome struct {
+	// Call is the call's place in its burst, from 0 on.
+	Call     int
 	Received *Received
 	Fired    *Fired
 	Asked    *Asked
@@ -94,6 +144,7 @@ func (a *Agent) Burst(burst *Burst) ([]Outcome, error) {
 	if err := a.forgetFilters(); err != nil {
 		return nil, err
 	}
+	a.place = 0
 	fault := a.makeAll(burst.calls)
 	if err := a.settled(C.SERF_AGENT_OK); err != nil {
 		return nil, err
@@ -126,23 +177,114 @@ func (a *Agent) UnreadOutcomes() (int, error) {
 // makeAll makes calls up to the first that has no memory. Those that it makes wait to be read.
 func (a *Agent) makeAll(calls []burstCall) error {
 	a.staleFilters = false
-	for i := range calls {
-		code := a.makeOne(&calls[i])
-		if code == C.SERF_AGENT_OUT_OF_MEMORY || code == C.SERF_AGENT_EMPTY {
+	for at := 0; at < len(calls); {
+		var code C.uint32_t
+		if firings := firstFirings(calls[at:]); len(firings) > 0 {
+			done := a.fireAll(firings)
+			at, code = at+int(done.count), done.code
+		} else if code = a.makeOne(&calls[at]); code != C.SERF_AGENT_OUT_OF_MEMORY && code != C.SERF_AGENT_EMPTY {
+			at, code = at+1, C.SERF_AGENT_OK
+		}
+		if a.unread = calls[:at]; code != C.SERF_AGENT_OK {
 			return Code(code)
 		}
-		a.unread = calls[:i+1]
 	}
 	return nil
 }
 
-// makeOne makes a call of a burst.
+// firstFirings are the calls that stand first and are events to fire.
+func firstFirings(calls []burstCall) []burstCall {
+	for i := range calls {
+		if calls[i].kind != fires {
+			return calls[:i]
+		}
+	}
+	return calls
+}
+
+// manyFirings are events that are fired, and read, by one call of C: to go there takes longer than to fire.
+type manyFirings struct {
+	all   []C.struct_firing
+	texts []byte
+}
+
+// packetRoom is how much longer than its texts the packet of an event is at most.
+const packetRoom = 64
+
+// of takes events, and gives how long their texts are together.
+func (m *manyFirings) of(calls []burstCall) (length int) {
+	m.all = m.all[:0]
+	for i := range calls {
+		call := &calls[i]
+		m.all = append(m.all, C.struct_firing{name_len: size(call.name), payload_len: size(call.payload), coalesce: C.bool(call.coalesce)})
+		length += len(call.name) + len(call.payload)
+	}
+	return length
+}
+
+// fireAll fires events: how many, and why no more.
+func (a *Agent) fireAll(calls []burstCall) C.struct_done {
+	many := &a.many
+	many.of(calls)
+	many.texts = many.texts[:0]
+	for i := range calls {
+		many.texts = append(append(many.texts, calls[i].name...), calls[i].payload...)
+	}
+	return C.fire_all(a.handle, &many.all[0], C.size_t(len(calls)), ptr(many.texts))
+}
+
+// sharedRoom is how many bytes of texts and packets share a piece of memory at most: who keeps one event keeps as much.
+const sharedRoom = 1 << 10
+
+// readAll reads what came of events that were fired.
+func (a *Agent) readAll(calls []burstCall, found []Outcome) ([]Outcome, error) {
+	many := &a.many
+	if room := 2*many.of(calls) + packetRoom*len(calls); room > len(many.texts) {
+		many.texts = make([]byte, room)
+	}
+	done := C.read_all(a.handle, &many.all[0], C.size_t(len(calls)), ptr(many.texts), packetRoom)
+	a.unread, a.place = a.unread[done.count:], a.place+int(done.count)
+	rest, shared := many.texts, []byte(nil)
+	all := make([]struct {
+		Fired
+		Event
+	}, done.count)
+	for i := range all {
+		about, one, place := &many.all[i], &all[i], a.place-len(all)+i
+		if about.answered != C.SERF_AGENT_OK {
+			found = append(found, Outcome{Call: place, Err: Code(about.answered)})
+			continue
+		}
+		name, payload, whole := int(about.name_len), int(about.name_len+about.payload_len), int(about.name_len+about.payload_len+about.packet_len)
+		if cap(shared)-len(shared) < whole {
+			shared = make([]byte, 0, roomFor(whole, len(all)-i))
+		}
+		from := len(shared)
+		shared = append(shared, rest[:whole]...)
+		own := shared[from:]
+		rest = rest[whole:]
+		one.Event = Event{uint64(about.time), own[:name:name], own[name:payload:payload], bool(about.coalesce)}
+		one.Fired = Fired{&one.Event, own[payload:whole:whole]}
+		found = append(found, Outcome{Call: place, Fired: &one.Fired})
+	}
+	return found, refused(done.code)
+}
+
+// roomFor is how much memory is taken for so many events, of which the first is so long.
+func roomFor(length, events int) int {
+	if length*events < sharedRoom {
+		return length * events
+	}
+	if length < sharedRoom {
+		return sharedRoom
+	}
+	return length
+}
+
+// makeOne makes a call of a burst that is no firing.
 func (a *Agent) makeOne(call *burstCall) C.uint32_t {
-	switch call.kind {
-	case receives:
+	if call.kind == receives {
 		return C.serf_agent_burst_receive_tagged(a.handle, C.uint64_t(call.now), ptr(call.packet), size(call.packet), C.bool(call.tagsPass))
-	case fires:
-		return C.serf_agent_burst_fire(a.handle, ptr(call.name), size(call.name), ptr(call.payload), size(call.payload), C.bool(call.coalesce))
 	}
 	for _, filter := range call.params.Filters {
 		a.staleFilters = true
@@ -158,40 +300,37 @@ func (a *Agent) makeOne(call *burstCall) C.uint32_t {
 }
 
 // outcomes reads the outcomes that wait.
-func (a *Agent) outcomes() ([]Outcome, error) {
-	found := make([]Outcome, 0, len(a.unread))
-	for len(a.unread) > 0 {
-		var answered C.uint32_t
-		if err := refused(C.serf_agent_next(a.handle, &answered)); err != nil {
-			return found, err
+func (a *Agent) outcomes() (found []Outcome, err error) {
+	found = make([]Outcome, 0, len(a.unread))
+	for len(a.unread) > 0 && err == nil {
+		if firings := firstFirings(a.unread); len(firings) > 0 {
+			found, err = a.readAll(firings, found)
+		} else {
+			found, err = a.readOne(&a.unread[0], found)
 		}
-		call := &a.unread[0]
-		a.unread = a.unread[1:]
-		outcome, err := a.outcome(call, refused(answered))
-		if err != nil {
-			return found, err
-		}
-		found = append(found, outcome)
 	}
-	a.unread = nil
-	return found, nil
+	if err == nil {
+		a.unread = nil
+	}
+	return found, err
 }
 
-// outcome reads what came of a call.
-func (a *Agent) outcome(call *burstCall, fault error) (Outcome, error) {
-	outcome := Outcome{Err: fault}
-	if fault != nil {
-		return outcome, nil
+// readOne reads what came of a call that is no firing.
+func (a *Agent) readOne(call *burstCall, found []Outcome) ([]Outcome, error) {
+	var answered C.uint32_t
+	if err := refused(C.serf_agent_next(a.handle, &answered)); err != nil {
+		return found, err
 	}
+	outcome := Outcome{Call: a.place, Err: refused(answered)}
+	a.unread, a.place = a.unread[1:], a.place+1
 	var err error
-	switch call.kind {
-	case receives:
+	if outcome.Err == nil && call.kind == receives {
 		outcome.Received, err = a.received(call.packet)
-	case fires:
-		outcome.Fired = &Fired{}
-		outcome.Fired.Event, outcome.Fired.Packet, err = a.fired()
-	case asks:
+	} else if outcome.Err == nil {
 		outcome.Asked, err = a.asked()
 	}
-	return outcome, err
+	if err != nil {
+		return found, err
+	}
+	return append(found, outcome), nil
 }

@@ -17,9 +17,7 @@ func (f *failing) Append([]byte) error { return f.fault }
 func TestABurstWhoseFileFails(t *testing.T) {
 	file := &failing{}
 	agent, err := open("one", file, nil, DefaultSettings())
-	if err != nil {
-		t.Fatal(err)
-	}
+	must(t, err)
 	defer agent.Close()
 	var burst Burst
 	burst.Fire([]byte("x"), nil, false)
@@ -38,19 +36,28 @@ func TestABurstWhoseFileFails(t *testing.T) {
 // No burst is made while outcomes of another one wait to be read.
 func TestABurstBehindOneThatNobodyRead(t *testing.T) {
 	agent, err := OpenInMemory("one", DefaultSettings())
-	if err != nil {
-		t.Fatal(err)
-	}
+	must(t, err)
 	defer agent.Close()
 	var burst Burst
 	burst.Fire([]byte("x"), nil, false)
+	burst.Receive(1, nil)
 	if fault := agent.makeAll(burst.calls); fault != nil || agent.settled(0) != nil {
 		t.Fatal(fault)
 	}
 	if outcomes, err := agent.Burst(&burst); err != ErrUnread || len(outcomes) != 0 {
 		t.Error(outcomes, err)
 	}
-	if outcomes, err := agent.Outcomes(); err != nil || len(outcomes) != 1 || outcomes[0].Fired.Event.Time != 1 {
+	// (as if memory had been wanting behind the first)
+	first, err := agent.readAll(agent.unread[:1], nil)
+	if err != nil || len(first) != 1 || first[0].Call != 0 || first[0].Fired.Event.Time != 1 {
+		t.Error(first, err)
+	}
+	if outcomes, err := agent.Outcomes(); err != nil || len(outcomes) != 1 || outcomes[0].Call != 1 || outcomes[0].Err != NoMessage {
 		t.Error(outcomes, err)
+	}
+	for i := 0; i < 2; i++ {
+		if outcomes, err := agent.Burst(&burst); err != nil || len(outcomes) != 2 || outcomes[0].Call != 0 || outcomes[1].Call != 1 {
+			t.Error(outcomes, err)
+		}
 	}
 }

@@ -7,21 +7,32 @@ import (
 	"testing"
 )
 
-func opened(t *testing.T, name string) (*Agent, string) {
-	path := filepath.Join(t.TempDir(), name+".snapshot")
-	agent, err := Open(name, path, DefaultSettings())
+// must ends a test at a fault, and check goes on behind it.
+func must(t *testing.T, err error) {
+	t.Helper()
 	if err != nil {
 		t.Fatal(err)
 	}
+}
+
+func check(t *testing.T, err error) {
+	t.Helper()
+	if err != nil {
+		t.Error(err)
+	}
+}
+
+func opened(t *testing.T, name string) (*Agent, string) {
+	path := filepath.Join(t.TempDir(), name+".snapshot")
+	agent, err := Open(name, path, DefaultSettings())
+	must(t, err)
 	t.Cleanup(func() { agent.Close() })
 	return agent, path
 }
 
 func textOf(t *testing.T, path string) string {
 	text, err := os.ReadFile(path)
-	if err != nil {
-		t.Fatal(err)
-	}
+	must(t, err)
 	return string(text)
 }
 
@@ -29,9 +40,7 @@ func TestABurstIsItsCallsInOrder(t *testing.T) {
 	one, _ := opened(t, "one")
 	other, path := opened(t, "other")
 	_, packet, err := one.Fire([]byte("deploy"), nil, false)
-	if err != nil {
-		t.Fatal(err)
-	}
+	must(t, err)
 	var burst Burst
 	burst.Receive(1, packet)
 	burst.Receive(1, packet[:len(packet)-1])
@@ -59,6 +68,11 @@ func TestABurstIsItsCallsInOrder(t *testing.T) {
 	if received := outcomes[3].Received; received.Kind != Ignored || received.Reason != Seen {
 		t.Error(received)
 	}
+	for i, one := range outcomes {
+		if one.Call != i {
+			t.Error(i, one.Call)
+		}
+	}
 	if text := textOf(t, path); text != "event-clock: 1\nevent-clock: 2\n" {
 		t.Errorf("%q", text)
 	}
@@ -69,9 +83,7 @@ func TestTextsOfEveryLength(t *testing.T) {
 	settings := DefaultSettings()
 	settings.EventLimit = 9216
 	agent, err := Open("long", filepath.Join(t.TempDir(), "snapshot"), settings)
-	if err != nil {
-		t.Fatal(err)
-	}
+	must(t, err)
 	defer agent.Close()
 	other, _ := opened(t, "other")
 	for _, lengths := range [][2]int{

@@ -62,7 +62,7 @@ func (a *Agent) closed(index C.size_t) (*Closed, error) {
 }
 
 // CloseDue closes this agent's queries whose deadline is before now: each with its answers, in the order in which they were
-// fired.
+// fired. Queries that were handed out here, and whose deadline is before now, are forgotten.
 func (a *Agent) CloseDue(now uint64) ([]*Closed, error) {
 	a.mu.Lock()
 	defer a.mu.Unlock()

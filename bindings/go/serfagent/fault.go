@@ -24,6 +24,13 @@ const (
 	FaultGreatestTime FaultKind = C.SERF_AGENT_FAULT_GREATEST_TIME
 )
 
+var faults = []string{
+	"None", "Empty", "UnknownType", "Truncated", "Unsupported", "TooDeep", "Trailing", "NotAMap", "BadKey", "Twice", "WrongKind", "OutOfRange", "GreatestTime",
+}
+
+// String is the fault's word in a trace (docs/SPEC.md).
+func (f FaultKind) String() string { return word(faults, "Fault", uint32(f)) }
+
 // PacketFault is why a packet is no message: its first fault.
 type PacketFault struct {
 	Kind FaultKind

@@ -1,6 +1,7 @@
 package serfagent
 
 import (
+	"fmt"
 	"strings"
 	"testing"
 )
@@ -55,5 +56,23 @@ func TestMessages(t *testing.T) {
 		if found, has := PacketFaultOf([]byte(packet)); has {
 			t.Errorf("%x: %v", packet, found)
 		}
+	}
+}
+
+// Each kind, reason and fault has its word, and a number that is none of them is told.
+func TestWordsOfNumbers(t *testing.T) {
+	for want, one := range map[string]fmt.Stringer{
+		"NewEvent": NewEvent, "NewQuery": NewQuery, "Ack": Ack, "Response": Response, "Ignored": Ignored, "Foreign": Foreign, "PushPull": PushPull, "Kind 8": Kind(8),
+		"None": Reason(0), "Oversize": Oversize, "BelowMinimum": BelowMinimum, "TooOld": TooOld, "Seen": Seen, "TimeFull": TimeFull, "NotOpen": NotOpen, "OtherId": OtherID,
+		"Closed": AfterDeadline, "AckNotAsked": AckNotAsked, "AckTwice": AckTwice, "ResponseTwice": ResponseTwice, "Reason 12": Reason(12),
+		"Empty": FaultEmpty, "UnknownType": FaultUnknownType, "Truncated": FaultTruncated, "Unsupported": FaultUnsupported, "TooDeep": FaultTooDeep, "Trailing": FaultTrailing,
+		"NotAMap": FaultNotAMap, "BadKey": FaultBadKey, "Twice": FaultTwice, "WrongKind": FaultWrongKind, "OutOfRange": FaultOutOfRange, "GreatestTime": FaultGreatestTime, "Fault 13": FaultKind(13),
+	} {
+		if one.String() != want {
+			t.Errorf("%q: %q", want, one)
+		}
+	}
+	if said := fmt.Sprint(Received{Kind: Ignored, Reason: TimeFull}); !strings.HasPrefix(said, "{Ignored TimeFull ") {
+		t.Error(said)
 	}
 }

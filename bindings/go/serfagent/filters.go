@@ -3,8 +3,40 @@ package serfagent
 // #include "serf_agent.h"
 import "C"
 
+import "encoding/binary"
+
 // TagFilter is the first byte of a filter that asks for a tag. The agent knows no tags: see Agent.ReceiveTagged.
 const TagFilter = 1
+
+// FilterByNames is a filter that the nodes of these names pass, for QueryParams.
+func FilterByNames(names ...string) []byte {
+	filter := sized([]byte{0}, 0x90, 16, 0xdc, len(names))
+	for _, name := range names {
+		filter = append(sized(filter, 0xa0, 32, 0xda, len(name)), name...)
+	}
+	return filter
+}
+
+// FilterByTag is a filter that a node passes whose tag matches the expression somewhere, for QueryParams. Serf reads the
+// expression by the package regexp.
+func FilterByTag(tag, expression string) []byte {
+	filter := []byte{TagFilter, 0x82}
+	for _, text := range []string{"Expr", expression, "Tag", tag} {
+		filter = append(sized(filter, 0xa0, 32, 0xda, len(text)), text...)
+	}
+	return filter
+}
+
+// sized begins a value of MessagePack that has so many within, in its short form or a wide one.
+func sized(to []byte, short byte, shortest int, wide byte, count int) []byte {
+	switch {
+	case count < shortest:
+		return append(to, short|byte(count))
+	case count <= 0xffff:
+		return binary.BigEndian.AppendUint16(append(to, wide), uint16(count))
+	}
+	return binary.BigEndian.AppendUint32(append(to, wide+1), uint32(count))
+}
 
 // FiltersOf are the filters that a query's packet has, in its order; nil where the packet is no query. It needs no agent.
 func FiltersOf(packet []byte) ([][]byte, error) {

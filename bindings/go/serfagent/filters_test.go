@@ -2,6 +2,7 @@ package serfagent
 
 import (
 	"reflect"
+	"strings"
 	"testing"
 )
 
@@ -24,9 +25,7 @@ func TestWhatTheHostSaysOfTags(t *testing.T) {
 		}
 		packet := func() []byte {
 			asked, err := asks.Query(1, 7, []byte("who"), nil, QueryParams{Timeout: 1000, Filters: filters})
-			if err != nil {
-				t.Fatal(err)
-			}
+			must(t, err)
 			return asked.Packet
 		}
 		for i, passes := range []bool{false, true} {
@@ -64,6 +63,20 @@ func TestWhatTheHostSaysOfTags(t *testing.T) {
 	for _, packet := range []string{"", "\x04", "\x03\x80"} {
 		if found, err := FiltersOf([]byte(packet)); found != nil || err != nil {
 			t.Errorf("%x: %q %v", packet, found, err)
+		}
+	}
+}
+
+// Filters that are made are those that Serf writes, at each length of a list and of a text.
+func TestFiltersThatAreMade(t *testing.T) {
+	long, longer := strings.Repeat("x", 32), strings.Repeat("y", 65536)
+	for want, made := range map[string][]byte{
+		"\x00\x90": FilterByNames(), "\x00\x91\xa4test": FilterByNames("test"), "\x00\x92\xda\x00\x20" + long + "\xdb\x00\x01\x00\x00" + longer: FilterByNames(long, longer),
+		"\x00\xdc\x00\x10" + strings.Repeat("\xa1b", 16): FilterByNames(strings.Split(strings.Repeat("b", 16), "")...),
+		"\x01\x82\xa4Expr\xa0\xa3Tag\xa1a":               FilterByTag("a", ""), "\x01\x82\xa4Expr\xda\x00\x20" + long + "\xa3Tag\xa4role": FilterByTag("role", long),
+	} {
+		if string(made) != want {
+			t.Errorf("%.40q: %.40q", want, made)
 		}
 	}
 }

@@ -62,15 +62,11 @@ func TestNoIntents(t *testing.T) {
 
 func TestMembers(t *testing.T) {
 	agent, err := Open("a", t.TempDir()+"/snapshot", DefaultSettings())
-	if err != nil {
-		t.Fatal(err)
-	}
+	must(t, err)
 	defer agent.Close()
 	statuses, left := []Status{{"b", 7}, {"", 0}, {"b", 9}}, []string{"gone", ""}
 	packet, err := agent.LocalState(statuses, left)
-	if err != nil {
-		t.Fatal(err)
-	}
+	must(t, err)
 	wanted := &Members{1, statuses, left}
 	if found, err := MembersOf(packet); err != nil || !reflect.DeepEqual(found, wanted) {
 		t.Errorf("%v %v", found, err)
@@ -87,9 +83,7 @@ func TestMembers(t *testing.T) {
 
 func TestTimeOfAQuery(t *testing.T) {
 	agent, err := Open("a", t.TempDir()+"/snapshot", DefaultSettings())
-	if err != nil {
-		t.Fatal(err)
-	}
+	must(t, err)
 	defer agent.Close()
 	for time := uint64(1); time < 4; time++ {
 		asked, err := agent.Query(0, 7, []byte("load"), nil, QueryParams{Timeout: 1000})
@@ -103,16 +97,12 @@ func TestMemberTimes(t *testing.T) {
 	path := t.TempDir() + "/snapshot"
 	for life, wanted := range []uint64{1, 9} {
 		agent, err := Open("a", path, DefaultSettings())
-		if err != nil {
-			t.Fatal(err)
-		}
+		must(t, err)
 		for _, time := range []uint64{wanted, wanted + 7} {
 			if found, err := agent.NextMemberTime(); err != nil || found != time {
 				t.Errorf("life %d: %d %v", life, found, err)
 			}
-			if err := agent.ObserveMember(wanted + 6); err != nil {
-				t.Error(err)
-			}
+			check(t, agent.ObserveMember(wanted+6))
 		}
 		if err := agent.ObserveMember(^uint64(0)); err != Exhausted {
 			t.Error(err)

@@ -13,9 +13,7 @@ func eventsOfAnother(t *testing.T) [10][]byte {
 	other, _ := opened(t, "other")
 	for time := 1; time < len(packets); time++ {
 		_, packet, err := other.Fire([]byte(fmt.Sprint("e", time)), nil, false)
-		if err != nil {
-			t.Fatal(err)
-		}
+		must(t, err)
 		packets[time] = packet
 	}
 	return packets
@@ -26,9 +24,7 @@ func openKeeping(t *testing.T, path string, keeps bool) *Agent {
 	settings := DefaultSettings()
 	settings.EventBuffer, settings.QueryBuffer, settings.KeepEvents = 8, 8, keeps
 	agent, err := Open("keeps", path, settings)
-	if err != nil {
-		t.Fatal(err)
-	}
+	must(t, err)
 	return agent
 }
 
@@ -39,9 +35,7 @@ func life(t *testing.T, path string, keeps bool, packets [10][]byte, times ...in
 	defer agent.Close()
 	for i, time := range times {
 		received, err := agent.Receive(1, packets[time])
-		if err != nil {
-			t.Fatal(err)
-		}
+		must(t, err)
 		what := map[Reason]string{0: "new", Seen: "seen", BelowMinimum: "below"}[received.Reason]
 		if what == "new" && (received.Event == nil || received.Event.Time != uint64(time)) {
 			t.Error(time, received)
@@ -92,9 +86,7 @@ func TestARestartWithoutTheSetting(t *testing.T) {
 func TestATornLine(t *testing.T) {
 	packets, path := eventsOfAnother(t), filepath.Join(t.TempDir(), "file")
 	text := "event-clock: 03\n#event 3 6533 \nevent-clock: 05\n#event 5 65"
-	if err := os.WriteFile(path, []byte(text), 0600); err != nil {
-		t.Fatal(err)
-	}
+	must(t, os.WriteFile(path, []byte(text), 0600))
 	if found := life(t, path, true, packets, 3, 5, 4); found != "3 seen, 5 new, 4 new" {
 		t.Error(found)
 	}
@@ -124,9 +116,7 @@ func TestACompactionKeepsEvents(t *testing.T) {
 	packets, path := eventsOfAnother(t), filepath.Join(t.TempDir(), "file")
 	life(t, path, true, packets, 3, 1)
 	agent := openKeeping(t, path, true)
-	if err := agent.Compact(); err != nil {
-		t.Fatal(err)
-	}
+	must(t, agent.Compact())
 	agent.Close()
 	if text := textOf(t, path); text != "#least event-clock: 1\n#event 1 6531 \n#event 3 6533 \n#least query-clock: 1\nevent-clock: 03\n" {
 		t.Errorf("%q", text)

@@ -1,9 +1,11 @@
 package serfagent
 
 import (
-	"fmt"
+	"errors"
 	"math"
 	"path/filepath"
+	"reflect"
+	"strings"
 	"testing"
 	"time"
 )
@@ -46,7 +48,7 @@ func TestLimitsOfQueriesAndResponses(t *testing.T) {
 		}
 		var asked *Asked
 		query := longest(t, one.wantQuery+1, func(payload []byte) (packet []byte, err error) {
-			if asked, err = agent.Query(1, 7, []byte("q"), payload, QueryParams{Timeout: int64(time.Hour)}); err == nil {
+			if asked, err = agent.Query(1, 7, []byte("q"), payload, QueryParams{Timeout: time.Hour}); err == nil {
 				packet = asked.Packet
 			}
 			return packet, err
@@ -63,12 +65,40 @@ func TestLimitsOfQueriesAndResponses(t *testing.T) {
 	}
 }
 
-func TestLimitsThatAreTooLarge(t *testing.T) {
-	for _, limit := range []uint64{9217, math.MaxUint64} {
-		for _, one := range [][2]uint64{{limit, 1024}, {1024, limit}} {
-			if _, err := openLimited(t, one[0], one[1]); err != BadConfig {
-				t.Error(fmt.Sprint(one), err)
+// A setting that is out of its bounds is named, the first one where there are more; each bound itself is taken.
+func TestSettingsOutOfBounds(t *testing.T) {
+	set := func(of string, to uint64) (name string, settings Settings) {
+		settings = DefaultSettings()
+		if of == "name" {
+			return strings.Repeat("n", int(to)), settings
+		}
+		reflect.ValueOf(&settings).Elem().FieldByName(of).SetUint(to)
+		return "one", settings
+	}
+	for _, one := range []SettingError{
+		{"name", 0, 1, 128}, {"EventBuffer", 0, 1, 65536}, {"QueryBuffer", 0, 1, 65536}, {"EventLimit", 9217, 0, 9216}, {"QueryLimit", 9217, 0, 9216},
+		{"ResponseLimit", math.MaxUint64, 0, 9216}, {"Responders", 0, 1, 65536}, {"PerTime", 0, 1, 65536},
+	} {
+		for _, is := range []uint64{one.Is, one.Greatest + 1} {
+			wanted, found := SettingError{one.Field, is, one.Least, one.Greatest}, &SettingError{}
+			name, settings := set(one.Field, is)
+			if _, err := OpenInMemory(name, settings); !errors.Is(err, BadConfig) || !errors.As(err, &found) || *found != wanted {
+				t.Error(wanted, err)
 			}
 		}
+		for _, is := range []uint64{one.Least, one.Greatest} {
+			name, settings := set(one.Field, is)
+			agent, err := OpenInMemory(name, settings)
+			if err != nil {
+				t.Fatal(one.Field, is, err)
+			}
+			agent.Close()
+		}
+	}
+	if _, err := OpenInMemory("one", Settings{KeepEvents: true}); err == nil || err.Error() != "EventBuffer is 0, and has to be from 1 to 65536" {
+		t.Error(err)
+	}
+	if _, err := OpenInMemory("", Settings{}); err == nil || err.Error() != "the name has 0 bytes, and has to have 1 to 128" {
+		t.Error(err)
 	}
 }

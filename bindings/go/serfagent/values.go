@@ -3,6 +3,11 @@ package serfagent
 // #include "serf_agent.h"
 import "C"
 
+import (
+	"fmt"
+	"time"
+)
+
 // Settings of an agent; DefaultSettings has Serf's.
 type Settings struct {
 	// How many times of events, and of queries, are kept: 1 to 65,536.
@@ -25,6 +30,36 @@ func DefaultSettings() Settings {
 	return Settings{
 		EventBuffer: 512, QueryBuffer: 512, EventLimit: 512, QueryLimit: 1024, ResponseLimit: 1024, Responders: 1024, PerTime: 1024,
 	}
+}
+
+// SettingError says which setting was refused, by the name of its field, or that the node's name was. It is a BadConfig.
+type SettingError struct {
+	Field               string
+	Is, Least, Greatest uint64
+}
+
+func (e *SettingError) Error() string {
+	if e.Field == "name" {
+		return fmt.Sprintf("the name has %d bytes, and has to have %d to %d", e.Is, e.Least, e.Greatest)
+	}
+	return fmt.Sprintf("%s is %d, and has to be from %d to %d", e.Field, e.Is, e.Least, e.Greatest)
+}
+
+func (e *SettingError) Unwrap() error { return BadConfig }
+
+// refusal says which setting the library has refused: the first one that is out of the bounds that the header has.
+func (s *Settings) refusal(name string) error {
+	const most, longest = 1 << 16, 9216
+	for _, one := range []SettingError{
+		{"name", uint64(len(name)), 1, 128}, {"EventBuffer", s.EventBuffer, 1, most}, {"QueryBuffer", s.QueryBuffer, 1, most},
+		{"EventLimit", s.EventLimit, 0, longest}, {"QueryLimit", s.QueryLimit, 0, longest}, {"ResponseLimit", s.ResponseLimit, 0, longest},
+		{"Responders", s.Responders, 1, most}, {"PerTime", s.PerTime, 1, most},
+	} {
+		if one := one; one.Is < one.Least || one.Is > one.Greatest {
+			return &one
+		}
+	}
+	return BadConfig
 }
 
 // Event is handed out: run its handler.
@@ -61,15 +96,42 @@ const (
 	PushPull Kind = C.SERF_AGENT_GAVE_PUSH_PULL
 )
 
+var kinds = []string{"Nothing", "NewEvent", "NewQuery", "Ack", "Response", "Ignored", "Foreign", "PushPull"}
+
+func (k Kind) String() string { return word(kinds, "Kind", uint32(k)) }
+
+// word is that of a number, or the number where there is none.
+func word(words []string, of string, number uint32) string {
+	if int(number) < len(words) {
+		return words[number]
+	}
+	return fmt.Sprintf("%s %d", of, number)
+}
+
 // Reason says why a packet was ignored.
 type Reason uint32
 
-// The reasons that an example asks for; include/serf_agent.h has them all.
+// Why a packet can be ignored. Of one that wasn't, the reason is 0.
 const (
-	BelowMinimum Reason = C.SERF_AGENT_BELOW_MINIMUM
-	TooOld       Reason = C.SERF_AGENT_TOO_OLD
-	Seen         Reason = C.SERF_AGENT_SEEN
+	Oversize      Reason = C.SERF_AGENT_OVERSIZE
+	BelowMinimum  Reason = C.SERF_AGENT_BELOW_MINIMUM
+	TooOld        Reason = C.SERF_AGENT_TOO_OLD
+	Seen          Reason = C.SERF_AGENT_SEEN
+	TimeFull      Reason = C.SERF_AGENT_TIME_FULL
+	NotOpen       Reason = C.SERF_AGENT_NOT_OPEN
+	OtherID       Reason = C.SERF_AGENT_OTHER_ID
+	AfterDeadline Reason = C.SERF_AGENT_CLOSED
+	AckNotAsked   Reason = C.SERF_AGENT_ACK_NOT_ASKED
+	AckTwice      Reason = C.SERF_AGENT_ACK_TWICE
+	ResponseTwice Reason = C.SERF_AGENT_RESPONSE_TWICE
 )
+
+var reasons = []string{
+	"None", "Oversize", "BelowMinimum", "TooOld", "Seen", "TimeFull", "NotOpen", "OtherId", "Closed", "AckNotAsked", "AckTwice", "ResponseTwice",
+}
+
+// String is the reason's word in a trace (docs/SPEC.md).
+func (r Reason) String() string { return word(reasons, "Reason", uint32(r)) }
 
 // Answer is an answer that was counted, of the query of this time and ID: who sent it, and what a response says.
 type Answer struct {
@@ -90,9 +152,9 @@ type Received struct {
 	Foreign     uint8
 }
 
-// QueryParams say how a query is fired. Timeout is in nanoseconds; Addr and Port are where answers are to be sent.
+// QueryParams say how a query is fired. Timeout is how long answers are taken; Addr and Port are where they are to be sent.
 type QueryParams struct {
-	Timeout              int64
+	Timeout              time.Duration
 	Addr                 []byte
 	Port                 uint16
 	RelayFactor          uint8

@@ -1,11 +1,11 @@
-"""The proved Serf agent, by ctypes: ``Agent`` over a snapshot's file. docs/EMBEDDING.md says what to call when."""
+"""The proved Serf agent, by ctypes: ``Agent`` over a snapshot's file. docs/HOST.md says what to call when."""
 
 from .agent import Agent, Answer, Asked, Clocks, Closed, Event, Fired, Forked, Handed, Received
 from .burst import Burst
 from .fault import PacketFault, packet_fault
-from .filters import query_filters, TAG_FILTER
+from .filters import node_filter, query_filters, TAG_FILTER, tag_filter
 from .intents import intent, intent_fault, Join, Leave
-from .library import AgentError, Code, DEFAULT_SNAPSHOT_LIMIT, Fault, Kind, Library, NotLoaded, Reason
+from .library import AgentError, Code, DEFAULT_QUERY_TIMEOUT, DEFAULT_SNAPSHOT_LIMIT, Fault, Kind, Library, NotLoaded, Reason
 from .members import Members, state_members
 from .settings import Settings
 from .store import Broken, Full, Locked, MissingFolder, NotAFile, ReadOnly, Store, StoreError
@@ -22,6 +22,7 @@ __all__ = [
     "Clocks",
     "Closed",
     "Code",
+    "DEFAULT_QUERY_TIMEOUT",
     "DEFAULT_SNAPSHOT_LIMIT",
     "Event",
     "Fault",
@@ -48,7 +49,9 @@ __all__ = [
     "TAG_FILTER",
     "intent",
     "intent_fault",
+    "node_filter",
     "packet_fault",
     "query_filters",
     "state_members",
+    "tag_filter",
 ]

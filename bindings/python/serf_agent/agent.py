@@ -11,8 +11,8 @@ from typing import Iterable, Iterator, List, Optional, Tuple, Union
 
 from .burst import Burst, c_params
 from .checks import Buffer, flag, integer, texts
-from .library import AgentError, CAnswer, CBytes, CClocks, CClosed, CEvent, CGave, CHanded, Code, CParams, CResponse, CSettings, DEFAULT_SNAPSHOT_LIMIT, Handle, Kind, Library, Reason
-from .settings import Settings
+from .library import AgentError, CAnswer, CBytes, CClocks, CClosed, CEvent, CGave, CHanded, Code, CParams, CResponse, CSettings, DEFAULT_QUERY_TIMEOUT, DEFAULT_SNAPSHOT_LIMIT, Handle, Kind, Library, Reason
+from .settings import Settings, out_of_bounds
 from .store import Path, Store
 
 
@@ -137,7 +137,7 @@ class Agent:
     """
 
     def __init__(self, name: Buffer, path: Path, settings: Settings = Settings(), library: Optional[Library] = None) -> None:
-        words, values = texts(name), c_settings(settings)
+        words, values = texts(name=name), c_settings(settings)
         self._library = library or Library()
         self._lock = threading.RLock()
         self._process = os.getpid()
@@ -150,9 +150,11 @@ class Agent:
         self._store = Store(path)
         self._let_go = weakref.finalize(self, let_go, self._library, self._handle, self._store)
         try:
-            self._do("open", *words, values, *texts(self._store.read()))
-        except BaseException:
+            self._do("open", *words, values, *texts(text=self._store.read()))
+        except BaseException as error:
             self.close()
+            if isinstance(error, AgentError) and error.code is Code.BAD_CONFIG:
+                raise AgentError(error.code, said=out_of_bounds(words[0], settings)) from None
             raise
 
     def __enter__(self) -> "Agent":
@@ -212,7 +214,7 @@ class Agent:
     def _forget_filters(self) -> None:
         """Forgets the filters of a query that failed, by one of no time, which is never fired."""
         if self._stale_filters:
-            self._forget("query", 0, 0, *texts(b"", b"", b""), CParams())
+            self._forget("query", 0, 0, *texts(name=b"", payload=b"", addr=b""), CParams())
             self._stale_filters = False
 
     def _settle(self) -> None:
@@ -250,9 +252,9 @@ class Agent:
     def _answer(self, packet: Buffer) -> Answer:
         """What an ack's or a response's packet says."""
         about = CAnswer()
-        self._library.answer(*texts(packet), about, None, 0, None, 0)
+        self._library.answer(*texts(packet=packet), about, None, 0, None, 0)
         sender, payload = (ctypes.create_string_buffer(length) for length in (about.from_len, about.payload_len))
-        self._library.answer(*texts(packet), about, sender, len(sender), payload, len(payload))
+        self._library.answer(*texts(packet=packet), about, sender, len(sender), payload, len(payload))
         return Answer(about.time, about.id, sender.raw, payload.raw)
 
     def _packet(self, name: str = "packet") -> Optional[bytes]:
@@ -328,13 +330,13 @@ class Agent:
         """
         with self._alone():
             passing = flag("tags_pass", tags_pass)
-            self._do("receive_tagged", self._moment(now), *texts(packet), passing)
+            self._do("receive_tagged", self._moment(now), *texts(packet=packet), passing)
             return self._received(packet)
 
     def fire(self, name: Buffer, payload: Buffer = b"", coalesce: bool = False) -> Fired:
         """Fires an event: ``Fired``."""
         with self._alone():
-            self._do("fire", *texts(name, payload), flag("coalesce", coalesce))
+            self._do("fire", *texts(name=name, payload=payload), flag("coalesce", coalesce))
             return self._fired()
 
     def merge(self, packet: Buffer, join: bool = False) -> List[Event]:
@@ -345,7 +347,7 @@ class Agent:
         """
         with self._alone():
             try:
-                self._do("merge", *texts(packet), flag("join", join))
+                self._do("merge", *texts(packet=packet), flag("join", join))
             except AgentError as error:
                 if error.code is Code.OUT_OF_MEMORY:
                     error.events = tuple(self._merged())
@@ -355,8 +357,8 @@ class Agent:
     def local_state(self, statuses: Iterable[Tuple[Buffer, int]] = (), left: Iterable[Buffer] = ()) -> bytes:
         """This agent's whole state, to send: with (name, status time) of members, and the names of those that left."""
         with self._alone():
-            named = [(*texts(name), integer("the status time", time)) for name, time in statuses]
-            gone = [texts(name) for name in left]
+            named = [(*texts(name=name), integer("the status time", time)) for name, time in statuses]
+            gone = [texts(name=name) for name in left]
             if self._stale_members:
                 self._forget("local_state")
             self._stale_members = bool(named or gone)
@@ -374,7 +376,7 @@ class Agent:
         id: int,
         name: Buffer,
         payload: Buffer = b"",
-        timeout: int = 0,
+        timeout: int = DEFAULT_QUERY_TIMEOUT,
         *,
         filters: Iterable[Buffer] = (),
         addr: Buffer = b"",
@@ -389,7 +391,7 @@ class Agent:
         ``tags_pass`` says that this node's tags pass each tag filter among the filters, so that it may be handed out here.
         """
         with self._alone():
-            words, given = texts(name, payload, addr), [texts(one) for one in filters]
+            words, given = texts(name=name, payload=payload, addr=addr), [texts(filter=one) for one in filters]
             how = c_params(timeout, port, relay_factor, want_ack, no_broadcast, tags_pass)
             moment, id = self._moment(now), integer("id", id, 32)
             self._forget_filters()
@@ -422,12 +424,20 @@ class Agent:
     def respond(self, now: int, number: int, payload: Buffer = b"") -> bytes:
         """Answers a query that was handed out: the packet to send to its address and port."""
         with self._alone():
-            words, which = texts(payload), integer("number", number)
+            words, which = texts(payload=payload), integer("number", number)
             self._do("respond", self._moment(now), which, *words)
             return self._packet()
 
+    def forget(self, number: int) -> None:
+        """Forgets a query that was handed out and won't be answered: until it is answered or forgotten, it takes memory."""
+        with self._alone():
+            self._do("forget_query", integer("number", number))
+
     def close_due(self, now: int) -> List[Closed]:
-        """Closes this agent's queries whose deadline is before ``now``: each ``Closed``, in the order in which they were fired."""
+        """Closes this agent's queries whose deadline is before ``now``: each ``Closed``, in the order in which they were fired.
+
+        Queries that were handed out here, and whose deadline is before it, are forgotten.
+        """
         with self._alone():
             closed = ctypes.c_size_t()
             self._do("close_due", self._moment(now), closed)

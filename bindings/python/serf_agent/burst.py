@@ -8,7 +8,7 @@ from typing import Any, Callable, Iterable, List, Optional, Tuple, Type, Union
 # (agent.py imports this module: its names are looked up when a type is asked for)
 from . import agent as agents
 from .checks import Buffer, flag, integer, texts
-from .library import AgentError, Code, CParams
+from .library import AgentError, Code, CParams, DEFAULT_QUERY_TIMEOUT
 
 
 def c_params(timeout: int, port: int, relay_factor: int, want_ack: bool, no_broadcast: bool, tags_pass: bool) -> CParams:
@@ -65,12 +65,12 @@ class Burst:
     def receive(self, now: int, packet: Buffer, tags_pass: bool = False) -> None:
         """Takes a packet of the network, as ``Agent.receive`` does."""
         passing = flag("tags_pass", tags_pass)
-        moment, (own, length) = self._agent._moment(now), texts(packet)
+        moment, (own, length) = self._agent._moment(now), texts(packet=packet)
         self._calls.append(Call("burst_receive_tagged", (moment, own, length, passing), lambda agent: agent._received(own)))
 
     def fire(self, name: Buffer, payload: Buffer = b"", coalesce: bool = False) -> None:
         """Fires an event."""
-        self._calls.append(Call("burst_fire", (*texts(name, payload), flag("coalesce", coalesce)), lambda agent: agent._fired()))
+        self._calls.append(Call("burst_fire", (*texts(name=name, payload=payload), flag("coalesce", coalesce)), lambda agent: agent._fired()))
 
     def query(
         self,
@@ -78,7 +78,7 @@ class Burst:
         id: int,
         name: Buffer,
         payload: Buffer = b"",
-        timeout: int = 0,
+        timeout: int = DEFAULT_QUERY_TIMEOUT,
         *,
         filters: Iterable[Buffer] = (),
         addr: Buffer = b"",
@@ -89,7 +89,7 @@ class Burst:
         tags_pass: bool = False,
     ) -> None:
         """Fires a query, as ``Agent.query`` does."""
-        words, given = texts(name, payload, addr), tuple(tuple(texts(one)) for one in filters)
+        words, given = texts(name=name, payload=payload, addr=addr), tuple(tuple(texts(filter=one)) for one in filters)
         how = c_params(timeout, port, relay_factor, want_ack, no_broadcast, tags_pass)
         moment, id = self._agent._moment(now), integer("id", id, 32)
         self._calls.append(Call("burst_query", (moment, id, *words, how), lambda agent: agent._asked(), given))

@@ -23,7 +23,15 @@ def flag(name: str, value: object) -> bool:
     return value
 
 
-def texts(*all_bytes: object) -> List[Any]:
+def as_bytes(name: str, value: Any) -> bytes:
+    """Bytes, or what is like them. Else ``TypeError``."""
+    try:
+        # (bytes(5) would be five zeros, and bytes([5]) one five)
+        return bytes(memoryview(value))
+    except TypeError:
+        raise TypeError(f"{name} has to be bytes, and is of the type {type(value).__name__}") from None
+
+
+def texts(**named: object) -> List[Any]:
     """Bytes, or what is like them, as the library takes them: each with its length. Else ``TypeError``."""
-    # (bytes(5) would be five zeros, and bytes([5]) one five)
-    return [word for data in map(bytes, map(memoryview, all_bytes)) for word in (data, len(data))]
+    return [word for name, value in named.items() for data in [as_bytes(name, value)] for word in (data, len(data))]

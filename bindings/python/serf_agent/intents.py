@@ -31,7 +31,7 @@ class Join:
 
     def packet(self, library: Optional[Library] = None) -> bytes:
         """The packet to send. A time of 2^64 - 1 is none: ``AgentError`` with ``EXHAUSTED``."""
-        return written((library or Library()).join_packet, integer("time", self.time), *texts(self.node))
+        return written((library or Library()).join_packet, integer("time", self.time), *texts(node=self.node))
 
 
 @dataclass(frozen=True)
@@ -44,7 +44,7 @@ class Leave:
 
     def packet(self, library: Optional[Library] = None) -> bytes:
         """The packet to send. A time of 2^64 - 1 is none: ``AgentError`` with ``EXHAUSTED``."""
-        return written((library or Library()).leave_packet, integer("time", self.time), *texts(self.node), flag("prune", self.prune))
+        return written((library or Library()).leave_packet, integer("time", self.time), *texts(node=self.node), flag("prune", self.prune))
 
 
 def intent(packet: Buffer, library: Optional[Library] = None) -> Union[Join, Leave, None]:
@@ -57,7 +57,7 @@ def intent(packet: Buffer, library: Optional[Library] = None) -> Union[Join, Lea
     node = b""
     for _ in range(2):
         node = ctypes.create_string_buffer(about.node_len)
-        code = library.intent(*texts(packet), about, node, len(node))
+        code = library.intent(*texts(packet=packet), about, node, len(node))
         if code == Code.NOTHING:
             return None
         if code != Code.OK:

@@ -35,6 +35,29 @@ class Code(enum.IntEnum):
     NOT_HANDED = 17
 
 
+# What each code says.
+SENTENCES = {
+    Code.OK: "the call did what it should",
+    Code.EMPTY: "the agent is closed",
+    Code.IN_USE: "the handle has an agent already",
+    Code.UNWRITTEN: "bytes for the file aren't written yet",
+    Code.NOTHING: "there is no such thing",
+    Code.OUT_OF_MEMORY: "there was no memory",
+    Code.BAD_CONFIG: "a setting, or the node's name, is out of its bounds",
+    Code.SINK_FAULT: "the file failed",
+    Code.STOPPED: "the agent is stopped, since its file failed before",
+    Code.TOO_LARGE: "the event, query or response is too large",
+    Code.EXHAUSTED: "the clock is at its end",
+    Code.NO_MESSAGE: "the packet is no message of Serf's",
+    Code.RESPONDERS_FULL: "the query has as many answers as it takes",
+    Code.NOT_PUSH_PULL: "the packet is no whole state",
+    Code.TOO_LONG: "a text or a list is too long",
+    Code.NO_TIME: "the query's timeout is zero or less",
+    Code.PAST_DEADLINE: "the query takes no more answers",
+    Code.NOT_HANDED: "no query of this number waits for an answer",
+}
+
+
 class Kind(enum.IntEnum):
     """What a call gave."""
 
@@ -91,17 +114,21 @@ class Fault(enum.IntEnum):
 # How many bytes a file may have before it is worth a compaction: Serf's own number.
 DEFAULT_SNAPSHOT_LIMIT = 131072
 
+# How long a query takes answers where no other time is given, in nanoseconds: Serf's own time in a cluster of 10 to 99
+# nodes, which is 16 of its gossip intervals of 0.2 seconds for each digit of the number of nodes.
+DEFAULT_QUERY_TIMEOUT = 6_400_000_000
+
 
 class AgentError(Exception):
     """A call was refused, with this code. It has changed nothing, but that a merge without memory keeps what it took.
 
     ``events`` has what such a merge took: run their handlers, since no later merge hands them out again. Of a packet with
-    ``Code.NO_MESSAGE``, ``packet_fault`` says why.
+    ``Code.NO_MESSAGE``, ``packet_fault`` says why. With ``Code.BAD_CONFIG`` the text names the setting.
     """
 
-    def __init__(self, code: int, events: Iterable[Any] = ()) -> None:
-        super().__init__(Code(code).name)
+    def __init__(self, code: int, events: Iterable[Any] = (), said: str = "") -> None:
         self.code = Code(code)
+        super().__init__(f"{said or SENTENCES[self.code]} ({self.code.name})")
         self.events = tuple(events)
 
 
@@ -224,6 +251,7 @@ FUNCTIONS = {
     "query": [HANDLE, c_uint64, c_uint32, *TEXT, *TEXT, *TEXT, POINTER(CParams)],
     "add_filter": [HANDLE, *TEXT],
     "respond": [HANDLE, c_uint64, c_uint64, *TEXT],
+    "forget_query": [HANDLE, c_uint64],
     "close_due": [HANDLE, c_uint64, POINTER(c_size_t)],
     "observe_member": [HANDLE, c_uint64],
     "save_member_clock": [HANDLE],

@@ -27,7 +27,7 @@ def state_members(packet: Buffer, library: Optional[Library] = None) -> Optional
     # first the sizes, and then the members
     for _ in range(2):
         named, names = (CMember * all.members)(), ctypes.create_string_buffer(all.names_len)
-        code = library.state_members(*texts(packet), all, named, len(named), names, len(names))
+        code = library.state_members(*texts(packet=packet), all, named, len(named), names, len(names))
         if code == Code.NOTHING:
             return None
         if code != Code.OK:

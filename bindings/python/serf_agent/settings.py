@@ -2,6 +2,13 @@
 
 from dataclasses import dataclass
 
+# From where to where each setting goes, as the header says.
+BOUNDS = {
+    **dict.fromkeys(("event_buffer", "query_buffer", "responders", "per_time"), (1, 65_536)),
+    **dict.fromkeys(("event_limit", "query_limit", "response_limit"), (0, 9_216)),
+}
+NAME_BOUNDS = (1, 128)
+
 
 @dataclass(frozen=True)
 class Settings:
@@ -22,3 +29,13 @@ class Settings:
     per_time: int = 1024
     ignore_old: bool = False
     keep_events: bool = False
+
+
+def out_of_bounds(name: bytes, settings: Settings) -> str:
+    """The first that is out of its bounds, in words: the node's name, or a setting. Nothing where each is within."""
+    if not NAME_BOUNDS[0] <= len(name) <= NAME_BOUNDS[1]:
+        return f"name has {len(name)} bytes, and has to have {NAME_BOUNDS[0]} to {NAME_BOUNDS[1]}"
+    for field, (least, greatest) in BOUNDS.items():
+        if not least <= getattr(settings, field) <= greatest:
+            return f"{field} is {getattr(settings, field)}, and has to be from {least} to {greatest}"
+    return ""

@@ -76,7 +76,7 @@ impl Agent {
         let place = raw::Place { at: std::ptr::null_mut() };
         let handle = Box::new(raw::Handle { open: false, place });
         let mut agent = Agent { handle, store, stale_filters: false, stale_members: false, unread: VecDeque::new() };
-        let settings = raw::Settings {
+        let set = raw::Settings {
             event_buffer: settings.event_buffer,
             query_buffer: settings.query_buffer,
             event_limit: settings.event_limit,
@@ -87,11 +87,14 @@ impl Agent {
             ignore_old: settings.ignore_old,
             keep_events: settings.keep_events,
         };
-        agent.settled(|handle| {
+        let opened = agent.settled(|handle| {
             // SAFETY: the handle is the agent's own, and each pointer comes with its length.
-            unsafe { raw::serf_agent_open(handle, name.as_ptr(), name.len(), &settings, text.as_ptr(), text.len()) }
-        })?;
-        Ok(agent)
+            unsafe { raw::serf_agent_open(handle, name.as_ptr(), name.len(), &set, text.as_ptr(), text.len()) }
+        });
+        match opened {
+            Err(Error::Refused(Code::BadConfig)) => Err(settings.refusal(name)),
+            other => other.map(|()| agent),
+        }
     }
 
     /// Does a call, and brings what it wrote to the file, also where it was refused.
@@ -181,7 +184,7 @@ impl Agent {
             return Ok(None);
         }
         let mut about = raw::Handed::default();
-        let mut texts = [const { Vec::new() }; 4];
+        let mut texts: [Vec<u8>; 4] = Default::default();
         for _ in 0..2 {
             let lens = [about.name_len, about.payload_len, about.source_len, about.addr_len];
             texts = lens.map(|len| vec![0; len]);
@@ -354,6 +357,13 @@ impl Agent {
         // SAFETY: the pointer comes with its length.
         self.settled(|handle| unsafe { raw::serf_agent_respond(handle, now, number, payload.as_ptr(), payload.len()) })?;
         self.own_packet()
+    }
+
+    /// Forgets a query that was handed out and won't be answered: until it is answered or forgotten, or
+    /// [`Agent::close_due`] finds its deadline past, it takes memory.
+    pub fn forget(&mut self, number: u64) -> Result<(), Error> {
+        // SAFETY: the handle is the agent's own.
+        self.settled(|handle| unsafe { raw::serf_agent_forget_query(handle, number) })
     }
 
     /// Observes the time of a member's word or status: the member clock is later than it from then on.

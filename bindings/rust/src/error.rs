@@ -70,6 +70,17 @@ const CODES: [Code; 17] = [
 pub enum Error {
     /// The library refused it, and nothing has changed.
     Refused(Code),
+    /// The library refused an opening ([`Code::BadConfig`]), since this setting, or the name's length, is out of its bounds.
+    Setting {
+        /// The setting's field, or `name`.
+        field: &'static str,
+        /// What it is.
+        is: u64,
+        /// The least that it may be.
+        least: u64,
+        /// The greatest that it may be.
+        greatest: u64,
+    },
     /// A merge ran out of memory. These events entered before it did: run their handlers, since no later merge hands them out
     /// again.
     MergedInPart(Vec<Event>),
@@ -81,6 +92,7 @@ impl std::fmt::Display for Error {
     fn fmt(&self, to: &mut std::fmt::Formatter<'_>) -> std::fmt::Result {
         match self {
             Error::Refused(code) => write!(to, "the agent refused the call: {code:?}"),
+            Error::Setting { field, is, least, greatest } => write!(to, "{field} is {is}, and has to be from {least} to {greatest}"),
             Error::MergedInPart(events) => write!(to, "the merge ran out of memory; events that entered before: {}", events.len()),
             Error::Store(_) => write!(to, "the agent's file failed"),
         }
@@ -90,7 +102,7 @@ impl std::fmt::Display for Error {
 impl std::error::Error for Error {
     fn source(&self) -> Option<&(dyn std::error::Error + 'static)> {
         match self {
-            Error::Refused(_) | Error::MergedInPart(_) => None,
+            Error::Refused(_) | Error::Setting { .. } | Error::MergedInPart(_) => None,
             Error::Store(error) => Some(error),
         }
     }

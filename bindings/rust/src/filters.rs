@@ -6,6 +6,53 @@ use crate::raw;
 /// The first byte of a filter that asks for a tag. The agent knows no tags: see [`crate::Agent::receive_tagged`].
 pub const TAG_FILTER: u8 = 1;
 
+/// The first byte of a filter that asks for names.
+const NODE_FILTER: u8 = 0;
+
+/// Appends a text as MessagePack's old form has it (raw 5, 16 or 32), as Serf writes it.
+fn put_raw(out: &mut Vec<u8>, text: &[u8]) {
+    match text.len() {
+        short @ 0..=31 => out.push(0xa0 | short as u8),
+        long @ 32..=0xffff => {
+            out.push(0xda);
+            out.extend_from_slice(&(long as u16).to_be_bytes());
+        }
+        longer => {
+            out.push(0xdb);
+            out.extend_from_slice(&(longer as u32).to_be_bytes());
+        }
+    }
+    out.extend_from_slice(text);
+}
+
+/// A filter that the nodes of these names pass, for [`crate::Agent::query`]: fewer than 2^32, of fewer bytes each.
+pub fn node_filter<T: AsRef<[u8]>>(names: &[T]) -> Vec<u8> {
+    let mut out = vec![NODE_FILTER];
+    match names.len() {
+        few @ 0..=15 => out.push(0x90 | few as u8),
+        many @ 16..=0xffff => {
+            out.push(0xdc);
+            out.extend_from_slice(&(many as u16).to_be_bytes());
+        }
+        more => {
+            out.push(0xdd);
+            out.extend_from_slice(&(more as u32).to_be_bytes());
+        }
+    }
+    names.iter().for_each(|name| put_raw(&mut out, name.as_ref()));
+    out
+}
+
+/// A filter that a node passes whose tag matches the expression somewhere, for [`crate::Agent::query`]. Serf reads the
+/// expression by Go's package `regexp`.
+pub fn tag_filter(tag: &[u8], expression: &[u8]) -> Vec<u8> {
+    let mut out = vec![TAG_FILTER, 0x82];
+    for text in [b"Expr", expression, b"Tag", tag] {
+        put_raw(&mut out, text);
+    }
+    out
+}
+
 /// The filters that a query's packet has, in its order; `None` where the packet is no query. It needs no agent.
 pub fn query_filters(packet: &[u8]) -> Result<Option<Vec<Vec<u8>>>, Error> {
     let (mut all, mut lens, mut filters) = (raw::Filters::default(), Vec::new(), Vec::new());

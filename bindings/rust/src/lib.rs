@@ -41,7 +41,7 @@ mod store;
 pub use agent::{Agent, Call, CallOutcome, Closed, Outcomes, DEFAULT_SNAPSHOT_LIMIT};
 pub use error::{Code, Error};
 pub use fault::{intent_fault, packet_fault, PacketFault};
-pub use filters::{query_filters, TAG_FILTER};
+pub use filters::{node_filter, query_filters, tag_filter, TAG_FILTER};
 pub use intent::Intent;
 pub use members::Members;
 pub use outcome::{Answer, Asked, Clocks, Event, Fired, Handed, Outcome, Reason, Received};

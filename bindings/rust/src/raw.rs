@@ -195,6 +195,7 @@ extern "C" {
     ) -> u32;
     pub fn serf_agent_add_filter(handle: *mut Handle, filter: *const u8, filter_len: usize) -> u32;
     pub fn serf_agent_respond(handle: *mut Handle, now: u64, number: u64, payload: *const u8, payload_len: usize) -> u32;
+    pub fn serf_agent_forget_query(handle: *mut Handle, number: u64) -> u32;
     pub fn serf_agent_close_due(handle: *mut Handle, now: u64, closed: *mut usize) -> u32;
     pub fn serf_agent_observe_member(handle: *mut Handle, time: u64) -> u32;
     pub fn serf_agent_save_member_clock(handle: *mut Handle) -> u32;

@@ -1,5 +1,6 @@
 //! What an agent is set to, and how a query is fired.
 
+use crate::error::{Code, Error};
 use crate::raw;
 
 /// An agent's settings; `default()` has Serf's.
@@ -23,6 +24,26 @@ pub struct Settings {
     pub ignore_old: bool,
     /// Whether the file keeps events and queries, and a restart goes on with those that the buffers held.
     pub keep_events: bool,
+}
+
+impl Settings {
+    /// Why the library has refused these settings: the first one, or the name's length, that is out of the header's bounds.
+    pub(crate) fn refusal(&self, name: &[u8]) -> Error {
+        const MOST: u64 = 65_536;
+        const LONGEST: u64 = 9_216;
+        let all = [
+            ("name", name.len() as u64, 1, 128),
+            ("event_buffer", self.event_buffer, 1, MOST),
+            ("query_buffer", self.query_buffer, 1, MOST),
+            ("event_limit", self.event_limit, 0, LONGEST),
+            ("query_limit", self.query_limit, 0, LONGEST),
+            ("response_limit", self.response_limit, 0, LONGEST),
+            ("responders", self.responders, 1, MOST),
+            ("per_time", self.per_time, 1, MOST),
+        ];
+        let found = all.into_iter().find(|&(_, is, least, greatest)| is < least || is > greatest);
+        found.map_or(Error::Refused(Code::BadConfig), |(field, is, least, greatest)| Error::Setting { field, is, least, greatest })
+    }
 }
 
 impl Default for Settings {

@@ -1,9 +1,11 @@
 //! The file of an agent's snapshot (Linux).
 
 use std::ffi::OsString;
-use std::fs::{self, File, OpenOptions, TryLockError};
+use std::fs::{self, File, OpenOptions};
 use std::io::{self, Write};
+use std::os::raw::c_int;
 use std::os::unix::fs::{FileExt, MetadataExt, OpenOptionsExt, PermissionsExt};
+use std::os::unix::io::AsRawFd;
 use std::path::{Path, PathBuf};
 
 /// How often an opening begins anew, because the file was replaced between its opening and its lock.
@@ -12,6 +14,14 @@ const TRIES: usize = 100;
 /// Don't follow a link, and don't wait for the other side of a pipe (`O_NOFOLLOW`, `O_NONBLOCK` of Linux on x86-64).
 const NO_FOLLOW: i32 = 0o400_000;
 const NO_WAIT: i32 = 0o4_000;
+
+/// A lock that nobody shares, and don't wait for it (`LOCK_EX`, `LOCK_NB` of Linux).
+const ALONE: c_int = 2;
+const AT_ONCE: c_int = 4;
+
+extern "C" {
+    fn flock(file: c_int, how: c_int) -> c_int;
+}
 
 /// Why a file isn't opened, read or written.
 #[derive(Debug)]
@@ -57,27 +67,31 @@ impl std::error::Error for StoreError {
 }
 
 impl From<io::Error> for StoreError {
+    /// By the numbers of Linux on x86-64. What has none is a path that no file can have.
     fn from(error: io::Error) -> Self {
-        use io::ErrorKind as Kind;
-        match error.kind() {
-            Kind::WouldBlock => StoreError::Locked,
-            Kind::NotFound | Kind::NotADirectory => StoreError::MissingFolder,
-            Kind::IsADirectory | Kind::InvalidInput => StoreError::NotAFile,
-            Kind::PermissionDenied | Kind::ReadOnlyFilesystem => StoreError::ReadOnly,
-            Kind::StorageFull | Kind::QuotaExceeded | Kind::FileTooLarge => StoreError::Full,
-            // ENXIO of a socket or a pipe, ELOOP of a link
-            _ if matches!(error.raw_os_error(), Some(6 | 40)) => StoreError::NotAFile,
+        match error.raw_os_error() {
+            // EWOULDBLOCK
+            Some(11) => StoreError::Locked,
+            // ENOENT, ENOTDIR
+            Some(2 | 20) => StoreError::MissingFolder,
+            // ENXIO of a socket or a pipe, EISDIR, EINVAL, ELOOP of a link
+            Some(6 | 21 | 22 | 40) => StoreError::NotAFile,
+            // EPERM, EACCES, EROFS
+            Some(1 | 13 | 30) => StoreError::ReadOnly,
+            // EFBIG, ENOSPC, EDQUOT
+            Some(27 | 28 | 122) => StoreError::Full,
+            None if error.kind() == io::ErrorKind::InvalidInput => StoreError::NotAFile,
             _ => StoreError::Failed(error),
         }
     }
 }
 
-impl From<TryLockError> for StoreError {
-    fn from(error: TryLockError) -> Self {
-        match error {
-            TryLockError::WouldBlock => StoreError::Locked,
-            TryLockError::Error(error) => error.into(),
-        }
+/// Locks a file, where no other store has it.
+fn lock(file: &File) -> Result<(), StoreError> {
+    // SAFETY: the descriptor is open as long as the file is.
+    match unsafe { flock(file.as_raw_fd(), ALONE | AT_ONCE) } {
+        0 => Ok(()),
+        _ => Err(io::Error::last_os_error().into()),
     }
 }
 
@@ -135,7 +149,7 @@ fn open_locked(path: &Path) -> Result<File, StoreError> {
         if !own.is_file() {
             return Err(StoreError::NotAFile);
         }
-        file.try_lock()?;
+        lock(&file)?;
         match fs::symlink_metadata(path) {
             Ok(named) if (named.dev(), named.ino()) == (own.dev(), own.ino()) => return Ok(file),
             _ => {}
@@ -198,7 +212,7 @@ impl Store {
     fn written_beside(&self, beside: &Path, bytes: &[u8]) -> Result<File, StoreError> {
         let mut how = OpenOptions::new();
         let mut file = how.read(true).append(true).create_new(true).mode(0o600).open(beside)?;
-        file.try_lock()?;
+        lock(&file)?;
         let rights = self.file.metadata()?.permissions().mode() & 0o777;
         file.set_permissions(fs::Permissions::from_mode(rights))?;
         file.write_all(bytes)?;

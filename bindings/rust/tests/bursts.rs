@@ -21,7 +21,10 @@ fn outcomes_in_order() {
     let receive = |packet| Call::Receive { now: 1, packet };
     let calls = [receive(&packet), receive(&packet[1..]), FIRE, receive(&packet)];
     let outcomes: Vec<_> = other.burst(calls).unwrap().collect();
-    let [event, fault, fired, repeat] = &outcomes[..] else { panic!("{outcomes:?}") };
+    let (event, fault, fired, repeat) = match &outcomes[..] {
+        [event, fault, fired, repeat] => (event, fault, fired, repeat),
+        _ => panic!("{outcomes:?}"),
+    };
     assert!(matches!(event, Ok(CallOutcome::Received(received)) if received.rebroadcast && matches!(received.outcome, Outcome::Event(_))));
     assert!(matches!(fault, Err(Error::Refused(Code::NoMessage))));
     assert!(matches!(fired, Ok(CallOutcome::Fired(fired)) if fired.event.time == 2));

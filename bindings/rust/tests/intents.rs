@@ -1,6 +1,6 @@
 //! Intents, the members that a state names, the time of a query, and its filters with what the host says of its tags.
 
-use serf_agent::{intent_fault, query_filters, Agent, Call, CallOutcome, Code, Error, Intent, Members};
+use serf_agent::{intent_fault, node_filter, query_filters, tag_filter, Agent, Call, CallOutcome, Code, Error, Intent, Members};
 use serf_agent::{Outcome, PacketFault, QueryParams, Received, Settings, TAG_FILTER};
 
 /// A fresh folder's file, and the folder, which goes with it.
@@ -144,7 +144,10 @@ fn what_the_host_says_of_tags() {
             assert_eq!(is_handed(&agent.receive_tagged(1, &packet, tags_pass).unwrap()), wanted, "{filters:?}");
             let packet = packet_of(filters);
             let outcomes: Vec<_> = agent.burst([Call::ReceiveTagged { now: 1, packet: &packet, tags_pass }]).unwrap().collect();
-            let [Ok(CallOutcome::Received(received))] = &outcomes[..] else { panic!("{outcomes:?}") };
+            let received = match &outcomes[..] {
+                [Ok(CallOutcome::Received(received))] => received,
+                _ => panic!("{outcomes:?}"),
+            };
             assert_eq!(is_handed(received), wanted, "{filters:?} in a burst");
             let own = filters.iter().map(|filter| filter.to_vec()).collect();
             let params = QueryParams { timeout: 1000, want_ack: true, tags_pass, filters: own, ..QueryParams::default() };
@@ -152,11 +155,18 @@ fn what_the_host_says_of_tags() {
             assert_eq!((asked.handed.is_some(), asked.ack.is_some()), (wanted, wanted), "its own of {filters:?}");
             let call = Call::Query { now: 1, id: 8, name: b"who", payload: b"", params: &params };
             let outcomes: Vec<_> = agent.burst([call]).unwrap().collect();
-            let [Ok(CallOutcome::Asked(asked))] = &outcomes[..] else { panic!("{outcomes:?}") };
+            let asked = match &outcomes[..] {
+                [Ok(CallOutcome::Asked(asked))] => asked,
+                _ => panic!("{outcomes:?}"),
+            };
             assert_eq!(asked.handed.is_some(), wanted, "its own of {filters:?} in a burst");
         }
     }
     assert!(!is_handed(&agent.receive(1, &packet_of(&[TAG])).unwrap()));
+    assert_eq!((node_filter(&["a"]), tag_filter(b"a", b"")), (NODE.to_vec(), TAG.to_vec()));
+    let long = node_filter(&[vec![b'x'; 32], vec![b'y'; 65536]]);
+    assert_eq!((&long[..5], &long[37..42]), (&b"\x00\x92\xda\x00\x20"[..], &b"\xdb\x00\x01\x00\x00"[..]));
+    assert_eq!((&node_filter(&["b"; 16])[..6], &node_filter(&["b"; 65536])[..6]), (&b"\x00\xdc\x00\x10\xa1b"[..], &b"\x00\xdd\x00\x01\x00\x00"[..]));
     for packet in [&b""[..], b"\x04", b"\x03\x80"] {
         assert_eq!(query_filters(packet).unwrap(), None);
     }

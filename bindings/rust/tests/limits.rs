@@ -42,11 +42,34 @@ fn packets_as_long_as_the_limits() {
     assert_eq!((settings.query_limit, settings.response_limit), (1024, 1024));
 }
 
+/// Each setting at its bounds is taken, and beyond them it is named.
 #[test]
-fn limits_that_are_too_large() {
-    for limit in [9217, u64::MAX] {
-        for (query, response) in [(limit, 1024), (1024, limit)] {
-            assert!(matches!(opened("too_large", query, response), Err(Error::Refused(Code::BadConfig))), "{query} {response}");
+fn settings_out_of_bounds() {
+    type Put = fn(&mut Settings) -> &mut u64;
+    let all: [(&str, Put, u64, u64); 7] = [
+        ("event_buffer", |all| &mut all.event_buffer, 1, 65536),
+        ("query_buffer", |all| &mut all.query_buffer, 1, 65536),
+        ("event_limit", |all| &mut all.event_limit, 0, 9216),
+        ("query_limit", |all| &mut all.query_limit, 0, 9216),
+        ("response_limit", |all| &mut all.response_limit, 0, 9216),
+        ("responders", |all| &mut all.responders, 1, 65536),
+        ("per_time", |all| &mut all.per_time, 1, 65536),
+    ];
+    let path = std::env::temp_dir().join(format!("serf-agent-bounds-{}", std::process::id()));
+    for (field, put, least, greatest) in all {
+        for value in [0, 1, greatest, greatest + 1, u64::MAX] {
+            let mut settings = Settings::default();
+            *put(&mut settings) = value;
+            let wanted = format!("{field} is {value}, and has to be from {least} to {greatest}");
+            match Agent::open(b"bounds", &path, settings) {
+                Ok(_) => assert!(value >= least && value <= greatest, "{wanted}"),
+                Err(error) => assert_eq!((value < least || value > greatest, error.to_string()), (true, wanted)),
+            }
         }
     }
+    for (length, is_taken) in [(0, false), (1, true), (128, true), (129, false)] {
+        let opened = Agent::open(&vec![b'n'; length], &path, Settings::default());
+        assert!(if is_taken { opened.is_ok() } else { matches!(opened, Err(Error::Setting { field: "name", .. })) }, "{length}");
+    }
+    std::fs::remove_file(path).unwrap();
 }

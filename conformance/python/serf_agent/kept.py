@@ -1,4 +1,4 @@
-"""What an agent that keeps its events has in its snapshot beside its clock lines (docs/FORMATS.md, "What a keeping agent writes").
+"""What an agent that keeps its events has in its snapshot beside its clock lines (docs/SPEC.md, "What a keeping agent writes").
 
 A line of an event, a line of a query, and a line of a least time. Each begins with `#`, so that other agents pass over it.
 """

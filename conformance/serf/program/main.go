@@ -1,4 +1,4 @@
-// Serf behind the pipe: calls on standard input, replies on standard output (docs/PIPE.md). With the word -note-all its
+// Serf behind the pipe: calls on standard input, replies on standard output (docs/SPEC.md). With the word -note-all its
 // snapshot sees all queries that enter, as the reference's does.
 package main
 

@@ -1,34 +1,30 @@
--- What an agent that keeps its events over a restart doesn't miss: what stays true over all acts, for one time.
-use Rattle.serf_agent.proofs.Names.{◌≡◌, ◌≢◌, ℕ, ◌-◌, ◌^◌, ◌<◌, ◌≤◌, ◌⊎◌, ◌&&◌, ◌==◌, inl, inr, max, nat_le, cond, Bool, true, false, List, [], ◌∷◌, ◌++◌, Option, Some, None, take, drop, refl, sym, subst, ap, ◌∙◌, append-nil, append_assoc, arith, All, All-head, All-push, All-tail, All-weaker, and_parts, take-append-drop, EventBody, TimedEntry, PushPull, ClockKind, clock_line, last_line, Writing, Kept, Failed, KeepsPart, noted, written, slots_of}
+-- What an agent that keeps its events over a restart doesn't miss: what stays true of its events, and of its queries, at each line,
+-- for one time.
+use Rattle.serf_agent.proofs.Names.{◌≡◌, ◌≢◌, ℕ, ◌-◌, ◌^◌, ◌<◌, ◌≤◌, ◌⊎◌, ◌==◌, inl, inr, max, nat_le, cond, Bool, true, false, List, [], ◌∷◌, ◌++◌, Option, Some, None, take, drop, refl, sym, subst, ap, ◌∙◌, append-nil, append_assoc, arith, All, All-head, All-push, All-tail, All-weaker, take-append-drop, EventBody, TimedEntry, ClockKind, clock_line, last_line, Writing, Kept, Failed, KeepsPart, noted, written, slots_of}
 use Rattle.std.proofs.lemmas.List.Elements.{Contains-append_right}
 use Rattle.serf_window.specs.Laws.{SlotLaws}
 use Rattle.serf_snap.specs.declared.kind.ClockKind.TheVariants as kinds
 use Rattle.serf_snap.specs.Clocks.{is_whole, line_above_zero, sealed}
 use Rattle.serf_snap.specs.EventLines.{event_line, kept_clock_line, least_in, least_line, query_line}
-use Rattle.serf_snap.specs.Notes.{MayReplaceBy, text_replaced}
+use Rattle.serf_snap.specs.Notes.{IsSnapshotSound, MayReplaceBy, SnapshotView, text_replaced}
 use Rattle.serf_snap.specs.KeptNotes.{SaysNoClock, kept_bytes, kept_compaction_of, kept_line_above_zero}
 use Rattle.serf_agent.specs.declared.config.Config.{Config}
-use Rattle.serf_agent.specs.Calls.{AsksSink, MayEnd, ended}
-use Rattle.serf_agent.specs.Events.{event_entered, told_event}
-use Rattle.serf_agent.specs.Ideal.{IdealAgent, Past, with_snapshot}
+use Rattle.serf_agent.specs.Ideal.{IdealAgent, Past, Track}
 use Rattle.serf_agent.specs.Kept.{IsMet}
 use Rattle.serf_agent.specs.KeptLines.{AreTold, held_from, kept_lines, least_told, lines_told}
 use Rattle.serf_agent.specs.KeptLives.{IsDurable}
 use Rattle.serf_agent.specs.KeptTexts.{IsIdTold, IsTold, line_of_event}
-use Rattle.serf_agent.specs.Lives.{Hears, MayAct, after}
-use Rattle.serf_agent.specs.Queries.{query_entered, told_query}
-use Rattle.serf_agent.specs.Sound.{IsSound}
-use Rattle.serf_agent.specs.States.{heard_by, joined, told_lines}
-use Rattle.serf_agent.specs.Taking.{TakesAt, allowed}
-use Rattle.serf_agent.specs.Told.{MayNote, bytes_with, noted_with, text_with}
-use Rattle.serf_agent.specs.Tracks.{of_life}
+use Rattle.serf_agent.specs.Taking.{IsOpenAt, TakesAt, allowed}
+use Rattle.serf_agent.specs.Told.{MayNote, bytes_with, noted_with}
+use Rattle.serf_agent.specs.TrackOf.{TrackOf}
+use Rattle.serf_agent.specs.Tracks.{of_life, track_entered}
 use Rattle.serf_agent.specs.View.{view_of}
 use Rattle.serf_agent.proofs.DurableLaws.{either, replaced-by}
 use Rattle.serf_agent.proofs.KeptCompactionLaws.{only-entered}
 use Rattle.serf_agent.proofs.KeptLifeLaws.{BelowKeptLives}
 use Rattle.serf_agent.proofs.KeptStepLaws.{grown-durable, some-same}
 use Rattle.serf_agent.proofs.MetLaws.{Wider, wider-handed}
-use Rattle.serf_agent.proofs.SoundLaws.{event-noted_member, event-noted_query, may-part}
+use Rattle.serf_agent.proofs.SoundLaws.{may-part}
 
 -- ---- what the crates below promise
 
@@ -50,211 +46,166 @@ pub record BelowHandsOut : Type 0 where
   pub clock_whole : (k : ClockKind) (text : List ℕ) (t : ℕ) → is_whole (text ++ clock_line k t) ≡ true
   pub kept_clock_whole : (k : ClockKind) (text : List ℕ) (t : ℕ) → is_whole (text ++ kept_clock_line k t) ≡ true
 
-event-no_member : (kinds.Event ≡ kinds.Member) → ⊥
+pub event-no_member : (kinds.Event ≡ kinds.Member) → ⊥
 event-no_member e = absurd (cc e)
 
 event-no_query : (kinds.Event ≡ kinds.Query) → ⊥
 event-no_query e = absurd (cc e)
 
--- ---- what stays true (specs/Taking.antt)
+pub query-no_member : (kinds.Query ≡ kinds.Member) → ⊥
+query-no_member e = absurd (cc e)
 
-pub stands-wider : (t : ℕ) (config : Config) (handed stood handed_more stood_more : List (TimedEntry EventBody)) (i : IdealAgent) → Wider handed stood handed_more stood_more → TakesAt t config handed stood i → TakesAt t config handed_more stood_more i
-stands-wider t config handed stood handed_more stood_more i wider s = record {
-  settings = s.settings;
-  last = s.last;
-  known = All-weaker (λ (p : Past EventBody). IsMet handed stood p.entry) (λ (p : Past EventBody). IsMet handed_more stood_more p.entry) (λ p m. wider p.entry m) i.events.history s.known;
-  minimum = s.minimum;
-  least = s.least;
+query-no_event : (kinds.Query ≡ kinds.Event) → ⊥
+query-no_event e = absurd (cc e)
+
+-- ---- what stays true of a track (specs/Taking.antt)
+
+pub opens-wider : {K : Type 0} (kind : ClockKind) (n t : ℕ) (handed stood handed_more stood_more : List (TimedEntry K)) (track : Track K) (s : SnapshotView) → Wider handed stood handed_more stood_more → IsOpenAt kind n t handed stood track s → IsOpenAt kind n t handed_more stood_more track s
+opens-wider {K} kind n t handed stood handed_more stood_more track s wider o = record {
+  last = o.last;
+  known = All-weaker (λ (p : Past K). IsMet handed stood p.entry) (λ (p : Past K). IsMet handed_more stood_more p.entry) (λ p m. wider p.entry m) track.history o.known;
+  minimum = o.minimum;
+  least = o.least;
 }
 
--- an agent goes on with its history: its clock doesn't fall, its least time isn't raised above t, nor is that of what is durable
-pub record Follows (t : ℕ) (config : Config) (i j : IdealAgent) : Type 0 where
-  pub settings : j.config ≡ i.config
-  pub clock : i.events.clock ≤ j.events.clock
-  pub last : j.snapshot.event_clock ≡ i.snapshot.event_clock
-  pub history : j.events.history ≡ i.events.history
-  pub minimum : j.events.minimum ≤ max t i.events.minimum
-  pub least : (new : List ℕ) → j.snapshot.durable ≡ Some new → least_in kinds.Event new ≤ allowed t config i
+pub stands-wider : {K : Type 0} (which : TrackOf K) (t : ℕ) (config : Config) (handed stood handed_more stood_more : List (TimedEntry K)) (i : IdealAgent) → Wider handed stood handed_more stood_more → TakesAt which t config handed stood i → TakesAt which t config handed_more stood_more i
+stands-wider which t config handed stood handed_more stood_more i wider s = record {
+  settings = s.settings;
+  opens = opens-wider which.kind (which.slots config) t handed stood handed_more stood_more (which.track i) i.snapshot wider s.opens;
+}
 
-pub follows : (t : ℕ) (config : Config) (handed stood : List (TimedEntry EventBody)) (i j : IdealAgent) → Follows t config i j → TakesAt t config handed stood i → TakesAt t config handed stood j
-follows t config handed stood i j f s = record {
-  settings = f.settings ∙ s.settings;
-  last = omega (arith, f.last, f.clock, s.last);
-  known = subst (λ (l : List (Past EventBody)). All (λ (p : Past EventBody). IsMet handed stood p.entry) l) (sym f.history) s.known;
-  minimum = omega (arith, f.minimum, f.last, s.minimum);
+-- a track goes on with its history: its clock doesn't fall, its least time isn't raised above t, nor is that of what is durable
+pub record Follows {K : Type 0} (kind : ClockKind) (n t : ℕ) (track : Track K) (s : SnapshotView) (next : Track K) (u : SnapshotView) : Type 0 where
+  pub clock : track.clock ≤ next.clock
+  pub last : last_line kind u ≡ last_line kind s
+  pub history : next.history ≡ track.history
+  pub minimum : next.minimum ≤ max t track.minimum
+  pub least : (new : List ℕ) → u.durable ≡ Some new → least_in kind new ≤ allowed kind n t s
+
+pub follows : {K : Type 0} (kind : ClockKind) (n t : ℕ) (handed stood : List (TimedEntry K)) (track : Track K) (s : SnapshotView) (next : Track K) (u : SnapshotView) → Follows kind n t track s next u → IsOpenAt kind n t handed stood track s → IsOpenAt kind n t handed stood next u
+follows {K} kind n t handed stood track s next u f o = record {
+  last = omega (arith, f.last, f.clock, o.last);
+  known = subst (λ (l : List (Past K)). All (λ (p : Past K). IsMet handed stood p.entry) l) (sym f.history) o.known;
+  minimum = omega (arith, f.minimum, f.last, o.minimum);
   least = λ new at. let low = f.least new at in omega (arith, low, f.last);
 }
 
 -- ---- lines
 
--- lines that tell no least time of events
-abbrev pub TellsNone : List ℕ → Type 0
-TellsNone line = (text : List ℕ) → is_whole text ≡ true → least_in kinds.Event (text ++ line) ≡ least_in kinds.Event text
+-- a line that tells no least time of this kind
+abbrev pub TellsNone : ClockKind → List ℕ → Type 0
+TellsNone kind line = (text : List ℕ) → is_whole text ≡ true → least_in kind (text ++ line) ≡ least_in kind text
 
-tells-note : BelowHandsOut → (kind : ClockKind) (t last : ℕ) (line old : List ℕ) → t < 2 ^ 64 - 1 → TellsNone line → is_whole old ≡ true → least_in kinds.Event (old ++ kept_bytes kind t line last) ≡ least_in kinds.Event old
-tells-note laws kind t last line old small none whole = by (nat_le t last)
+tells-note : BelowHandsOut → (k kind : ClockKind) (t last : ℕ) (line old : List ℕ) → t < 2 ^ 64 - 1 → TellsNone k line → is_whole old ≡ true → least_in k (old ++ kept_bytes kind t line last) ≡ least_in k old
+tells-note laws k kind t last line old small none whole = by (nat_le t last)
   where
-    by : (b : Bool) → least_in kinds.Event (old ++ (cond b [] (kept_clock_line kind t) ++ line)) ≡ least_in kinds.Event old
+    by : (b : Bool) → least_in k (old ++ (cond b [] (kept_clock_line kind t) ++ line)) ≡ least_in k old
     by true = none old whole
     by false =
-        ap (least_in kinds.Event) (sym (append_assoc old (kept_clock_line kind t) line))
+        ap (least_in k) (sym (append_assoc old (kept_clock_line kind t) line))
         ∙ none (old ++ kept_clock_line kind t) (laws.kept_clock_whole kind old t)
-        ∙ laws.least_kept_clock kinds.Event kind old t whole small
+        ∙ laws.least_kept_clock k kind old t whole small
 
-pub tells-event : BelowHandsOut → (t : ℕ) (what : EventBody) → t < 2 ^ 64 - 1 → TellsNone (line_of_event t what)
-tells-event laws t what small = λ text whole. laws.least_event kinds.Event text t what.name what.payload whole small
+pub tells-event : BelowHandsOut → (k : ClockKind) (t : ℕ) (what : EventBody) → t < 2 ^ 64 - 1 → TellsNone k (line_of_event t what)
+tells-event laws k t what small = λ text whole. laws.least_event k text t what.name what.payload whole small
 
-pub tells-query : BelowHandsOut → (t id : ℕ) → t < 2 ^ 64 - 1 → id < 2 ^ 32 → TellsNone (query_line t id)
-tells-query laws t id small low = λ text whole. laws.least_query kinds.Event text t id whole small low
+pub tells-query : BelowHandsOut → (k : ClockKind) (t id : ℕ) → t < 2 ^ 64 - 1 → id < 2 ^ 32 → TellsNone k (query_line t id)
+tells-query laws k t id small low = λ text whole. laws.least_query k text t id whole small low
 
 -- a part of some bytes tells no more than all of them
-part-least : BelowHandsOut → (s durable : Option (List ℕ)) (bytes new : List ℕ) (bound : ℕ) → ((old : List ℕ) → s ≡ Some old → least_in kinds.Event (old ++ bytes) ≤ bound) → KeepsPart s bytes durable → durable ≡ Some new → least_in kinds.Event new ≤ bound
-part-least laws None durable bytes new bound all part at = absurd (let none : durable ≡ None = part in cc)
-part-least laws (Some old) None bytes new bound all part at = absurd (cc at)
-part-least laws (Some old) (Some kept) bytes new bound all part at =
+part-least : BelowHandsOut → (k : ClockKind) (s durable : Option (List ℕ)) (bytes new : List ℕ) (bound : ℕ) → ((old : List ℕ) → s ≡ Some old → least_in k (old ++ bytes) ≤ bound) → KeepsPart s bytes durable → durable ≡ Some new → least_in k new ≤ bound
+part-least laws k None durable bytes new bound all part at = absurd (let none : durable ≡ None = part in cc)
+part-least laws k (Some old) None bytes new bound all part at = absurd (cc at)
+part-least laws k (Some old) (Some kept) bytes new bound all part at =
     let n : ℕ = part.0 in
     let is : new ≡ old ++ take part.0 bytes = sym (some-same kept new at) ∙ part.1 in
     let whole : (old ++ take part.0 bytes) ++ drop part.0 bytes ≡ old ++ bytes = append_assoc old (take part.0 bytes) (drop part.0 bytes) ∙ ap (λ (l : List ℕ). old ++ l) (take-append-drop part.0 bytes) in
-    let up : least_in kinds.Event (old ++ take part.0 bytes) ≤ least_in kinds.Event ((old ++ take part.0 bytes) ++ drop part.0 bytes) = laws.kept.durable.least_grows kinds.Event (old ++ take part.0 bytes) (drop part.0 bytes) in
-    let first : least_in kinds.Event new ≡ least_in kinds.Event (old ++ take part.0 bytes) = ap (least_in kinds.Event) is in
-    let last : least_in kinds.Event ((old ++ take part.0 bytes) ++ drop part.0 bytes) ≡ least_in kinds.Event (old ++ bytes) = ap (least_in kinds.Event) whole in
+    let up : least_in k (old ++ take part.0 bytes) ≤ least_in k ((old ++ take part.0 bytes) ++ drop part.0 bytes) = laws.kept.durable.least_grows k (old ++ take part.0 bytes) (drop part.0 bytes) in
+    let first : least_in k new ≡ least_in k (old ++ take part.0 bytes) = ap (least_in k) is in
+    let last : least_in k ((old ++ take part.0 bytes) ++ drop part.0 bytes) ≡ least_in k (old ++ bytes) = ap (least_in k) whole in
     omega (arith, up, first, last, all old refl)
 
+-- what a note appends tells of no least time above what is allowed
+abbrev pub Allows : ClockKind → ℕ → ℕ → SnapshotView → List ℕ → Type 0
+Allows k n t s bytes = (old : List ℕ) → s.durable ≡ Some old → least_in k (old ++ bytes) ≤ allowed k n t s
+
 -- the sink fails at a note
-pub stands-failed : BelowHandsOut → (t : ℕ) (config : Config) (handed stood : List (TimedEntry EventBody)) (i : IdealAgent) (kind : ClockKind) (time : ℕ) (line durable : Option (List ℕ)) → TakesAt t config handed stood i
-    → ((old : List ℕ) → i.snapshot.durable ≡ Some old → least_in kinds.Event (old ++ bytes_with kind time line i.snapshot) ≤ allowed t config i) → MayNote kind time line i.snapshot (Failed durable)
-    → TakesAt t config handed stood (with_snapshot (written kind time i.snapshot (Failed durable)) i)
-stands-failed laws t config handed stood i kind time line durable s all may = follows t config handed stood i (with_snapshot (written kind time i.snapshot (Failed durable)) i) (record {
-  settings = refl;
+pub opens-failed : {K : Type 0} → BelowHandsOut → (k : ClockKind) (n t : ℕ) (handed stood : List (TimedEntry K)) (track : Track K) (s : SnapshotView) (kind : ClockKind) (time : ℕ) (line durable : Option (List ℕ)) → IsOpenAt k n t handed stood track s
+    → Allows k n t s (bytes_with kind time line s) → MayNote kind time line s (Failed durable) → IsOpenAt k n t handed stood track (written kind time s (Failed durable))
+opens-failed laws k n t handed stood track s kind time line durable o all may = follows k n t handed stood track s track (written kind time s (Failed durable)) (record {
   clock = omega arith;
   last = refl;
   history = refl;
   minimum = omega arith;
-  least = λ new at. part-least laws i.snapshot.durable durable (bytes_with kind time line i.snapshot) new (allowed t config i) all (may-part kind i.snapshot time line durable may) at;
-}) s
+  least = λ new at. part-least laws k s.durable durable (bytes_with kind time line s) new (allowed k n t s) all (may-part kind s time line durable may) at;
+}) o
 
 -- what is durable of an agent that runs is whole
-pub whole-durable : (i : IdealAgent) (old : List ℕ) → IsSound i → i.snapshot.stopped ≡ false → i.snapshot.durable ≡ Some old → is_whole old ≡ true
-whole-durable i old s runs is = (s.snapshot old is).whole runs
+pub whole-durable : (s : SnapshotView) (old : List ℕ) → IsSnapshotSound s → s.stopped ≡ false → s.durable ≡ Some old → is_whole old ≡ true
+whole-durable s old sound runs is = (sound old is).whole runs
 
--- what an agent with the setting writes at a note
-note-least : BelowHandsOut → (t : ℕ) (config : Config) (handed stood : List (TimedEntry EventBody)) (i : IdealAgent) (kind : ClockKind) (time : ℕ) (line : List ℕ) → IsSound i → i.snapshot.stopped ≡ false → TakesAt t config handed stood i → time < 2 ^ 64 - 1 → TellsNone line
-    → (old : List ℕ) → i.snapshot.durable ≡ Some old → least_in kinds.Event (old ++ kept_bytes kind time line (last_line kind i.snapshot)) ≤ allowed t config i
-note-least laws t config handed stood i kind time line sound runs s small none old is =
-    let same = tells-note laws kind time (last_line kind i.snapshot) line old small none (whole-durable i old sound runs is) in
-    omega (arith, same, s.least old is)
+-- a line that tells none, at a note
+pub allows : {K : Type 0} → BelowHandsOut → (k : ClockKind) (n t : ℕ) (handed stood : List (TimedEntry K)) (track : Track K) (s : SnapshotView) (kind : ClockKind) (time : ℕ) (line : List ℕ) → IsSnapshotSound s → s.stopped ≡ false → IsOpenAt k n t handed stood track s → time < 2 ^ 64 - 1 → TellsNone k line
+    → Allows k n t s (kept_bytes kind time line (last_line kind s))
+allows laws k n t handed stood track s kind time line sound runs o small none old is =
+    let same = tells-note laws k kind time (last_line kind s) line old small none (whole-durable s old sound runs is) in
+    omega (arith, same, o.least old is)
 
--- the settings keep events
-pub keeps-on : (t : ℕ) (config : Config) (handed stood : List (TimedEntry EventBody)) (i : IdealAgent) → config.keep_events ≡ true → TakesAt t config handed stood i → true ≡ i.config.keep_events
-keeps-on t config handed stood i on s = sym (ap (λ (c : Config). c.keep_events) s.settings ∙ on)
+-- what is durable once it is kept
+kept-least : (k kind : ClockKind) (n t : ℕ) (s : SnapshotView) (time : ℕ) (line new : List ℕ) → Allows k n t s (kept_bytes kind time line (last_line kind s)) → (noted_with kind time (Some line) s Kept).durable ≡ Some new → least_in k new ≤ allowed k n t s
+kept-least k kind n t s time line new all at =
+    let g = grown-durable s.durable (kept_bytes kind time line (last_line kind s)) new at in
+    let same : least_in k (g.0 ++ kept_bytes kind time line (last_line kind s)) ≡ least_in k new = ap (least_in k) g.2 in
+    omega (arith, all g.0 g.1, same)
 
--- ---- an event enters, and a query
+-- ---- what is noted
 
-pub stands-event : BelowHandsOut → (t : ℕ) (config : Config) (handed stood : List (TimedEntry EventBody)) (i : IdealAgent) (time : ℕ) (what : EventBody) → config.keep_events ≡ true → IsSound i → i.snapshot.stopped ≡ false → time < 2 ^ 64 - 1 → TakesAt t config handed stood i
-    → TakesAt t config (handed ++ record { time = time; key = what } ∷ []) stood (with_snapshot (noted_with kinds.Event time (told_event i.config time what) i.snapshot Kept) (event_entered time what i))
-stands-event laws t config handed stood i time what on sound runs small s =
-    subst (λ (b : Bool). TakesAt t config (handed ++ e ∷ []) stood (next b)) (keeps-on t config handed stood i on s) (record {
-      settings = s.settings;
-      last = omega (arith, s.last);
-      known = All-push (λ (p : Past EventBody). IsMet (handed ++ e ∷ []) stood p.entry) i.events.history (record { life = i.life; entry = e })
-          (All-weaker (λ (p : Past EventBody). IsMet handed stood p.entry) (λ (p : Past EventBody). IsMet (handed ++ e ∷ []) stood p.entry) (λ p m. wider-handed handed (e ∷ []) stood p.entry m) i.events.history s.known)
-          (inl (Contains-append_right handed (e ∷ []) e (0, omega arith, refl)));
-      minimum = omega (arith, s.minimum);
-      least = least;
-    })
+-- an entry enters with its line
+pub opens-entered : {K : Type 0} (k : ClockKind) (n t : ℕ) (handed stood : List (TimedEntry K)) (track : Track K) (s : SnapshotView) (life time : ℕ) (what : K) (line : List ℕ) → last_line k (noted_with k time (Some line) s Kept) ≡ max (last_line k s) time → IsOpenAt k n t handed stood track s
+    → Allows k n t s (kept_bytes k time line (last_line k s)) → IsOpenAt k n t (handed ++ record { time = time; key = what } ∷ []) stood (track_entered life time what track) (noted_with k time (Some line) s Kept)
+opens-entered {K} k n t handed stood track s life time what line last o all = record {
+  last = omega (arith, o.last, last);
+  known = All-push (λ (p : Past K). IsMet (handed ++ e ∷ []) stood p.entry) track.history (record { life = life; entry = e })
+      (All-weaker (λ (p : Past K). IsMet handed stood p.entry) (λ (p : Past K). IsMet (handed ++ e ∷ []) stood p.entry) (λ p m. wider-handed handed (e ∷ []) stood p.entry m) track.history o.known)
+      (inl (Contains-append_right handed (e ∷ []) e (0, omega arith, refl)));
+  minimum = omega (arith, o.minimum, last);
+  least = λ new at. let low = kept-least k k n t s time line new all at in omega (arith, low, last);
+}
   where
-    e : TimedEntry EventBody
+    e : TimedEntry K
     e = record { time = time; key = what }
 
-    next : Bool → IdealAgent
-    next b = with_snapshot (noted_with kinds.Event time (cond b (Some (line_of_event time what)) None) i.snapshot Kept) (event_entered time what i)
+-- and a line that enters nothing in this track
+pub opens-noted : {K : Type 0} (k kind : ClockKind) (n t : ℕ) (handed stood : List (TimedEntry K)) (track next : Track K) (s : SnapshotView) (time : ℕ) (line : List ℕ) → track.clock ≤ next.clock → next.history ≡ track.history → next.minimum ≤ max t track.minimum
+    → last_line k (noted_with kind time (Some line) s Kept) ≡ last_line k s → IsOpenAt k n t handed stood track s → Allows k n t s (kept_bytes kind time line (last_line kind s)) → IsOpenAt k n t handed stood next (noted_with kind time (Some line) s Kept)
+opens-noted k kind n t handed stood track next s time line clock history minimum last o all =
+    follows k n t handed stood track s next (noted_with kind time (Some line) s Kept) (record { clock = clock; last = last; history = history; minimum = minimum; least = λ new at. kept-least k kind n t s time line new all at }) o
 
-    least : (new : List ℕ) → (next true).snapshot.durable ≡ Some new → least_in kinds.Event new ≤ allowed t config (next true)
-    least new at =
-        let g = grown-durable i.snapshot.durable (kept_bytes kinds.Event time (line_of_event time what) i.snapshot.event_clock) new at in
-        let low = note-least laws t config handed stood i kinds.Event time (line_of_event time what) sound runs s small (tells-event laws time what small) g.0 g.1 in
-        let same : least_in kinds.Event (g.0 ++ kept_bytes kinds.Event time (line_of_event time what) i.snapshot.event_clock) ≡ least_in kinds.Event new = ap (least_in kinds.Event) g.2 in
-        omega (arith, low, same)
-
-pub stands-event_failed : BelowHandsOut → (t : ℕ) (config : Config) (handed stood : List (TimedEntry EventBody)) (i : IdealAgent) (time : ℕ) (what : EventBody) (durable : Option (List ℕ)) → config.keep_events ≡ true → IsSound i → i.snapshot.stopped ≡ false → time < 2 ^ 64 - 1
-    → TakesAt t config handed stood i → MayNote kinds.Event time (told_event i.config time what) i.snapshot (Failed durable) → TakesAt t config handed stood (with_snapshot (written kinds.Event time i.snapshot (Failed durable)) i)
-stands-event_failed laws t config handed stood i time what durable on sound runs small s may =
-    stands-failed laws t config handed stood i kinds.Event time (told_event i.config time what) durable s
-    (subst (λ (b : Bool). (old : List ℕ) → i.snapshot.durable ≡ Some old → least_in kinds.Event (old ++ bytes_with kinds.Event time (cond b (Some (line_of_event time what)) None) i.snapshot) ≤ allowed t config i) (keeps-on t config handed stood i on s)
-    (note-least laws t config handed stood i kinds.Event time (line_of_event time what) sound runs s small (tells-event laws time what small))) may
-
-pub stands-query : BelowHandsOut → (t : ℕ) (config : Config) (handed stood : List (TimedEntry EventBody)) (i : IdealAgent) (time id : ℕ) → config.keep_events ≡ true → IsSound i → i.snapshot.stopped ≡ false → time < 2 ^ 64 - 1 → id < 2 ^ 32 → TakesAt t config handed stood i
-    → TakesAt t config handed stood (with_snapshot (noted_with kinds.Query time (told_query i.config time id) i.snapshot Kept) (query_entered time id i))
-stands-query laws t config handed stood i time id on sound runs small low s =
-    subst (λ (b : Bool). TakesAt t config handed stood (next b)) (keeps-on t config handed stood i on s) (follows t config handed stood i (next true) (record {
-      settings = refl;
-      clock = omega arith;
-      last = event-noted_query time (Some (query_line time id)) i.snapshot;
-      history = refl;
-      minimum = omega arith;
-      least = least;
-    }) s)
-  where
-    next : Bool → IdealAgent
-    next b = with_snapshot (noted_with kinds.Query time (cond b (Some (query_line time id)) None) i.snapshot Kept) (query_entered time id i)
-
-    least : (new : List ℕ) → (next true).snapshot.durable ≡ Some new → least_in kinds.Event new ≤ allowed t config i
-    least new at =
-        let g = grown-durable i.snapshot.durable (kept_bytes kinds.Query time (query_line time id) i.snapshot.query_clock) new at in
-        let up = note-least laws t config handed stood i kinds.Query time (query_line time id) sound runs s small (tells-query laws time id small low) g.0 g.1 in
-        let same : least_in kinds.Event (g.0 ++ kept_bytes kinds.Query time (query_line time id) i.snapshot.query_clock) ≡ least_in kinds.Event new = ap (least_in kinds.Event) g.2 in
-        omega (arith, up, same)
-
-pub stands-query_failed : BelowHandsOut → (t : ℕ) (config : Config) (handed stood : List (TimedEntry EventBody)) (i : IdealAgent) (time id : ℕ) (durable : Option (List ℕ)) → config.keep_events ≡ true → IsSound i → i.snapshot.stopped ≡ false → time < 2 ^ 64 - 1 → id < 2 ^ 32
-    → TakesAt t config handed stood i → MayNote kinds.Query time (told_query i.config time id) i.snapshot (Failed durable) → TakesAt t config handed stood (with_snapshot (written kinds.Query time i.snapshot (Failed durable)) i)
-stands-query_failed laws t config handed stood i time id durable on sound runs small low s may =
-    stands-failed laws t config handed stood i kinds.Query time (told_query i.config time id) durable s
-    (subst (λ (b : Bool). (old : List ℕ) → i.snapshot.durable ≡ Some old → least_in kinds.Event (old ++ bytes_with kinds.Query time (cond b (Some (query_line time id)) None) i.snapshot) ≤ allowed t config i) (keeps-on t config handed stood i on s)
-    (note-least laws t config handed stood i kinds.Query time (query_line time id) sound runs s small (tells-query laws time id small low))) may
-
--- ---- the member clock's line
-
-pub stands-saved : BelowHandsOut → (t : ℕ) (config : Config) (handed stood : List (TimedEntry EventBody)) (i : IdealAgent) (time : ℕ) → IsSound i → i.snapshot.stopped ≡ false → TakesAt t config handed stood i → TakesAt t config handed stood (with_snapshot (noted kinds.Member time i.snapshot Kept) i)
-stands-saved laws t config handed stood i time sound runs s = follows t config handed stood i (with_snapshot (noted kinds.Member time i.snapshot Kept) i) (record {
-  settings = refl;
+-- the member clock's line
+pub opens-saved : {K : Type 0} → BelowHandsOut → (k : ClockKind) (n t : ℕ) (handed stood : List (TimedEntry K)) (track : Track K) (s : SnapshotView) (time : ℕ) → k ≢ kinds.Member → last_line k (noted kinds.Member time s Kept) ≡ last_line k s → IsSnapshotSound s → s.stopped ≡ false → IsOpenAt k n t handed stood track s
+    → IsOpenAt k n t handed stood track (noted kinds.Member time s Kept)
+opens-saved laws k n t handed stood track s time other last sound runs o = follows k n t handed stood track s track (noted kinds.Member time s Kept) (record {
   clock = omega arith;
-  last = event-noted_member time i.snapshot;
+  last = last;
   history = refl;
   minimum = omega arith;
-  least = by (nat_le time i.snapshot.member_clock);
-}) s
+  least = by (nat_le time s.member_clock);
+}) o
   where
-    by : (b : Bool) (new : List ℕ) → (cond b i.snapshot (written kinds.Member time i.snapshot Kept)).durable ≡ Some new → least_in kinds.Event new ≤ allowed t config i
-    by true new at = s.least new at
+    by : (b : Bool) (new : List ℕ) → (cond b s (written kinds.Member time s Kept)).durable ≡ Some new → least_in k new ≤ allowed k n t s
+    by true new at = o.least new at
     by false new at =
-        let g = grown-durable i.snapshot.durable (clock_line kinds.Member time) new at in
-        let none = laws.least_other_clock kinds.Event kinds.Member g.0 time (whole-durable i g.0 sound runs g.1) (λ e. event-no_member e) in
-        let same : least_in kinds.Event (g.0 ++ clock_line kinds.Member time) ≡ least_in kinds.Event new = ap (least_in kinds.Event) g.2 in
-        omega (arith, none, same, s.least g.0 g.1)
+        let g = grown-durable s.durable (clock_line kinds.Member time) new at in
+        let none = laws.least_other_clock k kinds.Member g.0 time (whole-durable s g.0 sound runs g.1) other in
+        let same : least_in k (g.0 ++ clock_line kinds.Member time) ≡ least_in k new = ap (least_in k) g.2 in
+        omega (arith, none, same, o.least g.0 g.1)
 
-pub stands-saved_failed : BelowHandsOut → (t : ℕ) (config : Config) (handed stood : List (TimedEntry EventBody)) (i : IdealAgent) (time : ℕ) (durable : Option (List ℕ)) → IsSound i → i.snapshot.stopped ≡ false → TakesAt t config handed stood i
-    → MayNote kinds.Member time None i.snapshot (Failed durable) → TakesAt t config handed stood (with_snapshot (written kinds.Member time i.snapshot (Failed durable)) i)
-stands-saved_failed laws t config handed stood i time durable sound runs s may = stands-failed laws t config handed stood i kinds.Member time None durable s
-    (λ old is. let none = laws.least_other_clock kinds.Event kinds.Member old time (whole-durable i old sound runs is) (λ e. event-no_member e) in omega (arith, none, s.least old is)) may
+pub allows-saved : {K : Type 0} → BelowHandsOut → (k : ClockKind) (n t : ℕ) (handed stood : List (TimedEntry K)) (track : Track K) (s : SnapshotView) (time : ℕ) → k ≢ kinds.Member → IsSnapshotSound s → s.stopped ≡ false → IsOpenAt k n t handed stood track s → Allows k n t s (clock_line kinds.Member time)
+allows-saved laws k n t handed stood track s time other sound runs o = λ old is. let none = laws.least_other_clock k kinds.Member old time (whole-durable s old sound runs is) other in omega (arith, none, o.least old is)
 
--- ---- a push/pull
+-- ---- the line of a join
 
--- a join that ignores old events raises no least time above t
-join-minimum : (t : ℕ) (i : IdealAgent) (m : PushPull) (b : Bool) → (b ≡ true → m.event_clock ≤ t) → max i.events.minimum (cond b m.event_clock 0) ≤ max t i.events.minimum
-join-minimum t i m true told = omega (arith, told refl)
-join-minimum t i m false told = omega arith
-
-stands-joined : (t : ℕ) (config : Config) (handed stood : List (TimedEntry EventBody)) (i : IdealAgent) (m : PushPull) (is_join : Bool) → ((is_join && i.config.ignore_old) ≡ true → m.event_clock ≤ t) → TakesAt t config handed stood i → TakesAt t config handed stood (joined m is_join i)
-stands-joined t config handed stood i m is_join told s = follows t config handed stood i (joined m is_join i) (record {
-  settings = refl;
-  clock = omega arith;
-  last = refl;
-  history = refl;
-  minimum = join-minimum t i m (is_join && i.config.ignore_old) told;
-  least = s.least;
-}) s
-
--- its line tells its own least time
+-- it tells its own least time of events
 pub tells-own : BelowHandsOut → (least last : ℕ) (old : List ℕ) → least ≤ 2 ^ 64 - 1 → is_whole old ≡ true → least_in kinds.Event (old ++ kept_bytes kinds.Event 0 (least_line kinds.Event least) last) ≡ max (least_in kinds.Event old) least
 tells-own laws least last old small whole = by (nat_le 0 last)
   where
@@ -266,133 +217,118 @@ tells-own laws least last old small whole = by (nat_le 0 last)
         ∙ laws.least_own kinds.Event (old ++ kept_clock_line kinds.Event 0) least (laws.kept_clock_whole kinds.Event old 0) small
         ∙ ap (λ (x : ℕ). max x least) front
 
-pub stands-heard : BelowHandsOut → (t : ℕ) (config : Config) (handed stood : List (TimedEntry EventBody)) (i : IdealAgent) (m : PushPull) (is_join : Bool) (w : Writing) → IsSound i → m.event_clock ≤ 2 ^ 64 - 1 → ((is_join && i.config.ignore_old) ≡ true → m.event_clock ≤ t) → TakesAt t config handed stood i
-    → MayAct i (Hears m is_join w) → TakesAt t config handed stood (after i (Hears m is_join w))
-stands-heard laws t config handed stood i m is_join w sound small told s may = by (i.config.keep_events && (is_join && i.config.ignore_old)) refl w may.0 may.2
-  where
-    line : List ℕ
-    line = least_line kinds.Event m.event_clock
-
-    low : (i.config.keep_events && (is_join && i.config.ignore_old)) ≡ true → i.snapshot.stopped ≡ false → (old : List ℕ) → i.snapshot.durable ≡ Some old
-        → least_in kinds.Event (old ++ kept_bytes kinds.Event 0 (least_line kinds.Event m.event_clock) i.snapshot.event_clock) ≤ allowed t config i
-    low on runs old is =
-        let own = tells-own laws m.event_clock i.snapshot.event_clock old small (whole-durable i old sound runs is) in
-        let under = told (and_parts i.config.keep_events (is_join && i.config.ignore_old) on).1 in
-        omega (arith, own, under, s.least old is)
-
-    next : IdealAgent
-    next = with_snapshot (noted_with kinds.Event 0 (Some line) i.snapshot Kept) (joined m is_join i)
-
-    by : (b : Bool) → (i.config.keep_events && (is_join && i.config.ignore_old)) ≡ b → (w : Writing) → (let call = heard_by (cond b (Some (least_line kinds.Event m.event_clock)) None) i m is_join in MayEnd i call w → (AsksSink call → i.snapshot.stopped ≡ false) → TakesAt t config handed stood (ended i call w).agent)
-    by false is w ends runs = stands-joined t config handed stood i m is_join told s
-    by true is Kept ends runs = follows t config handed stood i next (record {
-      settings = refl;
-      clock = omega arith;
-      last = let same : max i.snapshot.event_clock 0 ≡ i.snapshot.event_clock = omega arith in same;
-      history = refl;
-      minimum = join-minimum t i m (is_join && i.config.ignore_old) told;
-      least = λ new at.
-          let g = grown-durable i.snapshot.durable (kept_bytes kinds.Event 0 line i.snapshot.event_clock) new at in
-          let same : least_in kinds.Event (g.0 ++ kept_bytes kinds.Event 0 line i.snapshot.event_clock) ≡ least_in kinds.Event new = ap (least_in kinds.Event) g.2 in
-          omega (arith, low is (runs tt) g.0 g.1, same);
-    }) s
-    by true is (Failed durable) ends runs = stands-failed laws t config handed stood i kinds.Event 0 (Some line) durable s (low is (runs tt)) ends
+-- and none of queries
+pub tells-join : BelowHandsOut → (least : ℕ) → least ≤ 2 ^ 64 - 1 → TellsNone kinds.Query (least_line kinds.Event least)
+tells-join laws least small = λ text whole. laws.least_other kinds.Query kinds.Event text least whole small query-no_event
 
 -- ---- a compaction
 
 -- what a line tells of an entry, and that it is whole
-abbrev Told : {K : Type 0} → (ℕ → K → List ℕ) → TimedEntry K → Type 0
-Told line e = TellsNone (line e.time e.key) × (is_whole (line e.time e.key) ≡ true)
+abbrev Told : {K : Type 0} → ClockKind → (ℕ → K → List ℕ) → TimedEntry K → Type 0
+Told k line e = TellsNone k (line e.time e.key) × (is_whole (line e.time e.key) ≡ true)
 
-told-lines : {K : Type 0} → BelowHandsOut → (line : ℕ → K → List ℕ) (es : List (TimedEntry K)) (text : List ℕ) → is_whole text ≡ true → All (Told line) es
-    → (least_in kinds.Event (text ++ lines_told line es) ≡ least_in kinds.Event text) × (is_whole (text ++ lines_told line es) ≡ true)
-told-lines {K} laws line [] text whole told = (ap (least_in kinds.Event) (append-nil text), ap is_whole (append-nil text) ∙ whole)
-told-lines {K} laws line (e ∷ es) text whole told =
-    let one = All-head (Told line) e es told in
+told-lines : {K : Type 0} → BelowHandsOut → (k : ClockKind) (line : ℕ → K → List ℕ) (es : List (TimedEntry K)) (text : List ℕ) → is_whole text ≡ true → All (Told k line) es
+    → (least_in k (text ++ lines_told line es) ≡ least_in k text) × (is_whole (text ++ lines_told line es) ≡ true)
+told-lines {K} laws k line [] text whole told = (ap (least_in k) (append-nil text), ap is_whole (append-nil text) ∙ whole)
+told-lines {K} laws k line (e ∷ es) text whole told =
+    let one = All-head (Told k line) e es told in
     let joined : (text ++ line e.time e.key) ++ lines_told line es ≡ text ++ lines_told line (e ∷ es) = append_assoc text (line e.time e.key) (lines_told line es) in
-    let rest = told-lines laws line es (text ++ line e.time e.key) (laws.whole text (line e.time e.key) whole one.1) (All-tail (Told line) e es told) in
-    (ap (least_in kinds.Event) (sym joined) ∙ rest.0 ∙ one.0 text whole, ap is_whole (sym joined) ∙ rest.1)
+    let rest = told-lines laws k line es (text ++ line e.time e.key) (laws.whole text (line e.time e.key) whole one.1) (All-tail (Told k line) e es told) in
+    (ap (least_in k) (sym joined) ∙ rest.0 ∙ one.0 text whole, ap is_whole (sym joined) ∙ rest.1)
 
-event-lines : BelowHandsOut → (n life least : ℕ) (history : List (Past EventBody)) → AreTold IsTold history → All (Told line_of_event) (held_from least (slots_of n (of_life life history)))
-event-lines laws n life least history told = only-entered laws.event_slots n life least history (Told line_of_event)
-    (All-weaker (λ (p : Past EventBody). (0 < p.entry.time) × (p.entry.time < 2 ^ 64 - 1) × IsTold p.entry.key) (λ (p : Past EventBody). Told line_of_event p.entry)
-    (λ p h. (tells-event laws p.entry.time p.entry.key h.1, (laws.event_whole p.entry.time p.entry.key.name p.entry.key.payload).whole)) history told)
+event-lines : BelowHandsOut → (k : ClockKind) (n life least : ℕ) (history : List (Past EventBody)) → AreTold IsTold history → All (Told k line_of_event) (held_from least (slots_of n (of_life life history)))
+event-lines laws k n life least history told = only-entered laws.event_slots n life least history (Told k line_of_event)
+    (All-weaker (λ (p : Past EventBody). (0 < p.entry.time) × (p.entry.time < 2 ^ 64 - 1) × IsTold p.entry.key) (λ (p : Past EventBody). Told k line_of_event p.entry)
+    (λ p h. (tells-event laws k p.entry.time p.entry.key h.1, (laws.event_whole p.entry.time p.entry.key.name p.entry.key.payload).whole)) history told)
 
-query-lines : BelowHandsOut → (n life least : ℕ) (history : List (Past ℕ)) → AreTold IsIdTold history → All (Told query_line) (held_from least (slots_of n (of_life life history)))
-query-lines laws n life least history told = only-entered laws.query_slots n life least history (Told query_line)
-    (All-weaker (λ (p : Past ℕ). (0 < p.entry.time) × (p.entry.time < 2 ^ 64 - 1) × IsIdTold p.entry.key) (λ (p : Past ℕ). Told query_line p.entry)
-    (λ p h. (tells-query laws p.entry.time p.entry.key h.1 h.2, (laws.query_whole p.entry.time p.entry.key).whole)) history told)
+query-lines : BelowHandsOut → (k : ClockKind) (n life least : ℕ) (history : List (Past ℕ)) → AreTold IsIdTold history → All (Told k query_line) (held_from least (slots_of n (of_life life history)))
+query-lines laws k n life least history told = only-entered laws.query_slots n life least history (Told k query_line)
+    (All-weaker (λ (p : Past ℕ). (0 < p.entry.time) × (p.entry.time < 2 ^ 64 - 1) × IsIdTold p.entry.key) (λ (p : Past ℕ). Told k query_line p.entry)
+    (λ p h. (tells-query laws k p.entry.time p.entry.key h.1 h.2, (laws.query_whole p.entry.time p.entry.key).whole)) history told)
 
 -- the clock lines behind
-behind-least : BelowHandsOut → (text : List ℕ) (m e q : ℕ) → is_whole text ≡ true → e < 2 ^ 64 - 1 → q < 2 ^ 64 - 1
-    → least_in kinds.Event (((text ++ line_above_zero kinds.Member m) ++ kept_line_above_zero kinds.Event e) ++ kept_line_above_zero kinds.Query q) ≡ least_in kinds.Event text
-behind-least laws text m e q whole small_e small_q =
+behind-least : BelowHandsOut → (k : ClockKind) (text : List ℕ) (m e q : ℕ) → k ≢ kinds.Member → is_whole text ≡ true → e < 2 ^ 64 - 1 → q < 2 ^ 64 - 1
+    → least_in k (((text ++ line_above_zero kinds.Member m) ++ kept_line_above_zero kinds.Event e) ++ kept_line_above_zero kinds.Query q) ≡ least_in k text
+behind-least laws k text m e q other whole small_e small_q =
     let first = member (m == 0) in
     let second = kept kinds.Event e (text ++ line_above_zero kinds.Member m) (e == 0) first.1 small_e in
     let third = kept kinds.Query q ((text ++ line_above_zero kinds.Member m) ++ kept_line_above_zero kinds.Event e) (q == 0) second.1 small_q in
     third.0 ∙ second.0 ∙ first.0
   where
-    member : (b : Bool) → (least_in kinds.Event (text ++ cond b [] (clock_line kinds.Member m)) ≡ least_in kinds.Event text) × (is_whole (text ++ cond b [] (clock_line kinds.Member m)) ≡ true)
-    member true = (ap (least_in kinds.Event) (append-nil text), ap is_whole (append-nil text) ∙ whole)
-    member false = (laws.least_other_clock kinds.Event kinds.Member text m whole (λ e. event-no_member e), laws.clock_whole kinds.Member text m)
+    member : (b : Bool) → (least_in k (text ++ cond b [] (clock_line kinds.Member m)) ≡ least_in k text) × (is_whole (text ++ cond b [] (clock_line kinds.Member m)) ≡ true)
+    member true = (ap (least_in k) (append-nil text), ap is_whole (append-nil text) ∙ whole)
+    member false = (laws.least_other_clock k kinds.Member text m whole other, laws.clock_whole kinds.Member text m)
 
-    kept : (k : ClockKind) (t : ℕ) (front : List ℕ) (b : Bool) → is_whole front ≡ true → t < 2 ^ 64 - 1
-        → (least_in kinds.Event (front ++ cond b [] (kept_clock_line k t)) ≡ least_in kinds.Event front) × (is_whole (front ++ cond b [] (kept_clock_line k t)) ≡ true)
-    kept k t front true w small = (ap (least_in kinds.Event) (append-nil front), ap is_whole (append-nil front) ∙ w)
-    kept k t front false w small = (laws.least_kept_clock kinds.Event k front t w small, laws.kept_clock_whole k front t)
+    kept : (j : ClockKind) (t : ℕ) (front : List ℕ) (b : Bool) → is_whole front ≡ true → t < 2 ^ 64 - 1
+        → (least_in k (front ++ cond b [] (kept_clock_line j t)) ≡ least_in k front) × (is_whole (front ++ cond b [] (kept_clock_line j t)) ≡ true)
+    kept j t front true w small = (ap (least_in k) (append-nil front), ap is_whole (append-nil front) ∙ w)
+    kept j t front false w small = (laws.least_kept_clock k j front t w small, laws.kept_clock_whole j front t)
 
-pub compaction-least : BelowHandsOut → (i : IdealAgent) → IsDurable i → least_in kinds.Event (kept_compaction_of (kept_lines (view_of i)) i.snapshot) ≡ max 1 (least_told i.config.event_buffer i.snapshot.event_clock i.events.minimum)
-compaction-least laws i h =
-    let s = i.snapshot in
+-- the least time of a kind that a compaction tells
+abbrev least_of : ClockKind → IdealAgent → ℕ
+least_of kinds.Member i = 0
+least_of kinds.Event i = least_told i.config.event_buffer i.snapshot.event_clock i.events.minimum
+least_of kinds.Query i = least_told i.config.query_buffer i.snapshot.query_clock i.queries.minimum
+
+-- what the two least lines tell of a kind, before the second and behind it
+record LinesTell (k : ClockKind) (i : IdealAgent) : Type 0 where
+  first : ℕ
+  one : least_in k (least_line kinds.Event (least_told i.config.event_buffer i.snapshot.event_clock i.events.minimum)) ≡ first
+  two : (text : List ℕ) → is_whole text ≡ true → least_in k text ≡ first → least_in k (text ++ least_line kinds.Query (least_told i.config.query_buffer i.snapshot.query_clock i.queries.minimum)) ≡ max 1 (least_of k i)
+
+compaction-least : BelowHandsOut → (k : ClockKind) (i : IdealAgent) → k ≢ kinds.Member → IsDurable i → LinesTell k i → least_in k (kept_compaction_of (kept_lines (view_of i)) i.snapshot) ≡ max 1 (least_of k i)
+compaction-least laws k i other h tell =
     let least : ℕ = least_told i.config.event_buffer i.snapshot.event_clock i.events.minimum in
     let least_query : ℕ = least_told i.config.query_buffer i.snapshot.query_clock i.queries.minimum in
     let held : List (TimedEntry EventBody) = held_from least (slots_of i.config.event_buffer (of_life i.life i.events.history)) in
     let held_queries : List (TimedEntry ℕ) = held_from least_query (slots_of i.config.query_buffer (of_life i.life i.queries.history)) in
+    let events = told-lines laws k line_of_event held (least_line kinds.Event least) (laws.least_whole kinds.Event least).whole (event-lines laws k i.config.event_buffer i.life least i.events.history h.events_told) in
+    let ev : List ℕ = least_line kinds.Event least ++ lines_told line_of_event held in
+    let own : least_in k (ev ++ least_line kinds.Query least_query) ≡ max 1 (least_of k i) = tell.two ev events.1 (events.0 ∙ tell.one) in
+    let whole : is_whole (ev ++ least_line kinds.Query least_query) ≡ true = laws.whole ev (least_line kinds.Query least_query) events.1 (laws.least_whole kinds.Query least_query).whole in
+    let queries = told-lines laws k query_line held_queries (ev ++ least_line kinds.Query least_query) whole (query-lines laws k i.config.query_buffer i.life least_query i.queries.history h.queries_told) in
+    let joined : (ev ++ least_line kinds.Query least_query) ++ lines_told query_line held_queries ≡ kept_lines (view_of i) = append_assoc ev (least_line kinds.Query least_query) (lines_told query_line held_queries) in
+    let lines : least_in k (kept_lines (view_of i)) ≡ max 1 (least_of k i) = ap (least_in k) (sym joined) ∙ queries.0 ∙ own in
+    behind-least laws k (kept_lines (view_of i)) i.snapshot.member_clock i.snapshot.event_clock i.snapshot.query_clock other (ap is_whole (sym joined) ∙ queries.1) h.times.event_clock h.times.query_clock ∙ lines
+
+pub compaction-events : BelowHandsOut → (i : IdealAgent) → IsDurable i → least_in kinds.Event (kept_compaction_of (kept_lines (view_of i)) i.snapshot) ≡ max 1 (least_told i.config.event_buffer i.snapshot.event_clock i.events.minimum)
+compaction-events laws i h =
+    let least : ℕ = least_told i.config.event_buffer i.snapshot.event_clock i.events.minimum in
+    let least_query : ℕ = least_told i.config.query_buffer i.snapshot.query_clock i.queries.minimum in
     let bound : least ≤ 2 ^ 64 - 1 = omega (arith, h.events_least.1, h.times.event_clock) in
     let bound_query : least_query ≤ 2 ^ 64 - 1 = omega (arith, h.queries_least.1, h.times.query_clock) in
-    let front : List ℕ = least_line kinds.Event least in
-    let own : least_in kinds.Event (least_line kinds.Event least) ≡ max 1 least = laws.least_own kinds.Event [] least refl bound in
-    let events = told-lines laws line_of_event held (least_line kinds.Event least) (laws.least_whole kinds.Event least).whole (event-lines laws i.config.event_buffer i.life least i.events.history h.events_told) in
-    let ev : List ℕ = least_line kinds.Event least ++ lines_told line_of_event held in
-    let other : least_in kinds.Event (ev ++ least_line kinds.Query least_query) ≡ least_in kinds.Event ev = laws.least_other kinds.Event kinds.Query ev least_query events.1 bound_query (λ e. event-no_query e) in
-    let whole : is_whole (ev ++ least_line kinds.Query least_query) ≡ true = laws.whole ev (least_line kinds.Query least_query) events.1 (laws.least_whole kinds.Query least_query).whole in
-    let queries = told-lines laws query_line held_queries (ev ++ least_line kinds.Query least_query) whole (query-lines laws i.config.query_buffer i.life least_query i.queries.history h.queries_told) in
-    let joined : (ev ++ least_line kinds.Query least_query) ++ lines_told query_line held_queries ≡ kept_lines (view_of i) = append_assoc ev (least_line kinds.Query least_query) (lines_told query_line held_queries) in
-    let lines : least_in kinds.Event (kept_lines (view_of i)) ≡ max 1 least = ap (least_in kinds.Event) (sym joined) ∙ queries.0 ∙ other ∙ events.0 ∙ own in
-    behind-least laws (kept_lines (view_of i)) i.snapshot.member_clock i.snapshot.event_clock i.snapshot.query_clock (ap is_whole (sym joined) ∙ queries.1) h.times.event_clock h.times.query_clock ∙ lines
+    compaction-least laws kinds.Event i event-no_member h (record {
+      first = max 1 least;
+      one = laws.least_own kinds.Event [] least refl bound;
+      two = λ text whole is. laws.least_other kinds.Event kinds.Query text least_query whole bound_query event-no_query ∙ is;
+    })
 
-pub stands-compacted : BelowHandsOut → (t : ℕ) (config : Config) (handed stood : List (TimedEntry EventBody)) (i : IdealAgent) (w : Writing) → config.keep_events ≡ true → 0 < t → IsDurable i → TakesAt t config handed stood i
-    → (let text = text_with (told_lines (view_of i)) i.snapshot in MayReplaceBy text i.snapshot w → TakesAt t config handed stood (with_snapshot (text_replaced text i.snapshot w) i))
-stands-compacted laws t config handed stood i w on some h s =
-    subst (λ (b : Bool). (let text = text_with (cond b (Some (kept_lines (view_of i))) None) i.snapshot in MayReplaceBy text i.snapshot w → TakesAt t config handed stood (with_snapshot (text_replaced text i.snapshot w) i)))
-    (keeps-on t config handed stood i on s) (by w)
+pub compaction-queries : BelowHandsOut → (i : IdealAgent) → IsDurable i → least_in kinds.Query (kept_compaction_of (kept_lines (view_of i)) i.snapshot) ≡ max 1 (least_told i.config.query_buffer i.snapshot.query_clock i.queries.minimum)
+compaction-queries laws i h =
+    let least : ℕ = least_told i.config.event_buffer i.snapshot.event_clock i.events.minimum in
+    let least_query : ℕ = least_told i.config.query_buffer i.snapshot.query_clock i.queries.minimum in
+    let bound : least ≤ 2 ^ 64 - 1 = omega (arith, h.events_least.1, h.times.event_clock) in
+    let bound_query : least_query ≤ 2 ^ 64 - 1 = omega (arith, h.queries_least.1, h.times.query_clock) in
+    compaction-least laws kinds.Query i query-no_member h (record {
+      first = 1;
+      one = laws.least_other kinds.Query kinds.Event [] least refl bound query-no_event;
+      two = λ text whole is. laws.least_own kinds.Query text least_query whole bound_query ∙ ap (λ (x : ℕ). max x least_query) is;
+    })
+
+pub opens-compacted : {K : Type 0} (k : ClockKind) (n t : ℕ) (handed stood : List (TimedEntry K)) (track : Track K) (s : SnapshotView) (text : List ℕ) (w : Writing) → 0 < t → least_in k text ≡ max 1 (least_told n (last_line k s) track.minimum) → IsOpenAt k n t handed stood track s → MayReplaceBy text s w
+    → IsOpenAt k n t handed stood track (text_replaced text s w)
+opens-compacted {K} k n t handed stood track s text w some is o = by w
   where
-    text : List ℕ
-    text = kept_compaction_of (kept_lines (view_of i)) i.snapshot
+    low : least_in k text ≤ allowed k n t s
+    low = omega (arith, is, some, o.minimum)
 
-    low : least_in kinds.Event text ≤ allowed t config i
-    low =
-        let same : i.config.event_buffer ≡ config.event_buffer = ap (λ (c : Config). c.event_buffer) s.settings in
-        omega (arith, compaction-least laws i h, same, some, s.minimum)
+    one-of : (new : List ℕ) → (s.durable ≡ Some new) ⊎ (text ≡ new) → least_in k new ≤ allowed k n t s
+    one-of new (inl old) = o.least new old
+    one-of new (inr is) = let same : least_in k text ≡ least_in k new = ap (least_in k) is in omega (arith, same, low)
 
-    one-of : (new : List ℕ) → (i.snapshot.durable ≡ Some new) ⊎ (text ≡ new) → least_in kinds.Event new ≤ allowed t config i
-    one-of new (inl old) = s.least new old
-    one-of new (inr is) = let same : least_in kinds.Event text ≡ least_in kinds.Event new = ap (least_in kinds.Event) is in omega (arith, same, low)
+    left : (u : SnapshotView) → last_line k u ≡ last_line k s → ((new : List ℕ) → u.durable ≡ Some new → (s.durable ≡ Some new) ⊎ (text ≡ new)) → IsOpenAt k n t handed stood track u
+    left u last either = follows k n t handed stood track s track u (record { clock = omega arith; last = last; history = refl; minimum = omega arith; least = λ new at. one-of new (either new at) }) o
 
-    by : (w : Writing) → MayReplaceBy text i.snapshot w → TakesAt t config handed stood (with_snapshot (text_replaced text i.snapshot w) i)
-    by Kept may = follows t config handed stood i (with_snapshot (text_replaced text i.snapshot Kept) i) (record {
-      settings = refl;
-      clock = omega arith;
-      last = refl;
-      history = refl;
-      minimum = omega arith;
-      least = λ new at. one-of new (inr (replaced-by i.snapshot.durable text new at));
-    }) s
-    by (Failed durable) may = follows t config handed stood i (with_snapshot (text_replaced text i.snapshot (Failed durable)) i) (record {
-      settings = refl;
-      clock = omega arith;
-      last = refl;
-      history = refl;
-      minimum = omega arith;
-      least = λ new at. one-of new (either i.snapshot.durable durable text new may.0 at);
-    }) s
+    by : (w : Writing) → MayReplaceBy text s w → IsOpenAt k n t handed stood track (text_replaced text s w)
+    by Kept may = left (text_replaced text s Kept) refl (λ new at. inr (replaced-by s.durable text new at))
+    by (Failed durable) may = left (text_replaced text s (Failed durable)) refl (λ new at. either s.durable durable text new may.0 at)

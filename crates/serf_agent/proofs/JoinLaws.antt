@@ -29,7 +29,7 @@ use Rattle.serf_agent.specs.States.{handed_by, heard_by, joined, told_least, tol
 use Rattle.serf_agent.specs.Told.{MayNote, bytes_with, noted_with, text_with}
 use Rattle.serf_agent.specs.View.{view_of}
 use Rattle.serf_agent.proofs.DurableLaws.{either, opened-durable, replaced-by}
-use Rattle.serf_agent.proofs.HandsOutLaws.{BelowHandsOut, compaction-least, tells-own, whole-durable}
+use Rattle.serf_agent.proofs.HandsOutLaws.{BelowHandsOut, compaction-events, tells-own, whole-durable}
 use Rattle.serf_agent.proofs.KeptLifeLaws.{admitted-from, begins_durable, may-go, stays_durable}
 use Rattle.serf_agent.proofs.KeptStepLaws.{grown-durable, part-durable}
 use Rattle.serf_agent.proofs.LifeLaws.{keeps-first, moves}
@@ -195,7 +195,7 @@ replaced laws least i w d h =
 
     one-of : (new : List ℕ) → (i.snapshot.durable ≡ Some new) ⊎ (text ≡ new) → least ≤ least_in kinds.Event new
     one-of new (inl old) = h.durable new old
-    one-of new (inr is) = let same : least_in kinds.Event text ≡ least_in kinds.Event new = ap (least_in kinds.Event) is in omega (arith, compaction-least laws i d, same, h.minimum)
+    one-of new (inr is) = let same : least_in kinds.Event text ≡ least_in kinds.Event new = ap (least_in kinds.Event) is in omega (arith, compaction-events laws i d, same, h.minimum)
 
     by : (w : Writing) → MayReplaceBy text i.snapshot w → Remembers least (with_snapshot (text_replaced text i.snapshot w) i)
     by Kept may = record { keeps = h.keeps; minimum = h.minimum; durable = λ new at. one-of new (inr (replaced-by i.snapshot.durable text new at)) }
@@ -267,7 +267,7 @@ sets laws i m keeps ignores sound go = subst (λ (b : Bool). (AsksSink (heard_by
       minimum = raised i.config.ignore_old ignores;
       durable = λ new at.
           let g = grown-durable i.snapshot.durable (kept_bytes kinds.Event 0 line i.snapshot.event_clock) new at in
-          let own = tells-own laws m.event_clock i.snapshot.event_clock g.0 go.1 (whole-durable i g.0 sound (runs tt) g.1) in
+          let own = tells-own laws m.event_clock i.snapshot.event_clock g.0 go.1 (whole-durable i.snapshot g.0 sound.snapshot (runs tt) g.1) in
           let same : least_in kinds.Event (g.0 ++ kept_bytes kinds.Event 0 line i.snapshot.event_clock) ≡ least_in kinds.Event new = ap (least_in kinds.Event) g.2 in
           omega (arith, own, same);
     }

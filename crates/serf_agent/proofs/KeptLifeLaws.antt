@@ -269,7 +269,7 @@ begins_durable laws config text d = opens laws.durable (unopened config (opened 
     })
 
 -- sound, and durable
-durable-lived : BelowKeptLives → (acts : List Act) (s : Lived) → IsSound s.agent → IsDurable s.agent → MayLive s.agent acts → MayKeepLives s.agent acts → IsDurable (lived s acts).agent
+pub durable-lived : BelowKeptLives → (acts : List Act) (s : Lived) → IsSound s.agent → IsDurable s.agent → MayLive s.agent acts → MayKeepLives s.agent acts → IsDurable (lived s acts).agent
 durable-lived laws [] s sound h may told = h
 durable-lived laws (a ∷ rest) s sound h may told =
     durable-lived laws rest (acted s a) (moves laws.life s.agent a sound may.0).sound (stays_durable laws s.agent a sound h may.0 told.0) may.1 told.1

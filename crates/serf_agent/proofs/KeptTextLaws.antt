@@ -97,7 +97,7 @@ reads_events = record {
   longer = λ a b key up h. omega arith;
 }
 
-reads_queries : Reads is_query_wanted query_entry IsIdShort
+pub reads_queries : Reads is_query_wanted query_entry IsIdShort
 reads_queries = record {
   passes = λ w d from below short. and_from _ _ (le-leb w.from d.time from) (lt-ltb d.time w.below below);
   from = λ w d h. leb-true _ _ (and_parts _ _ h).0;

@@ -26,8 +26,11 @@ pub mod UnkeptLaws
 pub mod DurableLaws
 pub mod KeptLifeLaws
 pub mod MetLaws
+pub mod ActMoves
 pub mod HandsOutLaws
 pub mod OfferLaws
 pub mod HandsOutLives
+pub mod SaidQueries
 pub mod JoinLaws
 pub mod WrongLives
+pub mod UnseenLaws

@@ -1,5 +1,5 @@
 -- What each call leaves of an ideal agent's history, and so what is handed out over all lives.
-use Rattle.serf_agent.proofs.Names.{◌≡◌, ◌≢◌, ℕ, ◌-◌, ◌^◌, ◌<◌, ◌≤◌, ◌++◌, ◌∷◌, [], nat_le, cond, Bool, true, false, List, Option, Some, None, Result, Ok, Err, map, refl, sym, ap, subst, ◌∙◌, append-nil, arith, All, AllPairs, leb-false, All-cons, All-head, All-nil, All-pop, All-push, All-tail, All-weaker, all_pairs_push, WireFault, EventBody, decoded, Message, PushPull, Query, QueryResponse, user_event, query, query_response, push_pull, foreign, InRange, event_of, TimedEntry, ClockKind, last_clock, Device, Writing, Kept, Failed, opened}
+use Rattle.serf_agent.proofs.Names.{◌≡◌, ◌≢◌, ℕ, ◌-◌, ◌^◌, ◌<◌, ◌≤◌, ◌++◌, ◌∷◌, [], nat_le, cond, Bool, true, false, List, Option, Some, None, Result, Ok, Err, map, refl, sym, ap, subst, ◌∙◌, append-nil, arith, All, leb-false, All-cons, All-head, All-nil, All-pop, All-push, All-tail, All-weaker, all_pairs_push, WireFault, EventBody, decoded, Message, PushPull, Query, QueryResponse, user_event, query, query_response, push_pull, foreign, InRange, event_of, TimedEntry, ClockKind, last_clock, Device, Writing, Kept, Failed, opened}
 use Rattle.serf_wire.specs.Laws.{DecodesInRange}
 use Rattle.serf_snap.specs.declared.kind.ClockKind.TheVariants as kinds
 use Rattle.std.specs.Prelude.{Contains}
@@ -29,6 +29,7 @@ use Rattle.serf_agent.specs.Lives.{Act, Fires, Asks, Gets, Hears, Takes, Saves, 
 use Rattle.serf_agent.specs.Queries.{all_pass, answer_ignore_reason, asked_at, counts_where, handed_query, is_ack, is_full, is_no_timeout, is_too_large_query, query_admission, query_at, query_fault, query_fired_as, query_observed, query_received_as, response_received_as, response_received_at, told_query}
 use Rattle.serf_agent.specs.Receive.{receive_message, receive_read}
 use Rattle.serf_agent.specs.Restart.{HasPast, IsInText, restarted, restarted_by, unopened}
+use Rattle.serf_agent.specs.Once.{AsksBehind, BeginsOnce, BeginsSound, FiresBehind, IsOnce, StaysOnce, StepsSound}
 use Rattle.serf_agent.specs.Sound.{IsSound}
 use Rattle.serf_agent.specs.States.{handed_by, heard_by, told_least}
 use Rattle.serf_agent.proofs.LineLaws.{compacts_so, saves_so}
@@ -48,12 +49,6 @@ pub record Below : Type 0 where
   pub restart : KeptRestartLaws
 
 -- ---- a history, and what of it was handed out
-
--- nothing was handed out twice; and what is new to the history, or later than it, is so to what was handed out
-pub record IsOnce {K : Type 0} (history : List (Past K)) (handed : List (TimedEntry K)) : Type 0 where
-  pub once : AllPairs (λ x y. x ≢ y) handed
-  pub fresh : (e : TimedEntry K) → All (λ p. p.entry ≢ e) history → All (λ x. x ≢ e) handed
-  pub below : (t : ℕ) → All (λ p. p.entry.time < t) history → All (λ x. x.time < t) handed
 
 -- a history goes on: nothing entered, something entered that is new and was handed out, or wasn't, or all was taken back that was
 -- entered before, with what else a text keeps
@@ -278,7 +273,7 @@ moves-compacted snapshots i w s may = by i.snapshot.stopped refl w may
     by false is (Failed durable) m = still i _ (sound-compact snapshots (Failed durable) i s m) refl refl
 
 -- a text that has what was flushed has each time that was entered
-text-of-flushed : (i : IdealAgent) (text : List ℕ) → IsSound i → HasFlushed i text → IsInText i text
+pub text-of-flushed : (i : IdealAgent) (text : List ℕ) → IsSound i → HasFlushed i text → IsInText i text
 text-of-flushed i text s h = record {
   events = All-weaker (λ (p : Past EventBody). p.entry.time ≤ i.snapshot.event_clock) (λ (p : Past EventBody). p.entry.time ≤ last_clock kinds.Event text) (λ p low. omega (arith, low, h.events)) i.events.history s.events.noted;
   queries = All-weaker (λ (p : Past ℕ). p.entry.time ≤ i.snapshot.query_clock) (λ (p : Past ℕ). p.entry.time ≤ last_clock kinds.Query text) (λ p low. omega (arith, low, h.queries)) i.queries.history s.queries.noted;
@@ -343,19 +338,25 @@ once laws = λ config text d acts ok may. (keeps laws acts (first_life config te
 pub queries_once : Below → HandsOutQueriesOnce
 queries_once laws = λ config text d acts ok may. (keeps laws acts (first_life config text d) (keeps-first laws config text d ok) may).queries_once.once
 
+pub fires_behind : FiresBehind
+fires_behind = λ i what flag w f events sound once is.
+    subst (λ (t : ℕ). All (λ (e : TimedEntry EventBody). e.time < t) events) (sym (fired-at i what flag w (fire_fault i what flag) f is)) (once.below i.events.clock sound.events.below_clock)
+
+pub asks_behind : AsksBehind
+asks_behind = λ i now id name payload params w f queries sound once is.
+    subst (λ (t : ℕ). All (λ (e : TimedEntry ℕ). e.time < t) queries) (sym (asked-at-clock i now id name payload params w (query_fault i id name payload params) f is)) (once.below i.queries.clock sound.queries.below_clock)
+
 pub later : Below → FiresLater
 later laws = λ config text d acts what flag w f ok may is.
     let before = lived (first_life config text d) acts in
     let k = keeps laws acts (first_life config text d) (keeps-first laws config text d ok) may in
-    let at = fired-at before.agent what flag w (fire_fault before.agent what flag) f is in
-    subst (λ (t : ℕ). All (λ (e : TimedEntry EventBody). e.time < t) before.events) (sym at) (k.events_once.below before.agent.events.clock k.sound.events.below_clock)
+    fires_behind before.agent what flag w f before.events k.sound k.events_once is
 
 pub queries_later : Below → AsksLater
 queries_later laws = λ config text d acts now id name payload params w f ok may is.
     let before = lived (first_life config text d) acts in
     let k = keeps laws acts (first_life config text d) (keeps-first laws config text d ok) may in
-    let at = asked-at-clock before.agent now id name payload params w (query_fault before.agent id name payload params) f is in
-    subst (λ (t : ℕ). All (λ (e : TimedEntry ℕ). e.time < t) before.queries) (sym at) (k.queries_once.below before.agent.queries.clock k.sound.queries.below_clock)
+    asks_behind before.agent now id name payload params w f before.queries k.sound k.queries_once is
 
 pub flushed_there : Below → DurableHasFlushed
 flushed_there laws = λ config text d acts durable tail ok may is.
@@ -368,3 +369,17 @@ flushed_there laws = λ config text d acts durable tail ok may is.
       events = omega (arith, event, laws.grows kinds.Event durable tail);
       queries = omega (arith, asked, laws.grows kinds.Query durable tail);
     }
+
+pub stays_once : Below → StaysOnce
+stays_once laws i a events queries s may h =
+    let m = moves laws i a s may in
+    (grown i.events.history (after i a).events.history (events_out i a) events h.0 m.events_grow, grown i.queries.history (after i a).queries.history (queries_out i a) queries h.1 m.queries_grow)
+
+pub begins_once : BeginsOnce
+begins_once = λ history. nothing-once history
+
+pub steps_sound : Below → StepsSound
+steps_sound laws i a s may = (moves laws i a s may).sound
+
+pub begins_sound : Below → BeginsSound
+begins_sound laws config text d ok = (keeps-first laws config text d ok).sound

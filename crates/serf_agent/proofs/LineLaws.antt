@@ -1,5 +1,5 @@
 -- How the calls end that only note or replace.
-use Rattle.serf_agent.proofs.Names.{◌≡◌, ◌≢◌, ◌↔◌, ℕ, ◌-◌, ◌^◌, ◌<◌, Bool, true, false, cond, IsTrue, List, None, Result, Ok, Err, OnOk, refl, sym, ap, subst, ◌∙◌, arith, NoteFault, clock_line, Device, replaced, SnapshotView, SnapshotState, Kept, Failed, noted, written, MayWrite}
+use Rattle.serf_agent.proofs.Names.{◌≡◌, ◌≢◌, ◌↔◌, ℕ, ◌-◌, ◌^◌, ◌<◌, Bool, true, false, cond, IsTrue, List, None, Result, Ok, Err, OnOk, refl, sym, ap, subst, ◌∙◌, arith, NoteFault, clock_line, Device, replaced, SnapshotView, SnapshotState, Kept, Failed, noted, written}
 use Rattle.serf_snap.specs.declared.kind.ClockKind.TheVariants as kinds
 use Rattle.serf_snap.specs.declared.snapshot.NoteFault.TheVariants as notes
 use Rattle.serf_snap.specs.Device.{replace_called}
@@ -10,9 +10,8 @@ use Rattle.serf_agent.specs.Ideal.{IdealAgent}
 use Rattle.serf_agent.specs.Sound.{IsSound}
 use Rattle.serf_agent.specs.States.{compact, save, told_lines}
 use Rattle.serf_agent.specs.Steps.{Steps}
-use Rattle.serf_agent.specs.Told.{device_noted, text_with}
+use Rattle.serf_agent.specs.Told.{MayNote, device_noted, text_with}
 use Rattle.serf_agent.specs.View.{AgentState, ConcreteState, concrete_with, view_of}
-use Rattle.serf_agent.proofs.NoteLaws.{device-noted, may-failed, may-kept}
 use Rattle.serf_agent.proofs.SoundLaws.{sound-compact, sound-saved}
 use Rattle.serf_agent.proofs.StepLaws.{steps-answers, steps-failed, steps-kept}
 
@@ -29,15 +28,15 @@ agent_with s concrete = record { concrete = concrete_with s.snapshot concrete; d
 abbrev pub saves_so : IdealAgent → Bool → Call (Result (Unit {0}) NoteFault)
 saves_so i b = cond b (answers i (Err notes.Stopped)) (Notes kinds.Member (i.member_clock - 1) None (record { agent = i; answer = Ok tt }) (Err notes.SinkFault))
 
-pub steps-save : SnapshotLaws → (i : IdealAgent) (t : ℕ) (old : Device) (new : SnapshotState) (r : Result (Unit {0}) NoteFault) → IsSound i → t ≡ i.member_clock - 1 → NotesTime kinds.Member t (record { snapshot = i.snapshot; device = old }) new r → r ≢ Err notes.OutOfMemory → Steps i (save i) r old (agent_with new (view_of i))
+pub steps-save : SnapshotLaws → (i : IdealAgent) (t : ℕ) (old : Device) (new : SnapshotState) (r : Result (Unit {0}) NoteFault) → IsSound i → t ≡ i.member_clock - 1 → NotesTime kinds.Member t None (record { snapshot = i.snapshot; device = old }) new r → r ≢ Err notes.OutOfMemory → Steps i (save i) r old (agent_with new (view_of i))
 steps-save snapshots i t old new (Ok done) sound is n other =
     let runs = runs-by i.snapshot.stopped (Ok done) n.stopped (λ q. cc) in
     let small : i.member_clock - 1 < 2 ^ 64 - 1 = omega (arith, sound.member_clock) in
-    let may = subst (λ (u : ℕ). i.snapshot.member_clock < u → MayWrite i.snapshot (clock_line kinds.Member u) Kept) is n.ok_allowed in
+    let may = subst (λ (u : ℕ). MayNote kinds.Member u None i.snapshot Kept) is n.ok_allowed in
     let same = n.ok ∙ ap (λ (u : ℕ). noted kinds.Member u i.snapshot Kept) is in
-    let device : new.device ≡ device_noted kinds.Member (i.member_clock - 1) None i.snapshot old = device-noted kinds.Member t i.snapshot old new.device (λ low. ap (λ (s : SnapshotState). s.device) (n.none runs low).1) n.ok_device ∙ ap (λ (u : ℕ). device_noted kinds.Member u None i.snapshot old) is in
+    let device : new.device ≡ device_noted kinds.Member (i.member_clock - 1) None i.snapshot old = n.ok_device ∙ ap (λ (u : ℕ). device_noted kinds.Member u None i.snapshot old) is in
     let kept : Steps i (saves_so i false) (Ok done) old (agent_with new (view_of i)) =
-    steps-kept i kinds.Member (i.member_clock - 1) None _ _ (Ok done) old _ (may-kept kinds.Member (i.member_clock - 1) i.snapshot may) refl (ap (λ (s : SnapshotView). concrete_with s (view_of i)) same) (sound-saved snapshots (i.member_clock - 1) i sound runs small) device in
+    steps-kept i kinds.Member (i.member_clock - 1) None _ _ (Ok done) old _ may refl (ap (λ (s : SnapshotView). concrete_with s (view_of i)) same) (sound-saved snapshots (i.member_clock - 1) i sound runs small) device in
     subst (λ (b : Bool). Steps i (saves_so i b) (Ok done) old (agent_with new (view_of i))) (sym runs) kept
 steps-save snapshots i t old new (Err notes.Stopped) sound is n other =
     let stopped : i.snapshot.stopped ≡ true = n.stopped.0 refl in
@@ -46,12 +45,11 @@ steps-save snapshots i t old new (Err notes.Stopped) sound is n other =
 steps-save snapshots i t old new (Err notes.OutOfMemory) sound is n other = absurd (other refl)
 steps-save snapshots i t old new (Err notes.SinkFault) sound is n other =
     let runs = runs-by i.snapshot.stopped (Err notes.SinkFault) n.stopped (λ q. cc) in
-    let above : i.snapshot.member_clock < i.member_clock - 1 = subst (λ (u : ℕ). i.snapshot.member_clock < u) is (n.fault_above refl) in
-    let may = subst (λ (u : ℕ). MayWrite i.snapshot (clock_line kinds.Member u) (Failed new.snapshot.durable)) is (n.fault_allowed refl) in
+    let may = subst (λ (u : ℕ). MayNote kinds.Member u None i.snapshot (Failed new.snapshot.durable)) is (n.fault_allowed refl) in
     let same = n.fault refl ∙ ap (λ (u : ℕ). written kinds.Member u i.snapshot (Failed new.snapshot.durable)) is in
     let device = subst (λ (u : ℕ). FailsLine old new.device (clock_line kinds.Member u)) is (n.fault_device refl) in
     let failed : Steps i (saves_so i false) (Err notes.SinkFault) old (agent_with new (view_of i)) =
-    steps-failed snapshots i kinds.Member (i.member_clock - 1) None _ _ (Err notes.SinkFault) old _ new.snapshot.durable sound (may-failed kinds.Member (i.member_clock - 1) i.snapshot new.snapshot.durable above may) refl (ap (λ (s : SnapshotView). concrete_with s (view_of i)) same) device in
+    steps-failed snapshots i kinds.Member (i.member_clock - 1) None _ _ (Err notes.SinkFault) old _ new.snapshot.durable sound may refl (ap (λ (s : SnapshotView). concrete_with s (view_of i)) same) device in
     subst (λ (b : Bool). Steps i (saves_so i b) (Err notes.SinkFault) old (agent_with new (view_of i))) (sym runs) failed
 
 -- the text of an agent's compaction

@@ -1,60 +1,68 @@
--- An event that is new and within the window is handed out, or its time is full.
-use Rattle.serf_agent.proofs.Names.{◌≡◌, ℕ, ◌+◌, ◌<◌, ◌≤◌, ◌⊎◌, inl, inr, nat_lt, nat_le, cond, Bool, true, false, List, [], ◌∷◌, Option, Some, None, Result, Err, WireFault, Message, map, refl, sym, subst, ap, arith, All, All-nil, cases_Bool, leb-true, le-ltb, EventBody, TimedEntry, decoded, same_texts, count_at, Device, Kept, Failed, opened}
+-- What is new and within the window is taken, an event or a query, or its time is full.
+use Rattle.serf_agent.proofs.Names.{◌≡◌, ℕ, ◌+◌, ◌<◌, ◌≤◌, ◌⊎◌, inl, inr, nat_lt, nat_le, cond, Bool, true, false, List, [], ◌∷◌, Option, Some, None, Result, Ok, Err, WireFault, Message, Query, query, query_response, push_pull, user_event, foreign, map, refl, sym, subst, arith, All, All-nil, cases_Bool, leb-true, le-ltb, EventBody, TimedEntry, decoded, same_id, same_texts, count_at, ClockKind, Device, SnapshotView, Kept, Failed, opened}
 use Rattle.serf_lamport.specs.Clock.{observed}
-use Rattle.serf_snap.specs.declared.kind.ClockKind.TheVariants as kinds
 use Rattle.serf_snap.specs.EventLines.{least_in}
 use Rattle.serf_agent.specs.declared.config.Config.{Config}
 use Rattle.serf_agent.specs.declared.outcome.Reason.{Reason}
 use Rattle.serf_agent.specs.declared.outcome.ReceiveFault.TheVariants as receives
 use Rattle.serf_agent.specs.Calls.{answers, ended}
 use Rattle.serf_agent.specs.Events.{admission, received_as, texts_len}
-use Rattle.serf_agent.specs.Ideal.{IdealAgent, Past}
-use Rattle.serf_agent.specs.Kept.{HandsOutNew, IsFull, IsMet, KeepsSettings, Offers, TellNoneAbove, stood_in}
+use Rattle.serf_agent.specs.Ideal.{IdealAgent, Past, Track}
+use Rattle.serf_agent.specs.Kept.{HandsOutNew, IsFull, IsMet, KeepsSettings, TakesNew, TakesNewQueries, TellNoneAbove, entered_in, stood_in}
 use Rattle.serf_agent.specs.KeptLives.{IsDurable, MayGoOnLives}
-use Rattle.serf_agent.specs.KeptTexts.{kept_events, whatever}
+use Rattle.serf_agent.specs.KeptTexts.{whatever}
 use Rattle.serf_agent.specs.Lives.{Act, Fires, Asks, Gets, Hears, Takes, Saves, Compacts, Closes, Opens, event_entry, events_out, first_life, lived}
+use Rattle.serf_agent.specs.Queries.{query_admission, query_received_as}
 use Rattle.serf_agent.specs.Receive.{receive_read}
 use Rattle.serf_agent.specs.Restart.{unopened}
 use Rattle.serf_agent.specs.Sound.{IsSound}
 use Rattle.serf_agent.specs.States.{handed_by}
-use Rattle.serf_agent.specs.Taking.{TakesAt, TakesOrFull, TakingLaws}
-use Rattle.serf_agent.specs.Tracks.{of_life, was_ever_entered}
+use Rattle.serf_agent.specs.Taking.{IsOpenAt, TakesAt, TakesOrFull, TakingLaws}
+use Rattle.serf_agent.specs.TrackOf.{BringsQuery, OffersEvent, OffersQuery, TrackOf, event_track, got_query, queries_entered, query_track}
+use Rattle.serf_agent.specs.Tracks.{IsTrackSound, of_life, track_reason, was_ever_entered}
 use Rattle.serf_agent.proofs.HandsOutLaws.{BelowHandsOut}
-use Rattle.serf_agent.proofs.HandsOutLives.{Course, course-lived, full-lived, stands-after, stands-opened}
+use Rattle.serf_agent.proofs.HandsOutLives.{Acting, Course, course-lived, events-acting, full-lived, queries-acting, stands-after}
 use Rattle.serf_agent.proofs.KeptLifeLaws.{begins_durable}
 use Rattle.serf_agent.proofs.LifeLaws.{keeps-first}
-use Rattle.serf_agent.proofs.MetLaws.{ever-met, has-met-life}
+use Rattle.serf_agent.proofs.MetLaws.{Tells, ever-met, has-met-life, tells_ids, tells_texts}
 
 -- ---- what is admitted
 
--- an agent of which this stands admits what was never met, or its time is full
-admits : (t : ℕ) (config : Config) (handed stood : List (TimedEntry EventBody)) (i : IdealAgent) (what : EventBody) → IsSound i → TakesAt t config handed stood i → texts_len what ≤ 9216 → observed i.events.clock t ≤ t + config.event_buffer → (IsMet handed stood (record { time = t; key = what }) → ⊥)
-    → (admission i t what ≡ None) ⊎ IsFull config.per_time t handed stood
-admits t config handed stood i what sound s short young new =
-    elim (cases_Bool (nat_le i.config.per_time (count_at (of_life i.life i.events.history) t))) [
-      | inl full ↦
-          let many : i.config.per_time ≤ count_at (of_life i.life i.events.history) t = leb-true _ _ full in
-          inr (inl (has-met-life config.per_time t i.life handed stood i.events.history sound.events.distinct s.known (omega (arith, many, ap (λ (c : Config). c.per_time) s.settings))))
-      | inr room ↦ inl (rw (oversize, below, old, seen, room) refl)
+-- a track of which this stands takes what was never met, or its time is full
+track-admits : {K : Type 0} (same : K → K → Bool) → Tells same → (kind : ClockKind) (n k t life last : ℕ) (handed stood : List (TimedEntry K)) (track : Track K) (s : SnapshotView) (what : K) → IsTrackSound track life last → IsOpenAt kind n t handed stood track s → observed track.clock t ≤ t + n
+    → (IsMet handed stood (record { time = t; key = what }) → ⊥) → (track_reason same n k life track t what ≡ None) ⊎ IsFull k t handed stood
+track-admits same tells kind n k t life last handed stood track s what sound o young new =
+    elim (cases_Bool (nat_le k (count_at (of_life life track.history) t))) [
+      | inl full ↦ inr (inl (has-met-life k t life handed stood track.history sound.distinct o.known (leb-true _ _ full)))
+      | inr room ↦ inl (rw (below, old, seen, room) refl)
     ]
   where
-    size : i.config.event_buffer ≡ config.event_buffer
-    size = ap (λ (c : Config). c.event_buffer) s.settings
+    below : nat_lt t track.minimum ≡ false
+    below = le-ltb t track.minimum (omega (arith, o.minimum, o.last, young))
 
-    oversize : nat_lt 9216 (texts_len what) ≡ false
-    oversize = le-ltb 9216 (texts_len what) short
+    old : nat_lt (t + n) (observed track.clock t) ≡ false
+    old = le-ltb (t + n) (observed track.clock t) young
 
-    below : nat_lt t i.events.minimum ≡ false
-    below = le-ltb t i.events.minimum (omega (arith, s.minimum, s.last, young))
-
-    old : nat_lt (t + i.config.event_buffer) (observed i.events.clock t) ≡ false
-    old = le-ltb (t + i.config.event_buffer) (observed i.events.clock t) (omega (arith, young, size))
-
-    seen : was_ever_entered same_texts i.events.history t what ≡ false
-    seen = elim (cases_Bool (was_ever_entered same_texts i.events.history t what)) [
-      | inl is ↦ absurd (new (ever-met (IsMet handed stood) i.events.history (record { time = t; key = what }) s.known is))
+    seen : was_ever_entered same track.history t what ≡ false
+    seen = elim (cases_Bool (was_ever_entered same track.history t what)) [
+      | inl is ↦ absurd (new (ever-met same tells (IsMet handed stood) track.history (record { time = t; key = what }) o.known is))
       | inr never ↦ never
     ]
+
+event-admits : (t : ℕ) (config : Config) (handed stood : List (TimedEntry EventBody)) (i : IdealAgent) (what : EventBody) → IsSound i → TakesAt event_track t config handed stood i → texts_len what ≤ 9216 → observed i.events.clock t ≤ t + config.event_buffer → (IsMet handed stood (record { time = t; key = what }) → ⊥)
+    → (admission i t what ≡ None) ⊎ IsFull config.per_time t handed stood
+event-admits t config handed stood i what sound s short young new =
+    elim (subst (λ (c : Config). (track_reason same_texts c.event_buffer c.per_time i.life i.events t what ≡ None) ⊎ IsFull config.per_time t handed stood) (sym s.settings)
+    (track-admits same_texts tells_texts _ config.event_buffer config.per_time t i.life i.snapshot.event_clock handed stood i.events i.snapshot what sound.events s.opens young new)) [
+      | inl none ↦ inl (rw (le-ltb 9216 (texts_len what) short) none)
+      | inr full ↦ inr full
+    ]
+
+query-admits : (t : ℕ) (config : Config) (handed stood : List (TimedEntry ℕ)) (i : IdealAgent) (id : ℕ) → IsSound i → TakesAt query_track t config handed stood i → Unit {0} → observed i.queries.clock t ≤ t + config.query_buffer → (IsMet handed stood (record { time = t; key = id }) → ⊥)
+    → (query_admission i t id ≡ None) ⊎ IsFull config.per_time t handed stood
+query-admits t config handed stood i id sound s short young new =
+    subst (λ (c : Config). (track_reason same_id c.query_buffer c.per_time i.life i.queries t id ≡ None) ⊎ IsFull config.per_time t handed stood) (sym s.settings)
+    (track-admits same_id tells_ids _ config.query_buffer config.per_time t i.life i.snapshot.query_clock handed stood i.queries i.snapshot id sound.queries s.opens young new)
 
 -- ---- the offer
 
@@ -63,58 +71,112 @@ handed-out : (i : IdealAgent) (t : ℕ) (what : EventBody) (flag : Bool) (r : Op
 handed-out i t what flag (Some reason) none = absurd (cc none)
 handed-out i t what flag None none = refl
 
-offered : (i : IdealAgent) (e : TimedEntry EventBody) (offer : Act) → Offers e offer → i.snapshot.stopped ≡ false → admission i e.time e.key ≡ None → events_out i offer ≡ e ∷ []
-offered i e (Takes other Kept) same runs new = subst (λ (x : TimedEntry EventBody). events_out i (Takes x Kept) ≡ e ∷ []) (sym same) (handed-out i e.time e.key false (admission i e.time e.key) new)
-offered i e (Takes other (Failed durable)) none runs new = absurd none
-offered i e (Gets tags now packet Kept) h runs new =
+event-offered : (i : IdealAgent) (e : TimedEntry EventBody) (offer : Act) → OffersEvent e offer → i.snapshot.stopped ≡ false → admission i e.time e.key ≡ None → events_out i offer ≡ e ∷ []
+event-offered i e (Takes other Kept) same runs new = subst (λ (x : TimedEntry EventBody). events_out i (Takes x Kept) ≡ e ∷ []) (sym same) (handed-out i e.time e.key false (admission i e.time e.key) new)
+event-offered i e (Takes other (Failed durable)) none runs new = absurd none
+event-offered i e (Gets tags now packet Kept) h runs new =
     subst (λ (b : Bool). map event_entry (handed_by (ended i (cond b (answers i (Err receives.Stopped)) (receive_read tags i now (decoded packet))) Kept).answer) ≡ e ∷ []) (sym runs)
     (subst (λ (r : Result Message WireFault). map event_entry (handed_by (ended i (receive_read tags i now r) Kept).answer) ≡ e ∷ []) (sym h.1) (handed-out i e.time e.key h.0 (admission i e.time e.key) new))
-offered i e (Gets tags now packet (Failed durable)) none runs new = absurd none
-offered i e (Fires what flag w) none runs new = absurd none
-offered i e (Asks now id name payload params w) none runs new = absurd none
-offered i e (Hears m is_join w) none runs new = absurd none
-offered i e (Saves w) none runs new = absurd none
-offered i e (Compacts w) none runs new = absurd none
-offered i e (Closes now) none runs new = absurd none
-offered i e (Opens config text d) none runs new = absurd none
+event-offered i e (Gets tags now packet (Failed durable)) none runs new = absurd none
+event-offered i e (Fires what flag w) none runs new = absurd none
+event-offered i e (Asks now id name payload params w) none runs new = absurd none
+event-offered i e (Hears m is_join w) none runs new = absurd none
+event-offered i e (Saves w) none runs new = absurd none
+event-offered i e (Compacts w) none runs new = absurd none
+event-offered i e (Closes now) none runs new = absurd none
+event-offered i e (Opens config text d) none runs new = absurd none
+
+-- and so enters a query
+query-enters : (tags : Bool) (i : IdealAgent) (now : ℕ) (q : Query) (r : Option Reason) → r ≡ None → got_query (Ok (query q)) (ended i (query_received_as tags r i now q) Kept).answer ≡ record { time = q.time; key = q.id } ∷ []
+query-enters tags i now q (Some reason) none = absurd (cc none)
+query-enters tags i now q None none = refl
+
+query-read : (tags : Bool) (i : IdealAgent) (now : ℕ) (e : TimedEntry ℕ) (r : Result Message WireFault) → BringsQuery e r → query_admission i e.time e.key ≡ None → got_query r (ended i (receive_read tags i now r) Kept).answer ≡ e ∷ []
+query-read tags i now e (Ok (query q)) brings new =
+    let same : (record { time = q.time; key = q.id }) ≡ e = (λ k. record { time = brings.0 k; key = brings.1 k }) in
+    let none : query_admission i q.time q.id ≡ None = subst (λ (x : TimedEntry ℕ). query_admission i x.time x.key ≡ None) (sym same) new in
+    subst (λ (x : TimedEntry ℕ). got_query (Ok (query q)) (ended i (receive_read tags i now (Ok (query q))) Kept).answer ≡ x ∷ []) same (query-enters tags i now q (query_admission i q.time q.id) none)
+query-read tags i now e (Ok (user_event u)) none new = absurd none
+query-read tags i now e (Ok (query_response r)) none new = absurd none
+query-read tags i now e (Ok (push_pull m)) none new = absurd none
+query-read tags i now e (Ok (foreign kind)) none new = absurd none
+query-read tags i now e (Err fault) none new = absurd none
+
+query-offered : (i : IdealAgent) (e : TimedEntry ℕ) (offer : Act) → OffersQuery e offer → i.snapshot.stopped ≡ false → query_admission i e.time e.key ≡ None → queries_entered i offer ≡ e ∷ []
+query-offered i e (Gets tags now packet Kept) brings runs new =
+    subst (λ (b : Bool). got_query (decoded packet) (ended i (cond b (answers i (Err receives.Stopped)) (receive_read tags i now (decoded packet))) Kept).answer ≡ e ∷ []) (sym runs) (query-read tags i now e (decoded packet) brings new)
+query-offered i e (Gets tags now packet (Failed durable)) none runs new = absurd none
+query-offered i e (Takes other w) none runs new = absurd none
+query-offered i e (Fires what flag w) none runs new = absurd none
+query-offered i e (Asks now id name payload params w) none runs new = absurd none
+query-offered i e (Hears m is_join w) none runs new = absurd none
+query-offered i e (Saves w) none runs new = absurd none
+query-offered i e (Compacts w) none runs new = absurd none
+query-offered i e (Closes now) none runs new = absurd none
+query-offered i e (Opens config text d) none runs new = absurd none
 
 -- ---- what is promised
 
-begins : BelowHandsOut → (t : ℕ) (config : Config) (text : List ℕ) (d : Device) → config.keep_events ≡ true → least_in kinds.Event text ≤ t → TakesOrFull t config [] (kept_events whatever text) (first_life config text d).agent
-begins laws t config text d on least = stands-opened laws t config [] [] (unopened config (opened text d)) text d on refl (All-nil (λ (p : Past EventBody). IsMet [] [] p.entry)) (omega (arith, least))
+begins : {K : Type 0} (which : TrackOf K) → Acting which → (t : ℕ) (config : Config) (text : List ℕ) (d : Device) → (which.track (unopened config (opened text d))).history ≡ [] → config.keep_events ≡ true → least_in which.kind text ≤ t
+    → TakesOrFull which t config [] (which.kept whatever text) (first_life config text d).agent
+begins {K} which acting t config text d empty on least =
+    acting.opens t config [] [] (unopened config (opened text d)) text d on refl (subst (λ (h : List (Past K)). All (λ (p : Past K). IsMet [] [] p.entry) h) (sym empty) (All-nil (λ (p : Past K). IsMet [] [] p.entry))) (omega (arith, least))
 
-pub taking_laws : BelowHandsOut → TakingLaws
-taking_laws laws = record {
-  begins = begins laws;
-  stays = λ t config handed stood i a on some sound durable takes go same told. stands-after laws t config handed stood i a on some (record { sound = sound; durable = durable; stands = takes }) go same told;
-  takes = admits;
+-- What is proved of each track by itself, besides.
+pub record Offering {K : Type 0} (which : TrackOf K) : Type 0 where
+  pub acting : Acting which
+  pub first : (config : Config) (text : List ℕ) (d : Device) → (which.track (unopened config (opened text d))).history ≡ []
+  pub admits : (t : ℕ) (config : Config) (handed stood : List (TimedEntry K)) (i : IdealAgent) (what : K) → IsSound i → TakesAt which t config handed stood i → which.Short what → observed (which.track i).clock t ≤ t + which.slots config → (IsMet handed stood (record { time = t; key = what }) → ⊥)
+      → (which.admission i t what ≡ None) ⊎ IsFull config.per_time t handed stood
+  pub offered : (i : IdealAgent) (e : TimedEntry K) (offer : Act) → which.Offers e offer → i.snapshot.stopped ≡ false → which.admission i e.time e.key ≡ None → which.entered i offer ≡ e ∷ []
+
+event-offering : BelowHandsOut → Offering event_track
+event-offering laws = record { acting = events-acting laws; first = λ config text d. refl; admits = event-admits; offered = event-offered }
+
+query-offering : BelowHandsOut → Offering query_track
+query-offering laws = record { acting = queries-acting laws; first = λ config text d. refl; admits = query-admits; offered = query-offered }
+
+taking : {K : Type 0} → BelowHandsOut → (which : TrackOf K) → Offering which → TakingLaws which
+taking laws which offering = record {
+  begins = λ t config text d on least. begins which offering.acting t config text d (offering.first config text d) on least;
+  stays = λ t config handed stood i a on some sound durable takes go same told. stands-after laws which offering.acting t config handed stood i a on some (record { sound = sound; durable = durable; stands = takes }) go same told;
+  takes = offering.admits;
 }
 
-pub hands_out_new : BelowHandsOut → HandsOutNew
-hands_out_new laws = λ config text d acts offer e ok on go same offers runs short young least told new.
+pub taking_events : BelowHandsOut → TakingLaws event_track
+taking_events laws = taking laws event_track (event-offering laws)
+
+pub taking_queries : BelowHandsOut → TakingLaws query_track
+taking_queries laws = taking laws query_track (query-offering laws)
+
+takes-new : {K : Type 0} → BelowHandsOut → (which : TrackOf K) → Offering which → TakesNew which
+takes-new {K} laws which offering = λ config text d acts offer e ok on go same offers runs short young least told new.
     let s = first_life config text d in
-    let some : 0 < e.time = omega (arith, least, (laws.kept.durable.least_read kinds.Event text).0) in
-    let first = begins laws e.time config text d on least in
+    let some : 0 < e.time = omega (arith, least, (laws.kept.durable.least_read which.kind text).0) in
+    let first = begins which offering.acting e.time config text d (offering.first config text d) on least in
     let sound = (keeps-first laws.kept.life config text d ok).sound in
-    let stood = kept_events whatever text in
-    let ends = ended-by laws config text d acts e.time on some sound (begins_durable laws.kept config text d) go same told first in
+    let ends = ended-by config text d acts e.time on some sound (begins_durable laws.kept config text d) go same told first in
     by config text d acts offer e offers runs short young new ends
   where
-    ended-by : BelowHandsOut → (config : Config) (text : List ℕ) (d : Device) (acts : List Act) (t : ℕ) → config.keep_events ≡ true → 0 < t → (let s = first_life config text d in IsSound s.agent → IsDurable s.agent → MayGoOnLives s.agent acts → All (KeepsSettings config) acts → TellNoneAbove t s.agent acts
-        → TakesAt t config [] (kept_events whatever text) s.agent ⊎ IsFull config.per_time t [] (kept_events whatever text)
-        → Course t config (lived s acts).events (stood_in (kept_events whatever text) acts) (lived s acts).agent ⊎ IsFull config.per_time t (lived s acts).events (stood_in (kept_events whatever text) acts))
-    ended-by laws config text d acts t on some sound durable go same told (inl stands) = course-lived laws t config acts (first_life config text d) (kept_events whatever text) on some (record { sound = sound; durable = durable; stands = stands }) go same told
-    ended-by laws config text d acts t on some sound durable go same told (inr full) = inr (full-lived config.per_time t acts (first_life config text d) (kept_events whatever text) full)
+    ended-by : (config : Config) (text : List ℕ) (d : Device) (acts : List Act) (t : ℕ) → config.keep_events ≡ true → 0 < t → (let s = first_life config text d in IsSound s.agent → IsDurable s.agent → MayGoOnLives s.agent acts → All (KeepsSettings config) acts → TellNoneAbove which t s.agent acts
+        → TakesOrFull which t config [] (which.kept whatever text) s.agent
+        → Course which t config (entered_in which [] s.agent acts) (stood_in which (which.kept whatever text) acts) (lived s acts).agent ⊎ IsFull config.per_time t (entered_in which [] s.agent acts) (stood_in which (which.kept whatever text) acts))
+    ended-by config text d acts t on some sound durable go same told (inl stands) = course-lived laws which offering.acting t config acts (first_life config text d) [] (which.kept whatever text) on some (record { sound = sound; durable = durable; stands = stands }) go same told
+    ended-by config text d acts t on some sound durable go same told (inr full) = inr (full-lived which config.per_time t acts [] (which.kept whatever text) (first_life config text d).agent full)
 
-    by : (config : Config) (text : List ℕ) (d : Device) (acts : List Act) (offer : Act) (e : TimedEntry EventBody) → (let before = lived (first_life config text d) acts in let stood = stood_in (kept_events whatever text) acts in Offers e offer → before.agent.snapshot.stopped ≡ false → texts_len e.key ≤ 9216
-        → observed before.agent.events.clock e.time ≤ e.time + config.event_buffer → (IsMet before.events stood e → ⊥)
-        → Course e.time config before.events stood before.agent ⊎ IsFull config.per_time e.time before.events stood → (events_out before.agent offer ≡ e ∷ []) ⊎ IsFull config.per_time e.time before.events stood)
+    by : (config : Config) (text : List ℕ) (d : Device) (acts : List Act) (offer : Act) (e : TimedEntry K) → (let s = first_life config text d in let before = (lived s acts).agent in let entered = entered_in which [] s.agent acts in let stood = stood_in which (which.kept whatever text) acts in which.Offers e offer → before.snapshot.stopped ≡ false → which.Short e.key
+        → observed (which.track before).clock e.time ≤ e.time + which.slots config → (IsMet entered stood e → ⊥)
+        → Course which e.time config entered stood before ⊎ IsFull config.per_time e.time entered stood → (which.entered before offer ≡ e ∷ []) ⊎ IsFull config.per_time e.time entered stood)
     by config text d acts offer e offers runs short young new (inr full) = inr full
     by config text d acts offer e offers runs short young new (inl c) =
-        let before = lived (first_life config text d) acts in
-        taken (admits e.time config before.events (stood_in (kept_events whatever text) acts) before.agent e.key c.sound c.stands short young new)
-      where
-        taken : (let before = lived (first_life config text d) acts in (admission before.agent e.time e.key ≡ None) ⊎ IsFull config.per_time e.time before.events (stood_in (kept_events whatever text) acts)
-            → (events_out before.agent offer ≡ e ∷ []) ⊎ IsFull config.per_time e.time before.events (stood_in (kept_events whatever text) acts))
-        taken (inl none) = inl (offered (lived (first_life config text d) acts).agent e offer offers runs none)
-        taken (inr full) = inr full
+        let s = first_life config text d in
+        elim (offering.admits e.time config (entered_in which [] s.agent acts) (stood_in which (which.kept whatever text) acts) (lived s acts).agent e.key c.sound c.stands short young new) [
+          | inl none ↦ inl (offering.offered (lived s acts).agent e offer offers runs none)
+          | inr full ↦ inr full
+        ]
+
+pub hands_out_new : BelowHandsOut → HandsOutNew
+hands_out_new laws = takes-new laws event_track (event-offering laws)
+
+pub takes_new_queries : BelowHandsOut → TakesNewQueries
+takes_new_queries laws = takes-new laws query_track (query-offering laws)

@@ -1,13 +1,14 @@
 -- The lines of what slots hold, as they are lent and as they are stored, and how long they are.
 use Rattle.serf_agent.proofs.Names.{◌≡◌, ℕ, ◌++◌, Bool, true, false, cond, List, [], ◌∷◌, map, flat_map, nat_lt, refl, sym, ap, ◌∙◌, append_assoc, TimedEntry, SlotOf, slot_view, ◌≤◌, ◌<◌, ◌+◌, ◌-◌, ◌^◌, ◌&&◌, nat_le, length, length-append, min, arith, IfSome, Option, Some, None, subst, leb-false, lt-leb, ClockKind, SnapshotView}
-use Rattle.std.specs.Prelude.{◌*◌}
+use Rattle.std.specs.Prelude.{◌*◌, ◌==◌}
 use Rattle.serf_wire.specs.Buffers.{slot_in_memory}
 use Rattle.serf_wire.specs.declared.texts.TimeSlot.{TimeSlot}
 use Rattle.serf_snap.specs.declared.kind.ClockKind.TheVariants as kinds
-use Rattle.serf_snap.specs.Clocks.{line_above_zero}
+use Rattle.serf_snap.specs.Clocks.{clock_line, line_above_zero}
 use Rattle.serf_snap.specs.Compaction.{counted, is_worth_replacing}
-use Rattle.serf_snap.specs.EventLines.{least_line}
-use Rattle.serf_snap.specs.KeptNotes.{kept_compaction_of, kept_line_above_zero}
+use Rattle.serf_snap.specs.EventLines.{kept_clock_line, least_line}
+use Rattle.serf_snap.specs.KeptNotes.{kept_compaction_of, kept_line_above_zero, lines_given}
+use Rattle.serf_snap.specs.Notes.{compaction_of}
 use Rattle.serf_agent.specs.KeptLines.{held_from, held_in, kept_lines, least_told, lines_of_slot, lines_told, stored_lines}
 use Rattle.serf_agent.specs.States.{told_lines}
 use Rattle.serf_agent.specs.Told.{text_with}
@@ -50,6 +51,10 @@ stored-length {K} kind line n last track slots least first rest all told view lo
     let both = counted-append (least_line kind least) (lines_told line (held_from least track.slots)) first rest all front (held ∙ ap (λ (l : List ℕ). counted l) lines) sum in
     both ∙ ap (λ (t : ℕ). counted (least_line kind t ++ lines_told line (held_from t track.slots))) told
 
+-- where the settings keep events, the lines that are given are those that are told
+pub lines-told : (a : ConcreteState) (lines : List ℕ) → a.config.keep_events ≡ true → lines ≡ kept_lines a → lines_given lines ≡ told_lines a
+lines-told a lines keeps is = ap (λ (l : List ℕ). lines_given l) is ∙ ap (λ (b : Bool). cond b (Some (kept_lines a)) None) (sym keeps)
+
 -- ---- whether a compaction that keeps them is worth doing
 
 -- a text that isn't worth being replaced by one isn't by a longer one
@@ -61,17 +66,32 @@ worth-less limit new longer text more = by (nat_lt limit (counted text))
     by true none = let short : counted text < 2 * length new = leb-false _ _ none in lt-leb _ _ (omega arith)
 
 -- the text of a compaction with no lines is no longer than with some
-kept-longer : (lines : List ℕ) (s : SnapshotView) → length (kept_compaction_of [] s) ≤ length (kept_compaction_of lines s)
+kept-longer : (lines : List ℕ) (s : SnapshotView) → length (compaction_of s) ≤ length (kept_compaction_of lines s)
 kept-longer lines s =
     let member : List ℕ = line_above_zero kinds.Member s.member_clock in
     let event : List ℕ = kept_line_above_zero kinds.Event s.event_clock in
     let asked : List ℕ = kept_line_above_zero kinds.Query s.query_clock in
+    let plain_event : List ℕ = line_above_zero kinds.Event s.event_clock in
+    let plain_asked : List ℕ = line_above_zero kinds.Query s.query_clock in
     let a = length-append lines member in
     let b = length-append (lines ++ member) event in
     let c = length-append ((lines ++ member) ++ event) asked in
-    let d = length-append member event in
-    let e = length-append (member ++ event) asked in
-    omega (arith, a, b, c, d, e)
+    let d = length-append member plain_event in
+    let e = length-append (member ++ plain_event) plain_asked in
+    let x = zero-longer kinds.Event s.event_clock in
+    let y = zero-longer kinds.Query s.query_clock in
+    omega (arith, a, b, c, d, e, x, y)
+  where
+    zero-longer : (kind : ClockKind) (t : ℕ) → length (line_above_zero kind t) ≤ length (kept_line_above_zero kind t)
+    zero-longer kind t = by kind (t == 0)
+      where
+        by : (kind : ClockKind) (b : Bool) → length (cond b [] (clock_line kind t)) ≤ length (cond b [] (kept_clock_line kind t))
+        by kinds.Member true = omega arith
+        by kinds.Member false = omega arith
+        by kinds.Event true = omega arith
+        by kinds.Event false = omega arith
+        by kinds.Query true = omega arith
+        by kinds.Query false = omega arith
 
 -- of an agent that keeps events it is so with the lines that it keeps
 pub worth-with : (a : ConcreteState) (limit : ℕ) (r : Bool) → a.config.keep_events ≡ true → IfSome a.snapshot.durable (λ text. r ≡ is_worth_replacing limit (kept_compaction_of (kept_lines a) a.snapshot) text)
@@ -80,11 +100,18 @@ worth-with a limit r keeps worth =
     let told : text_with (told_lines a) a.snapshot ≡ kept_compaction_of (kept_lines a) a.snapshot = ap (λ (b : Bool). text_with (cond b (Some (kept_lines a)) None) a.snapshot) keeps in
     subst (λ (new : List ℕ). IfSome a.snapshot.durable (λ text. r ≡ is_worth_replacing limit new text)) (sym told) worth
 
+-- of any other agent it is so with none
+pub worth-plain : (a : ConcreteState) (limit : ℕ) (r : Bool) → a.config.keep_events ≡ false → IfSome a.snapshot.durable (λ text. r ≡ is_worth_replacing limit (compaction_of a.snapshot) text)
+    → IfSome a.snapshot.durable (λ text. r ≡ is_worth_replacing limit (text_with (told_lines a) a.snapshot) text)
+worth-plain a limit r off worth =
+    let told : text_with (told_lines a) a.snapshot ≡ compaction_of a.snapshot = ap (λ (b : Bool). text_with (cond b (Some (kept_lines a)) None) a.snapshot) off in
+    subst (λ (new : List ℕ). IfSome a.snapshot.durable (λ text. r ≡ is_worth_replacing limit new text)) (sym told) worth
+
 -- and where it isn't with none, it isn't with these
-pub worth-without : (a : ConcreteState) (limit : ℕ) (r : Bool) → a.config.keep_events ≡ true → r ≡ false → IfSome a.snapshot.durable (λ text. r ≡ is_worth_replacing limit (kept_compaction_of [] a.snapshot) text)
+pub worth-without : (a : ConcreteState) (limit : ℕ) (r : Bool) → a.config.keep_events ≡ true → r ≡ false → IfSome a.snapshot.durable (λ text. r ≡ is_worth_replacing limit (compaction_of a.snapshot) text)
     → IfSome a.snapshot.durable (λ text. r ≡ is_worth_replacing limit (text_with (told_lines a) a.snapshot) text)
 worth-without a limit r keeps is worth = worth-with a limit r keeps (by a.snapshot.durable worth)
   where
-    by : (o : Option (List ℕ)) → IfSome o (λ text. r ≡ is_worth_replacing limit (kept_compaction_of [] a.snapshot) text) → IfSome o (λ text. r ≡ is_worth_replacing limit (kept_compaction_of (kept_lines a) a.snapshot) text)
+    by : (o : Option (List ℕ)) → IfSome o (λ text. r ≡ is_worth_replacing limit (compaction_of a.snapshot) text) → IfSome o (λ text. r ≡ is_worth_replacing limit (kept_compaction_of (kept_lines a) a.snapshot) text)
     by None worth = tt
-    by (Some text) worth = is ∙ sym (worth-less limit (kept_compaction_of [] a.snapshot) (kept_compaction_of (kept_lines a) a.snapshot) text (kept-longer (kept_lines a) a.snapshot) (sym worth ∙ is))
+    by (Some text) worth = is ∙ sym (worth-less limit (compaction_of a.snapshot) (kept_compaction_of (kept_lines a) a.snapshot) text (kept-longer (kept_lines a) a.snapshot) (sym worth ∙ is))

@@ -1,12 +1,18 @@
--- A small life that breaks what is promised of new events, and the proof that the promise refuses it. A definition that is changed so
--- that it promises nothing doesn't pass here.
-use Rattle.serf_agent.proofs.Names.{◌≡◌, ℕ, ◌<◌, ◌≤◌, ◌⊎◌, inl, inr, nat_lt, true, false, List, [], ◌∷◌, None, length, filter, refl, subst, arith, All, All-head, All-nil, EventBody, TimedEntry, Device, Kept}
+-- Small lives that break what is promised of lives, and the proofs that the promises refuse them. A definition that is changed so that it
+-- promises nothing doesn't pass here.
+use Rattle.serf_agent.proofs.Names.{◌≡◌, ℕ, ◌<◌, ◌≤◌, ◌⊎◌, inl, inr, nat_lt, true, false, List, [], ◌∷◌, None, length, filter, refl, subst, arith, All, All-head, All-nil, EventBody, TimedEntry, decoded, Device, Kept}
 use Rattle.std.specs.Prelude.{codes}
 use Rattle.std.proofs.lemmas.List.Elements.{filter_passes}
 use Rattle.serf_agent.specs.declared.config.Config.{Config}
-use Rattle.serf_agent.specs.Ideal.{IdealAgent}
-use Rattle.serf_agent.specs.Kept.{HandsOutNewBy, HasMet, IsFull, IsMet, KeepsSettings}
-use Rattle.serf_agent.specs.Lives.{Act, Takes, events_out, first_life}
+use Rattle.serf_agent.specs.Ideal.{IdealAgent, Past}
+use Rattle.serf_agent.specs.Kept.{HasMet, IsFull, IsMet, KeepsSettings, TakesNewBy}
+use Rattle.serf_agent.specs.Config.{is_sound}
+use Rattle.serf_agent.specs.KeptLives.{MayGoOnLives}
+use Rattle.serf_agent.specs.Lives.{Act, Gets, Takes, events_out, first_life}
+use Rattle.serf_agent.specs.TrackOf.{BringsQuery, event_track, queries_entered, query_track}
+use Rattle.serf_agent.specs.Restart.{HasPast}
+use Rattle.serf_agent.specs.Sound.{IsSound}
+use Rattle.serf_agent.specs.Unseen.{unseen_life}
 
 -- An agent that hands out only what is above its last clock line, as one that keeps no events does behind a restart.
 abbrev pub above-last : IdealAgent → Act → List (TimedEntry EventBody)
@@ -36,25 +42,25 @@ disk = record { observed_bytes = None; plan = None; failures = 0; calls = record
 abbrev event : TimedEntry EventBody
 event = record { time = 2; key = record { name = []; payload = [] } }
 
-pub misses_an_event : HandsOutNewBy above-last → ⊥
-misses_an_event promised = by (promised settings text disk [] (Takes event Kept) event refl refl tt (All-nil (KeepsSettings settings)) refl refl (omega arith) (omega arith) (omega arith) tt not-met)
+-- ---- nothing was met
+
+nothing-met : {K : Type 0} (e : TimedEntry K) → IsMet [] [] e → ⊥
+nothing-met e (inl h) = absurd (omega (arith, h.1))
+nothing-met e (inr h) = absurd (omega (arith, h.1))
+
+none-met : {K : Type 0} (k t : ℕ) → 0 < k → HasMet {K = K} k t [] [] → ⊥
+none-met {K} k t some h = one h.entries h.many h.met
   where
-    not-met : IsMet [] [] event → ⊥
-    not-met (inl h) = absurd (omega (arith, h.1))
-    not-met (inr h) = absurd (omega (arith, h.1))
+    one : (es : List (TimedEntry K)) → k ≤ length es → All (λ e. (e.time ≡ t) × IsMet [] [] e) es → ⊥
+    one [] many met = absurd (omega arith)
+    one (e ∷ es) many met = nothing-met e (All-head (λ (x : TimedEntry K). (x.time ≡ t) × IsMet [] [] x) e es met).1
 
-    none-met : (k t : ℕ) → 0 < k → HasMet k t [] [] → ⊥
-    none-met k t some h = one h.events h.many h.met
-      where
-        one : (es : List (TimedEntry EventBody)) → k ≤ length es → All (λ e. (e.time ≡ t) × IsMet [] [] e) es → ⊥
-        one [] many met = absurd (omega arith)
-        one (e ∷ es) many met = nothing e (All-head (λ (x : TimedEntry EventBody). (x.time ≡ t) × IsMet [] [] x) e es met).1
-          where
-            nothing : (e : TimedEntry EventBody) → IsMet [] [] e → ⊥
-            nothing e (inl h) = absurd (omega (arith, h.1))
-            nothing e (inr h) = absurd (omega (arith, h.1))
+-- ---- an agent that misses an event
 
-    by : (above-last (first_life settings text disk).agent (Takes event Kept) ≡ event ∷ []) ⊎ IsFull 2 2 [] [] → ⊥
+pub misses_an_event : TakesNewBy event_track above-last → ⊥
+misses_an_event promised = by (promised settings text disk [] (Takes event Kept) event refl refl tt (All-nil (KeepsSettings settings)) refl refl (omega arith) (omega arith) (omega arith) tt (nothing-met event))
+  where
+    by : (above-last (first_life settings text disk).agent (Takes event Kept) ≡ event ∷ []) ⊎ IsFull {K = EventBody} 2 2 [] [] → ⊥
     by (inl out) =
         let agent = (first_life settings text disk).agent in
         let passes : All (λ (e : TimedEntry EventBody). nat_lt agent.snapshot.event_clock e.time ≡ true) (event ∷ []) =
@@ -63,3 +69,45 @@ misses_an_event promised = by (promised settings text disk [] (Takes event Kept)
         absurd (cc late)
     by (inr (inl full)) = none-met 2 2 (omega arith) full
     by (inr (inr full)) = none-met 3 full.0 (omega arith) full.2
+
+-- ---- an agent that misses a query
+
+-- It takes only queries that are above its last clock line.
+abbrev queries-above-last : IdealAgent → Act → List (TimedEntry ℕ)
+queries-above-last i a = filter (λ e. nat_lt i.snapshot.query_clock e.time) (queries_entered i a)
+
+abbrev query_text : List ℕ
+query_text = codes "query-clock: 03\n"
+
+abbrev asked : TimedEntry ℕ
+asked = record { time = 2; key = 7 }
+
+-- It opens on a text whose last line of queries has the time 3, and then a packet brings a query of the time 2.
+pub misses_a_query : (packet : List ℕ) → BringsQuery asked (decoded packet) → TakesNewBy query_track queries-above-last → ⊥
+misses_a_query packet brings promised = by (promised settings query_text disk [] (Gets true 0 packet Kept) asked refl refl tt (All-nil (KeepsSettings settings)) brings refl tt (omega arith) (omega arith) tt (nothing-met asked))
+  where
+    by : (queries-above-last (first_life settings query_text disk).agent (Gets true 0 packet Kept) ≡ asked ∷ []) ⊎ IsFull {K = ℕ} 2 2 [] [] → ⊥
+    by (inl out) =
+        let agent = (first_life settings query_text disk).agent in
+        let passes : All (λ (e : TimedEntry ℕ). nat_lt agent.snapshot.query_clock e.time ≡ true) (asked ∷ []) =
+        subst (λ (es : List (TimedEntry ℕ)). All (λ (e : TimedEntry ℕ). nat_lt agent.snapshot.query_clock e.time ≡ true) es) out (filter_passes (λ (e : TimedEntry ℕ). nat_lt agent.snapshot.query_clock e.time) (queries_entered agent (Gets true 0 packet Kept))) in
+        let late : nat_lt 3 2 ≡ true = All-head (λ (e : TimedEntry ℕ). nat_lt agent.snapshot.query_clock e.time ≡ true) asked [] passes in
+        absurd (cc late)
+    by (inr (inl full)) = none-met 2 2 (omega arith) full
+    by (inr (inr full)) = none-met 3 full.0 (omega arith) full.2
+
+-- ---- a file that loses what was flushed
+
+-- what an opening asks, where it may open on any text
+abbrev OpensOnAnyText : Type 0
+OpensOnAnyText =
+    (config : Config) (text : List ℕ) (d : Device) (acts : List Act) (next : Config) (left : List ℕ) → is_sound config ≡ true → MayGoOnLives (first_life config text d).agent acts → is_sound next ≡ true
+    → let i = (unseen_life config text d acts).agent in IsSound i × HasPast next i left
+
+-- It takes an event of the time 2, and then its file is empty.
+pub opens_on_nothing : OpensOnAnyText → ⊥
+opens_on_nothing promised =
+    let may : MayGoOnLives (first_life settings [] disk).agent (Takes event Kept ∷ []) = (((refl, omega arith, tt), record { name = λ i. omega arith; payload = λ i. omega arith }), tt) in
+    let has = (promised settings [] disk (Takes event Kept ∷ []) settings [] refl may refl).1 in
+    let low : 2 ≤ 0 = All-head (λ (p : Past EventBody). p.entry.time ≤ 0) (record { life = 1; entry = event }) [] has.times.events in
+    absurd (omega (arith, low))

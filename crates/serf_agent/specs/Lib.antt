@@ -34,5 +34,9 @@ pub mod KeptSteps
 pub mod KeptLines
 pub mod Unkept
 pub mod KeptLives
+pub mod TrackOf
 pub mod Kept
 pub mod Taking
+pub mod Said
+pub mod Unseen
+pub mod Once

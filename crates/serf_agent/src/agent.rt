@@ -7,7 +7,7 @@ ghost use Rattle.serf_snap.specs.Clocks.{is_whole, seal_line};
 ghost use Rattle.serf_snap.specs.Notes.{HasTriedNote, note_decremented, note_fails, opened, opened_device};
 ghost use Rattle.serf_agent.specs.Config.{is_sound};
 ghost use Rattle.serf_agent.specs.Ideal.{IdealAgent, with_config};
-ghost use Rattle.serf_agent.specs.Inside.{concrete_of, new_track};
+ghost use Rattle.serf_agent.specs.Inside.{concrete_of};
 ghost use Rattle.serf_agent.specs.Restart.{HasPast, restarted, unopened};
 ghost use Rattle.serf_agent.specs.Sound.{IsSound};
 ghost use Rattle.serf_agent.specs.View.{view_of};
@@ -16,7 +16,7 @@ use crate::asked::Asked;
 use crate::config::Config;
 use crate::laws::{kept_restart_laws, sound_snapshots};
 use crate::outcome::{NotOpened, OpenFault};
-use crate::reopening::recalled_tracks;
+use crate::reopening::{FirstTracks, first_tracks};
 use crate::track::{EventTrack, QueryTrack};
 use serf_lamport::Clock;
 use serf_snap::{Sink, Snapshot};
@@ -130,14 +130,14 @@ impl<S: Sink> Agent<S> {
                 fault,
             });
         }
-        let Ok(kept) = recalled_tracks(alloc, &config, text) else {
+        let Ok(first) = first_tracks(alloc, &config, text) else {
             return Err(NotOpened {
                 config,
                 sink,
                 fault: OpenFault::OutOfMemory,
             });
         };
-        let snapshot = match Snapshot::open(alloc, text, sink) {
+        let snapshot = match Snapshot::open_read(alloc, text, first.clocks, sink) {
             Ok(snapshot) => snapshot,
             Err((sink, sealed)) => {
                 let fault = OpenFault::from(sealed);
@@ -148,30 +148,12 @@ impl<S: Sink> Agent<S> {
                 });
             }
         };
-        if let Some((events, queries)) = kept {
-            return Ok(Agent::behind(alloc, config, events, queries, snapshot));
-        }
-        Ok(Agent::with_nothing_kept(alloc, config, snapshot))
-    }
-
-    /// The agent that takes no event and no query back at an opening, after the last lines of a snapshot.
-    fn with_nothing_kept(alloc: Global, config: Config, snapshot: Snapshot<S>) -> Self
-        requires { is_sound config ≡ true }
-        ensures concrete { let last = snapshot.snapshot in result.concrete ≡ record {
-          config = config;
-          member_clock = last.member_clock + 1;
-          events = new_track config.event_buffer last.event_clock;
-          queries = new_track config.query_buffer last.query_clock;
-          snapshot = last;
-          asked = [];
-        } }
-        ensures device { result.device ≡ snapshot.device }
-    {
-        let last = snapshot.clocks();
-        let per_time = config.per_time;
-        let events = EventTrack::after(alloc, config.event_buffer, per_time, last.event_clock);
-        let queries = QueryTrack::after(alloc, config.query_buffer, per_time, last.query_clock);
-        Agent::behind(alloc, config, events, queries, snapshot)
+        let FirstTracks {
+            events,
+            queries,
+            ..
+        } = first;
+        Ok(Agent::behind(alloc, config, events, queries, snapshot))
     }
 
     /// The agent that has these tracks at an opening, after the last lines of a snapshot.

@@ -22,7 +22,7 @@ pub const MAX_RESPONDERS: u64 = 65536;
 
 /// What an agent is set to (Serf's `config.go`). The bounds are this project's own; settings outside them are refused
 /// when an agent is opened.
-#[derive(Debug, Drop)]
+#[derive(Drop)]
 pub struct Config {
     /// The node's name: 1 to 128 bytes.
     pub name: Bytes,

@@ -16,7 +16,6 @@ use std::marker::Model;
 /// A query that was handed out, which can be answered once: a response uses it up. It has no clone.
 ///
 /// What it says has a place of its own, so that an answer that may have a query stays small.
-#[derive(Debug)]
 pub struct HandedQuery {
     parts: Box<HandedParts>,
 }
@@ -29,7 +28,7 @@ impl Drop for HandedQuery {
 }
 
 /// What a query says that was handed out.
-#[derive(Debug, Drop)]
+#[derive(Drop)]
 struct HandedParts {
     time: Time,
     id: u32,

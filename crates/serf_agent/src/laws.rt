@@ -5,21 +5,25 @@ ghost use Rattle.serf_wire.specs.declared.texts.EventBody.{EventBody};
 ghost use Rattle.serf_window.specs.Queries.{same_id};
 ghost use Rattle.serf_window.specs.Texts.{same_texts};
 ghost use Rattle.serf_agent.specs.Keeping.{KeepingLaws};
-ghost use Rattle.serf_agent.specs.Kept.{HandsOutNew, RemembersJoins};
+ghost use Rattle.serf_agent.specs.Kept.{HandsOutNew, RemembersJoins, TakesNewQueries};
 ghost use Rattle.serf_agent.specs.KeptLines.{CompactionLaws};
 ghost use Rattle.serf_agent.specs.KeptLaws.{KeptRestartLaws};
 ghost use Rattle.serf_agent.specs.KeptSteps.{KeptNoteLaws};
 ghost use Rattle.serf_agent.specs.KeptTexts.{KeptEventLaws, KeptQueryLaws};
 ghost use Rattle.serf_agent.specs.Laws.{AdmitsNew, ShortPackets, StaysSound};
+ghost use Rattle.serf_agent.specs.Said.{SaidLaws};
 ghost use Rattle.serf_agent.specs.Snapshots.{SnapshotLaws};
 ghost use Rattle.serf_agent.specs.Unkept.{UnkeptLaws};
 ghost use Rattle.serf_agent.specs.KeptLives.{BeginsDurable, DiskSuffices, DurableHasKept, KeepsBehind, StaysDurable};
 ghost use Rattle.serf_agent.specs.Taking.{TakingLaws};
+ghost use Rattle.serf_agent.specs.TrackOf.{event_track, query_track};
 ghost use Rattle.serf_agent.specs.Lives.{AsksLater, DurableHasFlushed, FiresLater, HandsOutOnce, HandsOutQueriesOnce};
+ghost use Rattle.serf_agent.specs.Once.{AsksBehind, BeginsOnce, BeginsSound, FiresBehind, OpensBehind, StaysOnce, StepsSound};
+ghost use Rattle.serf_agent.specs.Unseen.{AsksLaterUnseen, FiresLaterUnseen, HandsOutNewUnseen, HandsOutOnceUnseen, HandsOutQueriesOnceUnseen, OpensUnseen, RemembersJoinsUnseen, TakesNewQueriesUnseen, UnseenLaws};
 
 use serf_snap::{
-    event_line_laws, kept_note_laws, least_time_laws, query_line_laws, read_laws, snapshot_laws,
-    text_laws,
+    event_line_laws, kept_note_laws, least_time_laws, query_line_laws, read_laws, said_laws,
+    said_query_laws, snapshot_laws, text_laws,
 };
 use serf_window::{recall_laws, slot_laws};
 use serf_wire::decoded_ranges;
@@ -141,13 +145,14 @@ pub fn unkept_laws()
 ///
 /// And nothing is missed where the settings stay and keep events. An event is offered while the agent isn't stopped, and
 /// it is new and within the window. Then it is handed out, where the sink keeps its line. It is left out only where as many
-/// of its time as the settings allow, or more of a later time, were handed out or stood in a text.
+/// of its time as the settings allow, or more of a later time, were handed out or stood in a text. So it is of queries
+/// (`queries_taken`): one that is new enters, and is handed out where its filters let the node pass.
 ///
 /// Nor is anything handed out below the least time that a join set which ignores old events, in all later lives that keep
 /// events.
 ///
-/// `taking` says call by call what stays true, so that nothing is missed: for proofs of crates above, whose runs are more
-/// than the lives of one agent.
+/// `taking` and `queries_taking` say call by call what stays true, so that nothing is missed, and `queries_said` which
+/// queries the text keeps: for proofs of crates above, whose runs are more than the lives of one agent.
 pub fn kept_life_promises()
     ensures begins { BeginsDurable }
     ensures stays { StaysDurable }
@@ -155,8 +160,57 @@ pub fn kept_life_promises()
     ensures kept { DurableHasKept }
     ensures suffices { DiskSuffices }
     ensures handed_out { HandsOutNew }
+    ensures queries_taken { TakesNewQueries }
     ensures remembered { RemembersJoins }
-    ensures taking { TakingLaws }
+    ensures taking { TakingLaws event_track }
+    ensures queries_taking { TakingLaws query_track }
+    ensures queries_said { SaidLaws }
+{
+    text_laws();
+    decoded_ranges();
+    sound_snapshots();
+    recall_laws();
+    slot_laws();
+    read_laws();
+    least_time_laws();
+    kept_note_laws();
+    query_line_laws();
+    said_laws();
+    said_query_laws();
+    keeping_laws();
+    kept_text_laws();
+    kept_restart_laws();
+    kept_step_laws();
+    kept_compaction_laws();
+    unkept_laws();
+}
+
+/// What a sink shows of its bytes changes nothing of what an agent does: over a sink that shows nothing, as a file, it does
+/// and hands out the same. Whatever such a sink may do, one that shows its bytes may do too. Does nothing.
+pub fn unseen_laws()
+    ensures { UnseenLaws }
+{}
+
+/// What is promised of one agent over a sink that shows nothing of its bytes, as a file, with the setting `keep_events` or
+/// without it. Does nothing.
+///
+/// Each life opens on a text that begins with all that was flushed, with any bytes after it. Then no event is handed out
+/// twice, nor a query. What the agent fires is later than all of its kind that was handed out before. Where the settings
+/// stay and keep events, what is new is handed out, or enters, and what a join set is
+/// remembered: as [`kept_life_promises`] says it.
+///
+/// `opens` says that such a text is one for [`Agent::open`](crate::Agent::open), of the agent of each such life
+/// (`restarted`). So each call goes on following the ideal agent, which forgets nothing.
+pub fn unseen_promises()
+    ensures once { HandsOutOnceUnseen }
+    ensures queries_once { HandsOutQueriesOnceUnseen }
+    ensures later { FiresLaterUnseen }
+    ensures queries_later { AsksLaterUnseen }
+    ensures handed_out { HandsOutNewUnseen }
+    ensures queries_taken { TakesNewQueriesUnseen }
+    ensures remembered { RemembersJoinsUnseen }
+    ensures opens { OpensUnseen }
+    ensures opens_behind { OpensBehind }
 {
     text_laws();
     decoded_ranges();
@@ -172,4 +226,23 @@ pub fn kept_life_promises()
     kept_step_laws();
     kept_compaction_laws();
     unkept_laws();
+    kept_life_promises();
+}
+
+/// What each call leaves of what was handed out, and of a sound agent. Does nothing.
+///
+/// What is new to the history, or later than it, stays so to what was handed out, also where some of that is left out. What
+/// is fired is later. For proofs of crates above.
+pub fn once_steps()
+    ensures stays { StaysOnce }
+    ensures begins { BeginsOnce }
+    ensures fires { FiresBehind }
+    ensures asks { AsksBehind }
+    ensures sound { StepsSound }
+    ensures begins_sound { BeginsSound }
+{
+    text_laws();
+    decoded_ranges();
+    sound_snapshots();
+    kept_restart_laws();
 }

@@ -57,7 +57,8 @@ pub use defaults::{
 pub use handed::HandedQuery;
 pub use laws::{
     keeping_laws, kept_compaction_laws, kept_life_promises, kept_restart_laws, kept_step_laws,
-    kept_text_laws, life_promises, short_packets, sound_steps, unkept_laws,
+    kept_text_laws, life_promises, once_steps, short_packets, sound_steps, unkept_laws,
+    unseen_laws, unseen_promises,
 };
 pub use lent_queries::LentQueries;
 pub use lists::{BytesList, List, Response, Responses};

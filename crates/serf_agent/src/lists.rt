@@ -9,7 +9,7 @@ use std::marker::Model;
 /// Items in order.
 ///
 /// Contracts see the list of them. It is made from a `Vec` and gives it back without memory.
-#[derive(Debug, Drop)]
+#[derive(Drop)]
 pub struct List<T> {
     items: Vec<T>,
 }
@@ -68,7 +68,7 @@ impl<T: Drop> List<T> {
 pub type BytesList = List<Bytes>;
 
 /// What a node answered to a query.
-#[derive(Debug, Drop)]
+#[derive(Drop)]
 pub struct Response {
     /// The answering node's name.
     pub from: Bytes,

@@ -1,14 +1,58 @@
-//! Clock lines, and the lines of what is kept beside them.
+//! A time's clock line, and the line of its own that is noted beside it.
 
-ghost use Rattle.std.specs.Prelude.{◌≡◌, false};
-ghost use Rattle.serf_snap.specs.Ends.{ReplacesText};
+ghost use Rattle.std.specs.Prelude.{◌≡◌, false, true, MatchOption, None};
+ghost use Rattle.serf_snap.specs.KeptNotes.{lines_given};
 ghost use Rattle.serf_agent.specs.Steps.{WritesLine};
-ghost use Rattle.serf_agent.specs.Told.{text_with};
 
 use serf_lamport::Time;
-use serf_snap::{ClockKind, NoteFault, ReplaceSink, Sink, Snapshot};
-use serf_wire::Bytes;
+use serf_snap::{ClockKind, NoteFault, Sink, Snapshot};
 use std::alloc::Global;
+use std::marker::Model;
+
+/// The line of its own that a time has beside its clock line, or none, which has no bytes.
+#[derive(Drop)]
+pub(crate) struct OwnLine {
+    bytes: Vec<u8>,
+}
+
+impl Model for OwnLine {
+    ghost use Rattle.std.specs.Prelude.{ℕ, List, Option};
+    ghost use Rattle.serf_snap.specs.KeptNotes.{lines_given};
+
+    ghost Value = { Option (List ℕ) };
+
+    ghost view = { λ l. lines_given l.bytes.items };
+}
+
+impl OwnLine {
+    /// The line of these bytes.
+    pub(crate) fn of(bytes: Vec<u8>) -> OwnLine
+        ensures { result ≡ lines_given bytes.items }
+    {
+        OwnLine { bytes }
+    }
+
+    /// No line. Takes no memory.
+    pub(crate) fn none(alloc: Global) -> OwnLine
+        ensures { result ≡ None }
+    {
+        OwnLine::of(Vec::new(alloc))
+    }
+
+    /// Whether it is none.
+    pub(crate) fn is_none(&self) -> bool
+        ensures { MatchOption self.now (result ≡ true) (λ line. result ≡ false) }
+    {
+        self.bytes.is_empty()
+    }
+
+    /// Its bytes.
+    fn as_slice(&self) -> &[u8]
+        ensures { lines_given result.now ≡ self.now }
+    {
+        self.bytes.as_slice()
+    }
+}
 
 /// Notes a time of a kind, with a line of its own where it has one: both are written by one append and one flush.
 pub(crate) fn note_line<S: Sink>(
@@ -16,28 +60,10 @@ pub(crate) fn note_line<S: Sink>(
     alloc: Global,
     kind: ClockKind,
     time: Time,
-    line: &Option<Bytes>,
+    line: &OwnLine,
 ) -> Result<(), NoteFault>
     requires { snapshot.old.snapshot.stopped ≡ false }
     ensures { WritesLine kind time line.now snapshot.old snapshot.new result }
 {
-    match line {
-        Some(line) => snapshot.note_kept(alloc, kind, time, line.as_slice()),
-        None => snapshot.note(alloc, kind, time),
-    }
-}
-
-/// Replaces a snapshot's text, which keeps these lines where there are some.
-pub(crate) fn replace_lines<S: ReplaceSink>(
-    snapshot: &mut Snapshot<S>,
-    alloc: Global,
-    lines: &Option<Bytes>,
-) -> Result<(), NoteFault>
-    ensures { ReplacesText (text_with lines.now snapshot.old.snapshot) snapshot.old snapshot.new
-        result }
-{
-    match lines {
-        Some(lines) => snapshot.compact_with(alloc, lines.as_slice()),
-        None => snapshot.compact(alloc),
-    }
+    snapshot.note(alloc, kind, time, line.as_slice())
 }

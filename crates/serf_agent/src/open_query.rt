@@ -14,7 +14,7 @@ use std::alloc::{AllocError, Global};
 use std::mem;
 
 /// A query that this agent fired, while it takes answers (Serf's `query.go`, `QueryResponse`).
-#[derive(Debug, Drop)]
+#[derive(Drop)]
 pub struct OpenQuery {
     /// The query's ID, which an answer has to name.
     pub id: u32,

@@ -8,7 +8,7 @@ use serf_wire::{Bytes, WireFault};
 use thiserror::Error;
 
 /// An event that is handed out to the agent's user.
-#[derive(Debug, Drop)]
+#[derive(Drop)]
 pub struct EventOut {
     pub time: Time,
     pub name: Bytes,
@@ -18,7 +18,7 @@ pub struct EventOut {
 }
 
 /// An event that was fired: the packet to send, and the event as it is handed out here.
-#[derive(Debug, Drop)]
+#[derive(Drop)]
 pub struct Fired {
     pub packet: Bytes,
     pub handed: EventOut,
@@ -52,7 +52,7 @@ pub enum Reason {
 }
 
 /// What came of a packet.
-#[derive(Debug, Drop)]
+#[derive(Drop)]
 pub enum Outcome {
     /// The event is new: it is handed out, and the packet is to be sent on unchanged.
     Event(EventOut),
@@ -90,7 +90,7 @@ pub enum OpenFault {
 }
 
 /// The settings and the sink of an agent that isn't opened, and why.
-#[derive(Debug, Drop)]
+#[derive(Drop)]
 pub struct NotOpened<S> {
     pub config: Config,
     pub sink: S,
@@ -159,7 +159,7 @@ pub enum MergeFault {
 }
 
 /// How a query is fired.
-#[derive(Debug, Drop)]
+#[derive(Drop)]
 pub struct QueryParams {
     /// Which nodes are asked: those that every filter lets pass.
     pub filters: BytesList,
@@ -179,7 +179,7 @@ pub struct QueryParams {
 }
 
 /// A query that was fired: the packet to send, and what this node hands out and sends as its own ack.
-#[derive(Debug, Drop)]
+#[derive(Drop)]
 pub struct FiredQuery {
     pub time: Time,
     pub packet: Bytes,
@@ -210,7 +210,7 @@ pub enum QueryFault {
 }
 
 /// A response to send to an address and a port.
-#[derive(Debug, Drop)]
+#[derive(Drop)]
 pub struct Reply {
     pub addr: Bytes,
     pub port: u16,

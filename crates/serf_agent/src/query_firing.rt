@@ -24,7 +24,7 @@ use crate::flags::{ACK, flags_of, has_flag};
 use crate::handed::deadline_of;
 use crate::laws::sound_snapshots;
 use crate::lists::{BytesList, Responses};
-use crate::noting::note_line;
+use crate::noting::{OwnLine, note_line};
 use crate::open_query::OpenQuery;
 use crate::outcome::{FiredQuery, QueryFault, QueryParams};
 use crate::queries::{Passed, filter_passes, pass};
@@ -99,7 +99,7 @@ fn note_asked<S: Sink>(
     snapshot: &mut Snapshot<S>,
     alloc: Global,
     time: Time,
-    line: &Option<Bytes>,
+    line: &OwnLine,
     query: OpenQuery,
 ) -> Result<(), NoteFault>
     requires later { All (λ q. q.0 < time) asked.old }

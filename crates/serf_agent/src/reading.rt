@@ -1,8 +1,9 @@
 //! What an agent says of itself. None of these calls takes memory.
 
-ghost use Rattle.std.specs.Prelude.{◌≡◌, ◌<◌, ◌-◌, ◌^◌, false, true, map, option_copied, IfSome};
+ghost use Rattle.std.specs.Prelude.{◌≡◌, ◌<◌, ◌≤◌, ◌*◌, ◌-◌, ◌^◌, false, true, map, option_copied, IfSome};
 ghost use Rattle.serf_wire.specs.Buffers.{slots_lent};
 ghost use Rattle.serf_window.specs.Slots.{slot_view};
+ghost use Rattle.serf_window.specs.Window.{held_count};
 ghost use Rattle.serf_snap.specs.Compaction.{is_worth_compacting, is_worth_replacing};
 ghost use Rattle.serf_snap.specs.Device.{IsClean, append_failing, flush_failing, durable_of, with_plan, replace_failing};
 ghost use Rattle.serf_agent.specs.Config.{is_sound};
@@ -55,6 +56,15 @@ impl<S: Sink> Agent<S> {
         self.events.minimum()
     }
 
+    /// How many events the buffer holds, whatever filled it: the calls of this life, or its opening.
+    pub fn held_events(&self) -> u64
+        ensures count { result ≡ held_count self.now.concrete.events.slots }
+        ensures bound { result
+            ≤ self.now.concrete.config.event_buffer * self.now.concrete.config.per_time }
+    {
+        self.events.held()
+    }
+
     /// The least time of a query that is taken.
     pub fn query_minimum(&self) -> u64
         ensures { result ≡ self.now.concrete.queries.minimum }
@@ -89,11 +99,11 @@ impl<S: Sink> Agent<S> {
         ensures never { limit ≡ 2 ^ 64 - 1 → result ≡ false }
     {
         if !self.config.keep_events {
-            return self.snapshot.should_compact(limit);
+            return self.snapshot.should_compact(limit, 0);
         }
         // with no lines a compaction is shorter: where that isn't worth it, the buffers aren't gone over
-        self.snapshot.should_compact_with(limit, 0)
-            && self.snapshot.should_compact_with(limit, self.kept_length())
+        self.snapshot.should_compact(limit, 0)
+            && self.snapshot.should_compact(limit, self.kept_length())
     }
 
     /// The slots of the event buffer, in order. One that was never used has the time 0 and no events.

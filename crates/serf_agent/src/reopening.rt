@@ -1,24 +1,19 @@
 //! What an opening takes of a text, before its sink is touched.
 
-ghost use Rattle.std.specs.Prelude.{◌≡◌, ◌<◌, ◌+◌, false, true, [], map, length, All, IfOk, IfSome, IfNone, IsOk};
+ghost use Rattle.std.specs.Prelude.{◌≡◌, ◌<◌, false, true, map, length, IfOk, IsOk};
 ghost use Rattle.serf_lamport.specs.Clock.{greatest_clock};
-ghost use Rattle.serf_window.specs.Queries.{same_id};
 ghost use Rattle.serf_window.specs.Recall.{entries_offered};
-ghost use Rattle.serf_window.specs.Texts.{event_of, same_texts};
+ghost use Rattle.serf_window.specs.Texts.{event_of};
 ghost use Rattle.serf_snap.specs.Clocks.{last_clock};
-ghost use Rattle.serf_snap.specs.EventLines.{events_in, least_in, queries_in};
 ghost use Rattle.serf_snap.specs.declared.kind.ClockKind.TheVariants as kinds;
 ghost use Rattle.serf_agent.specs.Config.{is_sound};
-ghost use Rattle.serf_agent.specs.Inside.{concrete_of, first_events, first_queries, first_track};
-ghost use Rattle.serf_agent.specs.KeptRestart.{events_reached, queries_reached};
-ghost use Rattle.serf_agent.specs.KeptTexts.{event_entry, kept_events, query_entry, within_reach};
+ghost use Rattle.serf_agent.specs.Inside.{concrete_of, first_events, first_queries};
+ghost use Rattle.serf_agent.specs.KeptTexts.{event_entry, query_entry, within_reach};
 
 use crate::config::{Config, LONGEST_TEXTS};
 use crate::laws::kept_text_laws;
 use crate::track::{EventTrack, QueryTrack};
-use serf_snap::{
-    KeptEvent, KeptQuery, Wanted, read_clocks, read_events, read_least_times, read_queries,
-};
+use serf_snap::{Clocks, KeptEvent, KeptQuery, Wanted, read_kept, read_times};
 use serf_window::Offer;
 use serf_wire::EventView;
 use std::alloc::{AllocError, Global};
@@ -75,83 +70,85 @@ fn query_offers(alloc: Global, queries: &[KeptQuery]) -> Result<Vec<Offer<u32>>,
     Ok(offers)
 }
 
-/// The events of a text that a buffer takes back.
-fn recalled_events(alloc: Global, config: &Config, text: &[u8]) -> Result<EventTrack, AllocError>
-    requires { is_sound config.now ≡ true }
-    ensures concrete { IfOk result (λ track. concrete_of track ≡ first_track true same_texts
-        config.now.event_buffer config.now.per_time (last_clock kinds.Event text.now)
-        (least_in kinds.Event text.now)
-        (events_reached config.now (last_clock kinds.Event text.now) text.now)) }
-    ensures size { IfOk result (λ track. length track.window.slots ≡ config.now.event_buffer) }
-    ensures per_time { IfOk result (λ track. track.window.per_time ≡ config.now.per_time) }
-{
-    kept_text_laws();
-    let last = read_clocks(text).event_clock;
-    let least = read_least_times(text).events;
-    let kept = read_events(alloc, text, within_reach(config.event_buffer, last, least))?;
-    let offers = event_offers(alloc, kept.as_slice())?;
-    EventTrack::recalled(
-        alloc,
-        config.event_buffer,
-        config.per_time,
-        last,
-        least,
-        offers.as_slice(),
-    )
+/// The tracks that an opening begins with, and the clocks of its text.
+#[derive(Drop)]
+pub(crate) struct FirstTracks {
+    pub(crate) clocks: Clocks,
+    pub(crate) events: EventTrack,
+    pub(crate) queries: QueryTrack,
 }
 
-/// The queries of a text that a buffer takes back.
-fn recalled_queries(alloc: Global, config: &Config, text: &[u8]) -> Result<QueryTrack, AllocError>
-    requires { is_sound config.now ≡ true }
-    ensures concrete { IfOk result (λ track. concrete_of track ≡ first_track true same_id
-        config.now.query_buffer config.now.per_time (last_clock kinds.Query text.now)
-        (least_in kinds.Query text.now)
-        (queries_reached config.now (last_clock kinds.Query text.now) text.now)) }
-    ensures size { IfOk result (λ track. length track.window.slots ≡ config.now.query_buffer) }
-    ensures per_time { IfOk result (λ track. track.window.per_time ≡ config.now.per_time) }
-{
-    kept_text_laws();
-    let last = read_clocks(text).query_clock;
-    let least = read_least_times(text).queries;
-    let kept = read_queries(alloc, text, within_reach(config.query_buffer, last, least))?;
-    let offers = query_offers(alloc, kept.as_slice())?;
-    QueryTrack::recalled(
-        alloc,
-        config.query_buffer,
-        config.per_time,
-        last,
-        least,
-        offers.as_slice(),
-    )
-}
-
-/// What an opening on a text takes back, where the settings keep events: the events and the queries that the text keeps.
-/// Else it is nothing, which takes no memory.
-pub(crate) fn recalled_tracks(
+/// What an opening on a text begins with. Where the settings keep events its tracks take back the events and the queries
+/// that the text keeps. Else they have nothing, and no memory is taken.
+pub(crate) fn first_tracks(
     alloc: Global,
     config: &Config,
     text: &[u8],
-) -> Result<Option<(EventTrack, QueryTrack)>, AllocError>
+) -> Result<FirstTracks, AllocError>
     requires { is_sound config.now ≡ true }
-    ensures events { IfOk result (λ kept. IfSome kept (λ tracks. concrete_of tracks.0
-        ≡ first_events config.now text.now (last_clock kinds.Event text.now))) }
-    ensures event_size { IfOk result (λ kept. IfSome kept (λ tracks. length tracks.0.window.slots
-        ≡ config.now.event_buffer)) }
-    ensures event_per_time { IfOk result (λ kept. IfSome kept (λ tracks. tracks.0.window.per_time
-        ≡ config.now.per_time)) }
-    ensures queries { IfOk result (λ kept. IfSome kept (λ tracks. concrete_of tracks.1
-        ≡ first_queries config.now text.now (last_clock kinds.Query text.now))) }
-    ensures query_size { IfOk result (λ kept. IfSome kept (λ tracks. length tracks.1.window.slots
-        ≡ config.now.query_buffer)) }
-    ensures query_per_time { IfOk result (λ kept. IfSome kept (λ tracks. tracks.1.window.per_time
-        ≡ config.now.per_time)) }
-    ensures none { IfOk result (λ kept. IfNone kept (config.now.keep_events ≡ false)) }
+    ensures member_clock { IfOk result (λ first. first.clocks.member_clock
+        ≡ last_clock kinds.Member text.now) }
+    ensures event_clock { IfOk result (λ first. first.clocks.event_clock
+        ≡ last_clock kinds.Event text.now) }
+    ensures query_clock { IfOk result (λ first. first.clocks.query_clock
+        ≡ last_clock kinds.Query text.now) }
+    ensures times { IfOk result (λ first. (first.clocks.member_clock < greatest_clock)
+        × (first.clocks.event_clock < greatest_clock)
+        × (first.clocks.query_clock < greatest_clock)) }
+    ensures events { IfOk result (λ first. concrete_of first.events
+        ≡ first_events config.now text.now (last_clock kinds.Event text.now)) }
+    ensures event_size { IfOk result (λ first. length first.events.window.slots
+        ≡ config.now.event_buffer) }
+    ensures event_per_time { IfOk result (λ first. first.events.window.per_time
+        ≡ config.now.per_time) }
+    ensures queries { IfOk result (λ first. concrete_of first.queries
+        ≡ first_queries config.now text.now (last_clock kinds.Query text.now)) }
+    ensures query_size { IfOk result (λ first. length first.queries.window.slots
+        ≡ config.now.query_buffer) }
+    ensures query_per_time { IfOk result (λ first. first.queries.window.per_time
+        ≡ config.now.per_time) }
     ensures free { config.now.keep_events ≡ false → IsOk result }
 {
+    kept_text_laws();
+    let times = read_times(text);
+    let (clocks, least) = (times.clocks, times.least);
+    let per_time = config.per_time;
     if !config.keep_events {
-        return Ok(None);
+        let events = EventTrack::after(alloc, config.event_buffer, per_time, clocks.event_clock);
+        let queries = QueryTrack::after(alloc, config.query_buffer, per_time, clocks.query_clock);
+        return Ok(FirstTracks {
+            clocks,
+            events,
+            queries,
+        });
     }
-    let events = recalled_events(alloc, config, text)?;
-    let queries = recalled_queries(alloc, config, text)?;
-    Ok(Some((events, queries)))
+    let (event_slots, query_slots) = (config.event_buffer, config.query_buffer);
+    let event_reach = within_reach(event_slots, clocks.event_clock, least.events);
+    let query_reach = within_reach(query_slots, clocks.query_clock, least.queries);
+    let kept = read_kept(alloc, text, event_reach, query_reach)?;
+    let offers = event_offers(alloc, kept.events.as_slice())?;
+    let asked = query_offers(alloc, kept.queries.as_slice())?;
+    let (last, least_time) = (clocks.event_clock, least.events);
+    let events = EventTrack::recalled(
+        alloc,
+        event_slots,
+        per_time,
+        last,
+        least_time,
+        offers.as_slice(),
+    )?;
+    let (last, least_time) = (clocks.query_clock, least.queries);
+    let queries = QueryTrack::recalled(
+        alloc,
+        query_slots,
+        per_time,
+        last,
+        least_time,
+        asked.as_slice(),
+    )?;
+    Ok(FirstTracks {
+        clocks,
+        events,
+        queries,
+    })
 }

@@ -25,7 +25,7 @@ ghost use Rattle.serf_agent.specs.View.{concrete_with, view_of};
 
 use crate::agent::Agent;
 use crate::laws::sound_snapshots;
-use crate::noting::{note_line, replace_lines};
+use crate::noting::{OwnLine, note_line};
 use crate::outcome::{EventOut, MergeFault, PushPullFault};
 use crate::telling::told_least;
 use serf_lamport::Time;
@@ -129,7 +129,7 @@ impl<S: Sink> Agent<S> {
         let Some(time) = Time::new(self.member_clock.time().saturating_sub(1)) else {
             unreachable!()
         };
-        self.snapshot.note(alloc, ClockKind::Member, time)
+        self.snapshot.note(alloc, ClockKind::Member, time, b"")
     }
 
     /// Makes the clocks at least those of another agent; where this one joins and its settings say so, the least time of
@@ -152,7 +152,7 @@ impl<S: Sink> Agent<S> {
     }
 
     /// Notes the line of a least time of events, if there is one.
-    fn note_least(&mut self, alloc: Global, line: &Option<Bytes>) -> Result<(), NoteFault>
+    fn note_least(&mut self, alloc: Global, line: &OwnLine) -> Result<(), NoteFault>
         requires { self.old.concrete.snapshot.stopped ≡ false }
         ensures noted { OnOk result (self.new.concrete ≡ concrete_with
             (noted_with kinds.Event 0 line.now self.old.concrete.snapshot Kept)
@@ -163,10 +163,10 @@ impl<S: Sink> Agent<S> {
         let Some(no_time) = Time::new(0) else {
             unreachable!()
         };
-        match line {
-            Some(_) => note_line(&mut self.snapshot, alloc, ClockKind::Event, no_time, line),
-            None => Ok(()),
+        if line.is_none() {
+            return Ok(());
         }
+        note_line(&mut self.snapshot, alloc, ClockKind::Event, no_time, line)
     }
 
     /// Hears of the clocks of another agent. Where this one joins, and its settings ignore what is old and keep events, the line
@@ -423,6 +423,6 @@ impl<S: ReplaceSink> Agent<S> {
             return Err(NoteFault::Stopped);
         }
         let lines = self.told_lines(alloc)?;
-        replace_lines(&mut self.snapshot, alloc, &lines)
+        self.snapshot.compact(alloc, lines.as_slice())
     }
 }

@@ -8,6 +8,7 @@ ghost use Rattle.serf_wire.specs.Message.{push_pull_said};
 ghost use Rattle.serf_window.specs.Texts.{event_of};
 ghost use Rattle.serf_snap.specs.Compaction.{counted};
 ghost use Rattle.serf_snap.specs.EventLines.{query_line};
+ghost use Rattle.serf_snap.specs.KeptNotes.{lines_given};
 ghost use Rattle.serf_snap.specs.declared.kind.ClockKind.TheVariants as kinds;
 ghost use Rattle.serf_agent.specs.Events.{told_event};
 ghost use Rattle.serf_agent.specs.Inside.{concrete_of};
@@ -18,13 +19,14 @@ ghost use Rattle.serf_agent.specs.States.{told_least, told_lines};
 
 use crate::agent::Agent;
 use crate::config::Config;
+use crate::noting::OwnLine;
 use crate::track::Track;
 use serf_lamport::Time;
 use serf_snap::{
     ClockKind, Sink, event_line_length, put_event_line, put_least_line, put_query_line,
     query_line_length,
 };
-use serf_wire::{Bytes, EventBody, LentSlot, LentSlots, PushPull};
+use serf_wire::{EventBody, LentSlot, LentSlots, PushPull};
 use std::alloc::{AllocError, Global};
 
 /// The line of its own that an event has beside its clock line, where the settings keep events.
@@ -34,16 +36,16 @@ pub(crate) fn told_event(
     time: Time,
     name: &[u8],
     payload: &[u8],
-) -> Result<Option<Bytes>, AllocError>
+) -> Result<OwnLine, AllocError>
     ensures { IfOk result (λ line. line
         ≡ told_event config.now time (event_of name.now payload.now)) }
 {
     if !config.keep_events {
-        return Ok(None);
+        return Ok(OwnLine::none(alloc));
     }
     let mut line = Vec::new(alloc);
     put_event_line(&mut line, time, name, payload)?;
-    Ok(Some(Bytes::from_vec(line)))
+    Ok(OwnLine::of(line))
 }
 
 /// The line of its own that a query has beside its clock line, where the settings keep events.
@@ -52,15 +54,15 @@ pub(crate) fn told_query(
     config: &Config,
     time: Time,
     id: u32,
-) -> Result<Option<Bytes>, AllocError>
+) -> Result<OwnLine, AllocError>
     ensures { IfOk result (λ line. line ≡ told_query config.now time id) }
 {
     if !config.keep_events {
-        return Ok(None);
+        return Ok(OwnLine::none(alloc));
     }
     let mut line = Vec::new(alloc);
     put_query_line(&mut line, time, id)?;
-    Ok(Some(Bytes::from_vec(line)))
+    Ok(OwnLine::of(line))
 }
 
 /// The line of the least time of events that a join with this state sets, where the settings ignore what is old and keep events.
@@ -70,18 +72,18 @@ pub(crate) fn told_least(
     config: &Config,
     state: &PushPull,
     is_join: bool,
-) -> Result<Option<Bytes>, AllocError>
+) -> Result<OwnLine, AllocError>
     ensures line { IfOk result (λ line. line
         ≡ told_least config.now (push_pull_said state.now) is_join) }
     ensures asked { OnErr result (told_least config.now (push_pull_said state.now) is_join
         ≢ None) }
 {
     if !(config.keep_events && is_join && config.ignore_old) {
-        return Ok(None);
+        return Ok(OwnLine::none(alloc));
     }
     let mut line = Vec::new(alloc);
     put_least_line(&mut line, ClockKind::Event, state.event_clock)?;
-    Ok(Some(Bytes::from_vec(line)))
+    Ok(OwnLine::of(line))
 }
 
 /// A key of a track whose entries a snapshot keeps, each in a line of its own: an event's texts, or a query's ID.
@@ -195,15 +197,15 @@ fn put_stored<K: Told>(
 
 impl<S: Sink> Agent<S> {
     /// The lines that a compaction keeps beside the last clock lines, where the settings keep events: of each kind the least time
-    /// that may be taken, and what the buffer holds from there on.
-    pub(crate) fn told_lines(&self, alloc: Global) -> Result<Option<Bytes>, AllocError>
-        ensures { IfOk result (λ lines. lines ≡ told_lines self.now.concrete) }
+    /// that may be taken, and what the buffer holds from there on. Else there are none.
+    pub(crate) fn told_lines(&self, alloc: Global) -> Result<Vec<u8>, AllocError>
+        ensures { IfOk result (λ lines. lines_given lines.items ≡ told_lines self.now.concrete) }
     {
+        let mut text = Vec::new(alloc);
         if !self.config.keep_events {
-            return Ok(None);
+            return Ok(text);
         }
         let last = self.snapshot.clocks();
-        let mut text = Vec::new(alloc);
         put_stored(
             &mut text,
             self.config.event_buffer,
@@ -216,6 +218,6 @@ impl<S: Sink> Agent<S> {
             last.query_clock,
             &self.queries,
         )?;
-        Ok(Some(Bytes::from_vec(text)))
+        Ok(text)
     }
 }

@@ -1,11 +1,11 @@
 //! What an agent knows of its events, or of its queries.
 
-ghost use Rattle.std.specs.Prelude.{◌≡◌, ℕ, ◌<◌, ◌≤◌, ◌-◌, ◌+◌, true, All, List, [], ◌∷◌, ◌++◌, max, map, length, OnOk, IfOk, SomeIff};
+ghost use Rattle.std.specs.Prelude.{◌≡◌, ℕ, ◌<◌, ◌≤◌, ◌-◌, ◌+◌, ◌*◌, true, All, List, [], ◌∷◌, ◌++◌, max, map, length, OnOk, IfOk, SomeIff};
 ghost use Rattle.serf_lamport.specs.Clock.{observed, greatest_clock};
 ghost use Rattle.serf_wire.specs.Buffers.{slots_lent};
 ghost use Rattle.serf_window.specs.Recall.{entries_offered};
 ghost use Rattle.serf_window.specs.Slots.{slot_view};
-ghost use Rattle.serf_window.specs.Window.{TimedEntry, count_in, greatest_per_time, greatest_slot_count, room_for, slots_of, time_in};
+ghost use Rattle.serf_window.specs.Window.{TimedEntry, count_in, greatest_per_time, greatest_slot_count, held_count, room_for, slots_of, time_in};
 ghost use Rattle.serf_agent.specs.Events.{drawn};
 ghost use Rattle.serf_agent.specs.Ideal as ideal;
 ghost use Rattle.serf_agent.specs.Inside.{concrete_of, first_track, new_track};
@@ -113,6 +113,14 @@ impl<K: Drop> Track<K> {
         let minimum = track.window.recall(alloc, clock, least, offers)?;
         track.minimum = minimum.max(clock.saturating_sub(slot_count));
         Ok(track)
+    }
+
+    /// How many entries the window holds.
+    pub(crate) fn held(&self) -> u64
+        ensures count { result ≡ held_count self.now.window.slots }
+        ensures bound { result ≤ length self.now.window.slots * self.now.window.per_time }
+    {
+        self.window.held()
     }
 
     pub(crate) fn time(&self) -> u64

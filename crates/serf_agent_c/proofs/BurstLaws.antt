@@ -1,25 +1,22 @@
 -- A burst with one more call is a burst.
-use Rattle.std.proofs.Common.{◌≡◌, ◌≤◌, ℕ, ◌++◌, ◌∷◌, [], ◌∙◌, ap, append_assoc, append-nil, arith, Bool, cond, drop, false, length, List, min, nat_le, None, Option, Result, Ok, Err, refl, Some, subst, sym, true}
+use Rattle.std.proofs.Common.{◌≡◌, ℕ, ◌++◌, ◌∷◌, [], ◌∙◌, ap, append_assoc, append-nil, arith, Bool, cond, drop, false, length, List, min, nat_le, None, Option, Result, Ok, Err, refl, Some, subst, sym, true}
 use Rattle.std.proofs.lemmas.List.{drop-append-le, drop_min}
 use Rattle.std.specs.Prelude.{IsSomeAnd, MatchBool}
-use Rattle.serf_pack.specs.declared.fault.PackFault.{PackFault}
 use Rattle.serf_wire.specs.Decoded.{decoded}
 use Rattle.serf_wire.specs.declared.fault.WireFault.{WireFault}
 use Rattle.serf_wire.specs.declared.texts.EventBody.{EventBody}
 use Rattle.serf_wire.specs.Message.{Message, Query, QueryResponse, user_event, query, query_response, push_pull, foreign}
 use Rattle.serf_snap.specs.Clocks.{clock_line}
 use Rattle.serf_snap.specs.declared.kind.ClockKind.{ClockKind}
-use Rattle.serf_snap.specs.Device.{Device, Observable, appended, durable_of, flushed}
+use Rattle.serf_snap.specs.Device.{Device, Observable, appended, flushed}
 use Rattle.serf_snap.specs.KeptNotes.{kept_bytes}
 use Rattle.serf_snap.specs.Notes.{Failed, Kept, MayWrite, SnapshotView, Writing, last_line}
 use Rattle.serf_window.specs.Texts.{event_of}
 use Rattle.serf_agent.specs.declared.open_query.OpenQuery.{OpenQuery}
 use Rattle.serf_agent.specs.declared.outcome.FireFault.{FireFault}
-use Rattle.serf_agent.specs.declared.outcome.Outcome.{Outcome}
 use Rattle.serf_agent.specs.declared.outcome.QueryFault.{QueryFault}
 use Rattle.serf_agent.specs.declared.outcome.QueryParams.{QueryParams}
 use Rattle.serf_agent.specs.declared.outcome.Reason.{Reason}
-use Rattle.serf_agent.specs.declared.outcome.ReceiveFault.{ReceiveFault}
 use Rattle.serf_agent.specs.Calls.{Call, Ends, Notes, Replaces, MayEnd, ended}
 use Rattle.serf_agent.specs.Devices.{LeavesDevice, device_after}
 use Rattle.serf_agent.specs.Events.{admission, fire, fire_fault, fired_as, received_as}
@@ -33,7 +30,7 @@ use Rattle.serf_agent.specs.View.{AgentState, view_of}
 use Rattle.serf_agent_c.specs.declared.answered.Answered.{Answered}
 use Rattle.serf_agent_c.specs.declared.session.Session.{Session}
 use Rattle.serf_agent_c.specs.Bursts.{BurstCall, Bursts, IsFlushed, after, answers_of, line_of, lines_of, no_failure, outcome, outcome_of}
-use Rattle.serf_agent_c.specs.Texts.{bytes_in, lacking, text_of}
+use Rattle.serf_agent_c.specs.Texts.{bytes_in, text_of}
 
 -- Lists of calls
 
@@ -58,11 +55,11 @@ IsPlain i (Ends step) = step.agent.snapshot ≡ i.snapshot
 IsPlain i (Notes kind t line step fault) = Unit {0}
 IsPlain i (Replaces lines step fault) = ⊥
 
-plain-if : {R : Type 0} (i : IdealAgent) (b : Bool) (x y : Call R) → IsPlain i x → IsPlain i y → IsPlain i (cond b x y)
+pub plain-if : {R : Type 0} (i : IdealAgent) (b : Bool) (x y : Call R) → IsPlain i x → IsPlain i y → IsPlain i (cond b x y)
 plain-if i true x y p q = p
 plain-if i false x y p q = q
 
-event-plain : (reason : Option Reason) (i : IdealAgent) (t : ℕ) (what : EventBody) (coalesce : Bool) → IsPlain i (received_as reason i t what coalesce)
+pub event-plain : (reason : Option Reason) (i : IdealAgent) (t : ℕ) (what : EventBody) (coalesce : Bool) → IsPlain i (received_as reason i t what coalesce)
 event-plain (Some reason) i t what coalesce = refl
 event-plain None i t what coalesce = tt
 
@@ -120,7 +117,7 @@ calm-note s line false (Failed durable) calm may =
     let wrong : false ≡ true = planned.0 in
     cc
 
-calm-kept : {R : Type 0} (i : IdealAgent) (call : Call R) (w : Writing) → i.snapshot.plan ≡ Some no_failure → IsPlain i call → MayEnd i call w → w ≡ Kept
+pub calm-kept : {R : Type 0} (i : IdealAgent) (call : Call R) (w : Writing) → i.snapshot.plan ≡ Some no_failure → IsPlain i call → MayEnd i call w → w ≡ Kept
 calm-kept i (Ends step) w calm plain may = may
 calm-kept i (Notes kind t None step fault) w calm plain may = calm-note i.snapshot (clock_line kind t) (nat_le t (last_line kind i.snapshot)) w calm may
 calm-kept i (Notes kind t (Some line) step fault) w calm plain may = calm-note i.snapshot (kept_bytes kind t line (last_line kind i.snapshot)) false w calm may
@@ -134,21 +131,21 @@ noted-calm kind t None s calm = by (nat_le t (last_line kind s))
     by false = rw calm
 noted-calm kind t (Some line) s calm = rw calm
 
-calm-after : {R : Type 0} (i : IdealAgent) (call : Call R) → i.snapshot.plan ≡ Some no_failure → IsPlain i call → (ended i call Kept).agent.snapshot.plan ≡ Some no_failure
+pub calm-after : {R : Type 0} (i : IdealAgent) (call : Call R) → i.snapshot.plan ≡ Some no_failure → IsPlain i call → (ended i call Kept).agent.snapshot.plan ≡ Some no_failure
 calm-after i (Ends step) calm plain = ap (λ (s : SnapshotView). s.plan) plain ∙ calm
 calm-after i (Notes kind t line step fault) calm plain = noted-calm kind t line i.snapshot calm
 calm-after i (Replaces lines step fault) calm plain = absurd plain
 
 -- what a call leaves of an agent and its device, where the line is durable
-abbrev Leaves : {R : Type 0} → IdealAgent → Call R → R → Device → AgentState → Writing → Type 0
+abbrev pub Leaves : {R : Type 0} → IdealAgent → Call R → R → Device → AgentState → Writing → Type 0
 Leaves i call r old new w = (r ≡ (ended i call w).answer) × (new.concrete ≡ view_of (ended i call w).agent) × IsSound (ended i call w).agent × LeavesDevice i call w old new.device
 
-kept-step : {R : Type 0} (i : IdealAgent) (call : Call R) (r : R) (old : Device) (new : AgentState) → i.snapshot.plan ≡ Some no_failure → IsPlain i call → Steps i call r old new → Leaves i call r old new Kept
+pub kept-step : {R : Type 0} (i : IdealAgent) (call : Call R) (r : R) (old : Device) (new : AgentState) → i.snapshot.plan ≡ Some no_failure → IsPlain i call → Steps i call r old new → Leaves i call r old new Kept
 kept-step i call r old new calm plain s = subst (λ (w : Writing). Leaves i call r old new w) (calm-kept i call s.writing calm plain s.allowed) (s.answers, s.state, s.sound, s.device)
 
 -- The text of the device
 
-abbrev BytesAfter : Option Observable → List ℕ → Option Observable → Type 0
+abbrev pub BytesAfter : Option Observable → List ℕ → Option Observable → Type 0
 BytesAfter old line new = (bytes_in (Rattle.std.specs.Option.option_map (λ (t : Observable). t.durable) new) ≡ bytes_in (Rattle.std.specs.Option.option_map (λ (t : Observable). t.durable) old) ++ line) × IsSomeAnd new (λ (b : Observable). b.buffered ≡ [])
 
 same-bytes : (old : Option Observable) → IsSomeAnd old (λ (b : Observable). b.buffered ≡ []) → BytesAfter old [] old
@@ -162,7 +159,7 @@ note-bytes : (b : Bool) (d : Device) (line : List ℕ) → IsFlushed d → Bytes
 note-bytes true d line is = same-bytes d.observed_bytes is
 note-bytes false d line is = line-bytes d d.observed_bytes line refl is
 
-device-bytes : {R : Type 0} (i : IdealAgent) (call : Call R) (d : Device) → IsPlain i call → IsFlushed d → BytesAfter d.observed_bytes (line_of i call) (device_after i call d).observed_bytes
+pub device-bytes : {R : Type 0} (i : IdealAgent) (call : Call R) (d : Device) → IsPlain i call → IsFlushed d → BytesAfter d.observed_bytes (line_of i call) (device_after i call d).observed_bytes
 device-bytes i (Ends step) d plain is = same-bytes d.observed_bytes is
 device-bytes i (Notes kind t None step fault) d plain is = note-bytes (nat_le t (last_line kind i.snapshot)) d (clock_line kind t) is
 device-bytes i (Notes kind t (Some line) step fault) d plain is = note-bytes false d (kept_bytes kind t line (last_line kind i.snapshot)) is

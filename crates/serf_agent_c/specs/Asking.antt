@@ -1,5 +1,5 @@
 -- What a session does with queries.
-use Rattle.std.specs.Prelude.{[], ◌∷◌, ◌++◌, ◌≡◌, ◌≢◌, ◌==◌, ◌-◌, ℕ, true, if◌then◌else◌, List, Option, Some, None, Result, Ok, Err, filter, not, slice_get, slice_set}
+use Rattle.std.specs.Prelude.{[], ◌∷◌, ◌++◌, ◌≡◌, ◌≢◌, ℕ, true, List, Option, Some, None, Result, Ok, Err, filter, not}
 use Rattle.serf_agent.specs.Handed.{Handed}
 use Rattle.serf_agent.specs.declared.outcome.QueryParams.{QueryParams}
 use Rattle.serf_agent.specs.declared.outcome.Reply.{Reply}
@@ -16,7 +16,8 @@ use Rattle.serf_agent_c.specs.declared.session.Session.{Session}
 use Rattle.serf_agent_c.specs.Calls.{answer_code}
 use Rattle.serf_agent_c.specs.Codes.{respond_code}
 use Rattle.serf_agent_c.specs.Gaves.{closed_in, unsettled_in}
-use Rattle.serf_agent_c.specs.Reads.{kind_of}
+use Rattle.serf_agent_c.specs.Numbered.{Numbered, WaitsInTime, in_time, waiting_at, without}
+use Rattle.serf_agent_c.specs.Reads.{GivesNothing, kind_of}
 use Rattle.serf_agent_c.specs.Sessions.{Appends, KeepsBurst, KeepsFilters, KeepsMembers, Numbers, Rests, is_ready, settled}
 
 -- how a query is fired
@@ -24,15 +25,7 @@ abbrev pub params_of : List (List ℕ) → List ℕ → Params → QueryParams
 params_of filters addr p =
     record { filters = filters; want_ack = p.want_ack; no_broadcast = p.no_broadcast; tags_pass = p.tags_pass; timeout = p.timeout; addr = addr; port = p.port; relay_factor = p.relay_factor }
 
--- the query of a number, among those that wait for an answer
-abbrev pub flat : {A : Type 0} → Option (Option A) → Option A
-flat None = None
-flat (Some x) = x
-
-abbrev pub waiting_at : ℕ → List (Option Handed) → Option Handed
-waiting_at number waiting = if number == 0 then None else flat (slice_get waiting (number - 1))
-
--- what a query is answered with at a moment, or why it isn't; and what is left of it
+-- what a query is answered with at a moment, or why it isn't; and what waits then: a success spends the query
 abbrev pub replied_as : Handed → List ℕ → Option RespondFault → Result Reply RespondFault
 replied_as q payload (Some fault) = Err fault
 replied_as q payload None = Ok record { addr = q.addr; port = q.port; packet = response_packet q payload }
@@ -40,9 +33,9 @@ replied_as q payload None = Ok record { addr = q.addr; port = q.port; packet = r
 abbrev pub reply_of : Handed → ℕ → List ℕ → Result Reply RespondFault
 reply_of q now payload = replied_as q payload (respond_fault q now payload)
 
-abbrev pub left_of : Handed → Result Reply RespondFault → Option Handed
-left_of q (Ok reply) = None
-left_of q (Err fault) = Some q
+abbrev pub left_of : ℕ → Result Reply RespondFault → Numbered → Numbered
+left_of number (Ok reply) n = without number n
+left_of number (Err fault) n = n
 
 -- A filter is added after the others where there is memory for it, and nothing else changes.
 abbrev pub AddsFilter : List ℕ → Session → Session → Code → Type 0
@@ -59,19 +52,40 @@ ForgetsFilters s t code = is_ready s ≡ true → (code ≡ OutOfMemory → Keep
 -- A query that waits is answered, and a success spends it.
 abbrev pub Responds : ℕ → ℕ → List ℕ → Session → Session → Code → Type 0
 Responds number now payload s t code =
-    is_ready s ≡ true → code ≢ OutOfMemory → (q : Handed) → waiting_at number (settled s) ≡ Some q
+    is_ready s ≡ true → code ≢ OutOfMemory → (q : Handed) → waiting_at number (settled s).waiting ≡ Some q
     → (t.gave ≡ Replied (reply_of q now payload)) × (code ≡ answer_code respond_code (reply_of q now payload))
-    × (t.waiting.items ≡ slice_set (settled s) (number - 1) (left_of q (reply_of q now payload)))
+    × (settled t ≡ left_of number (reply_of q now payload) (settled s))
 
 -- A number that no waiting query has is answered by its code; for that, and for want of memory, nothing is given, and each
 -- query that was handed out keeps its number.
 abbrev pub Declines : ℕ → Session → Session → Code → Type 0
 Declines number s t code =
     is_ready s ≡ true
-    → (waiting_at number (settled s) ≡ None → code ≢ OutOfMemory → code ≡ NotHanded)
+    → (waiting_at number (settled s).waiting ≡ None → code ≢ OutOfMemory → code ≡ NotHanded)
     × (code ≡ NotHanded → Rests s t)
     × (code ≡ OutOfMemory → Rests s t)
     × Appends s t × KeepsFilters s t × KeepsMembers s t × KeepsBurst s t
+
+-- A query that waits is forgotten: the others wait on, by their numbers, and nothing is given.
+abbrev pub Forgets : ℕ → Session → Session → Code → Type 0
+Forgets number s t code =
+    is_ready s ≡ true → code ≢ OutOfMemory → (q : Handed) → waiting_at number (settled s).waiting ≡ Some q
+    → (code ≡ Done) × GivesNothing t.gave × (settled t ≡ without number (settled s))
+
+-- Memory isn't wanting where the last query that was handed out is with those that wait already.
+abbrev pub IsSpared : Session → Code → Type 0
+IsSpared s code = is_ready s ≡ true → unsettled_in s.gave ≡ None → code ≢ OutOfMemory
+
+-- The queries that were handed out, and whose deadline is past, are forgotten, but for want of memory; the others wait on, by
+-- their numbers.
+abbrev pub ForgetsLate : ℕ → Session → Session → Code → Type 0
+ForgetsLate now s t code =
+    is_ready s ≡ true
+    → (code ≢ OutOfMemory → settled t ≡ in_time now (settled s)) × Appends s t × KeepsFilters s t × KeepsMembers s t × KeepsBurst s t
+
+-- So what waits then can still be answered at that moment, and each number is there once.
+abbrev pub IsBounded : ℕ → Session → Code → Type 0
+IsBounded now t code = code ≡ Done → WaitsInTime now (settled t)
 
 -- The open queries whose deadline is past are closed, as the ideal agent does, and the sink isn't called: just these are what
 -- was given, as they stood and in order, with the answers that were counted.

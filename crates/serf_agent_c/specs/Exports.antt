@@ -1,7 +1,7 @@
 -- What an export does through a handle.
-use Rattle.std.specs.Prelude.{◌≡◌, ℕ, Option, Some, None, IsSomeAnd}
+use Rattle.std.specs.Prelude.{◌≡◌, ◌≢◌, ℕ, Option, Some, None, IsSomeAnd}
 use Rattle.serf_agent_c.specs.declared.code.Code.{Code}
-use Rattle.serf_agent_c.specs.declared.code.Code.TheVariants.{Empty}
+use Rattle.serf_agent_c.specs.declared.code.Code.TheVariants.{Done, Empty}
 use Rattle.serf_agent_c.specs.declared.handle.Handle.{Handle}
 use Rattle.serf_agent_c.specs.declared.session.Session.{Session}
 use Rattle.serf_agent_c.specs.Codes.{number_of}
@@ -22,3 +22,7 @@ Answers P old new n = Through P old.place.value new.place.value n
 
 abbrev pub Shows : (Session → Code → Type 0) → Handle → Handle → ℕ → Type 0
 Shows P old new n = Reads P old.place.value new.place.value n
+
+-- What C gave to be filled is as it was, unless the call is done: so it is on an empty handle.
+abbrev pub FillsIfDone : Type 0 → ℕ → Type 0
+FillsIfDone Same n = n ≢ number_of Done → Same

@@ -1,6 +1,7 @@
 pub mod Codes
 pub mod Texts
 pub mod Gaves
+pub mod Numbered
 pub mod Sessions
 pub mod Calls
 pub mod Asking
@@ -19,3 +20,5 @@ pub mod Observing
 pub mod Told
 pub mod Intents
 pub mod Filters
+pub mod Hosts
+pub mod HostLaws

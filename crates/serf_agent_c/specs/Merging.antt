@@ -1,6 +1,5 @@
 -- What a session does with whole states, and with a compaction.
 use Rattle.std.specs.Prelude.{map, ◌≡◌, ◌≢◌, ℕ, Bool, true, false, List, [], Option, Some, None, Ok}
-use Rattle.serf_snap.specs.Device.{durable_of}
 use Rattle.serf_wire.specs.Decoded.{decoded}
 use Rattle.serf_wire.specs.Message.{PushPull, push_pull}
 use Rattle.serf_agent.specs.declared.outcome.MergeFault.{MergeFault}
@@ -65,4 +64,4 @@ Compacts s t code =
 
 -- For want of memory a compaction changes nothing of the agent or its text, and nothing is given.
 abbrev pub IsUncompacted : Session → Session → Code → Type 0
-IsUncompacted s t code = code ≡ OutOfMemory → (t.agent.concrete ≡ s.agent.concrete) × (durable_of t.agent.device ≡ durable_of s.agent.device) × Rests s t
+IsUncompacted s t code = code ≡ OutOfMemory → (t.agent.concrete ≡ s.agent.concrete) × (t.agent.device.observed_bytes ≡ s.agent.device.observed_bytes) × Rests s t

@@ -14,6 +14,7 @@ use Rattle.serf_agent_c.specs.declared.gave.Gave.TheVariants.{Nothing}
 use Rattle.serf_agent_c.specs.declared.heads.Settings.{Settings}
 use Rattle.serf_agent_c.specs.declared.session.Session.{Session}
 use Rattle.serf_agent_c.specs.Codes.{number_of}
+use Rattle.serf_agent_c.specs.Numbered.{numbered}
 
 -- A limit of packets, where 0 stands for Serf's own: a host in C that leaves the field out has 0 there.
 abbrev pub limit_or : ℕ → ℕ → ℕ
@@ -41,7 +42,7 @@ IsFirst name settings text s =
 
 -- It gave nothing yet; its text is the file's, after which stands the end of a torn last line, which the file lacks.
 abbrev pub IsFresh : List ℕ → Session → Type 0
-IsFresh text s = (s.agent.device ≡ opened_device text (fresh_device text)) × (s.written ≡ length text) × (s.replaces ≡ false) × (s.gave ≡ Nothing) × (s.waiting.items ≡ []) × (s.filters ≡ []) × (s.status.items ≡ []) × (s.left ≡ []) × (s.burst.items ≡ [])
+IsFresh text s = (s.agent.device ≡ opened_device text (fresh_device text)) × (s.written ≡ length text) × (s.replaces ≡ false) × (s.gave ≡ Nothing) × (numbered s.waiting ≡ record { handed = 0; waiting = [] }) × (s.filters ≡ []) × (s.status.items ≡ []) × (s.left ≡ []) × (s.burst.items ≡ [])
 
 -- How an opening ends into an empty handle: with a session; or with none, where the settings are out of bounds, or for want of
 -- memory.

@@ -1,9 +1,8 @@
 -- What a session is between two calls, and what each call leaves of it.
-use Rattle.std.specs.Prelude.{◌≡◌, ◌++◌, ◌&&◌, Bool, false, not, List, length, map, Option, Some}
-use Rattle.std.specs.Option.{option_to_list}
-use Rattle.serf_agent.specs.Handed.{Handed}
+use Rattle.std.specs.Prelude.{◌≡◌, ◌&&◌, Bool, false, not, length}
 use Rattle.serf_agent_c.specs.declared.session.Session.{Session}
 use Rattle.serf_agent_c.specs.Gaves.{handed_in, unsettled_in}
+use Rattle.serf_agent_c.specs.Numbered.{Numbered, numbered, with_handed}
 use Rattle.serf_agent_c.specs.Reads.{GivesNothing}
 use Rattle.serf_agent_c.specs.Texts.{is_written, text_of}
 
@@ -11,9 +10,9 @@ use Rattle.serf_agent_c.specs.Texts.{is_written, text_of}
 abbrev pub is_ready : Session → Bool
 is_ready s = not s.replaces && is_written s.agent.device s.written
 
--- the queries that were handed out, by number from 1 on, the last one too; one that was answered is gone
-abbrev pub settled : Session → List (Option Handed)
-settled s = s.waiting.items ++ map (λ (q : Handed). Some q) (option_to_list (unsettled_in s.gave))
+-- the queries that were handed out and wait for an answer, by number, the last one too
+abbrev pub settled : Session → Numbered
+settled s = with_handed (unsettled_in s.gave) (numbered s.waiting)
 
 -- A session after a call, once what the call before gave was settled. Its file lacks the bytes after the text that was there;
 abbrev pub Appends : Session → Session → Type 0
@@ -21,7 +20,7 @@ Appends s t = (t.written ≡ length (text_of s.agent.device)) × (t.replaces ≡
 
 -- each query that was handed out keeps its number, and one that this call hands out has the next;
 abbrev pub Numbers : Session → Session → Type 0
-Numbers s t = settled t ≡ settled s ++ map (λ (q : Handed). Some q) (option_to_list (handed_in t.gave))
+Numbers s t = settled t ≡ with_handed (handed_in t.gave) (settled s)
 
 -- the filters of the next query stay, and so do the members that the next state names;
 abbrev pub KeepsFilters : Session → Session → Type 0

@@ -2,7 +2,7 @@
 
 ghost use Rattle.std.specs.Prelude.{◌≡◌, ◌≢◌};
 ghost use Rattle.serf_agent_c.specs.AskedTime.{asked_time_in};
-ghost use Rattle.serf_agent_c.specs.Exports.{Shows};
+ghost use Rattle.serf_agent_c.specs.Exports.{FillsIfDone, Shows};
 ghost use Rattle.serf_agent_c.specs.Reads.{ReadsAs};
 ghost use Rattle.serf_agent_c.specs.Sessions.{is_ready};
 
@@ -47,8 +47,7 @@ impl Session {
 pub extern "C" fn serf_agent_asked_time(alloc: Global, handle: &mut Handle, time: &mut u64) -> u32
     ensures reads { Shows (λ s code. ReadsAs (is_ready s) (asked_time_in s.gave)
         (λ t. time.new ≡ t) code) handle.old handle.new result }
-    ensures same { Shows (λ s code. code ≢ Code.Done → time.new ≡ time.old)
-        handle.old handle.new result }
+    ensures same { FillsIfDone (time.new ≡ time.old) result }
 {
     let Some(session) = handle.take(alloc) else {
         return Code::Empty.number();

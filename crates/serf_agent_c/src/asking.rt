@@ -1,9 +1,8 @@
 //! A session's queries: firing them, answering those that were handed out, and closing those whose time is over.
 
-ghost use Rattle.std.specs.Prelude.{◌≡◌, ◌≢◌, ◌-◌, ◌++◌, ◌∷◌, [], true, IfOk, None, Some, Err, slice_set};
+ghost use Rattle.std.specs.Prelude.{◌≡◌, ◌≢◌, Err};
 ghost use Rattle.serf_agent.specs.Queries.{fire_query};
-ghost use Rattle.serf_agent.specs.Handed.{Handed};
-ghost use Rattle.serf_agent_c.specs.Asking.{AddsFilter, Closes, Declines, ForgetsFilters, Responds, Spares, left_of, params_of, reply_of, waiting_at};
+ghost use Rattle.serf_agent_c.specs.Asking.{AddsFilter, Closes, Declines, Forgets, ForgetsFilters, ForgetsLate, IsBounded, IsSpared, Responds, Spares, params_of};
 ghost use Rattle.serf_agent_c.specs.Calls.{Forgoes, Gives, Takes, Tells, Waits, answer_code};
 ghost use Rattle.serf_agent_c.specs.Codes.{query_code, respond_code};
 ghost use Rattle.serf_agent_c.specs.Sessions.{KeepsBurst, KeepsFilters, KeepsMembers};
@@ -12,9 +11,7 @@ use crate::code::Code;
 use crate::gave::Gave;
 use crate::heads::Params;
 use crate::session::Session;
-use serf_agent::{
-    BytesList, FiredQuery, HandedQuery, QueryFault, QueryParams, Reply, RespondFault,
-};
+use serf_agent::{BytesList, FiredQuery, QueryFault, QueryParams, Reply, RespondFault};
 use serf_wire::Bytes;
 use std::alloc::Global;
 
@@ -54,54 +51,6 @@ pub(crate) fn params_with(filters: BytesList, addr: Bytes, params: &Params) -> Q
         port: params.port,
         relay_factor: params.relay_factor,
     }
-}
-
-/// Answers the query in a slot, if there is one; a success leaves the slot empty.
-fn respond_in(
-    alloc: Global,
-    slot: &mut Option<HandedQuery>,
-    now: u64,
-    payload: &[u8],
-) -> Option<Result<Reply, RespondFault>>
-    ensures none { slot.old ≡ None → result ≡ None }
-    ensures unknown { result ≡ None → slot.new ≡ slot.old }
-    ensures some { (q : Handed) → slot.old ≡ Some q → result ≢ Some (Err RespondFault.OutOfMemory)
-        → (result ≡ Some (reply_of q now payload.now))
-        × (slot.new ≡ left_of q (reply_of q now payload.now)) }
-    ensures memory { result ≡ Some (Err RespondFault.OutOfMemory) → slot.new ≡ slot.old }
-{
-    let query = slot.take()?;
-    match query.respond(alloc, now, payload) {
-        Ok(reply) => Some(Ok(reply)),
-        Err((query, fault)) => {
-            *slot = Some(query);
-            Some(Err(fault))
-        }
-    }
-}
-
-/// Answers the query of a number, if it waits for an answer.
-fn respond_at(
-    alloc: Global,
-    waiting: &mut Vec<Option<HandedQuery>>,
-    number: u64,
-    now: u64,
-    payload: &[u8],
-) -> Option<Result<Reply, RespondFault>>
-    ensures none { waiting_at number waiting.old.items ≡ None → result ≡ None }
-    ensures memory { result ≡ Some (Err RespondFault.OutOfMemory)
-        → waiting.new.items ≡ waiting.old.items }
-    ensures unknown { result ≡ None → waiting.new.items ≡ waiting.old.items }
-    ensures some { (q : Handed) → waiting_at number waiting.old.items ≡ Some q
-        → result ≢ Some (Err RespondFault.OutOfMemory)
-        → (result ≡ Some (reply_of q now payload.now)) × (waiting.new.items
-        ≡ slice_set waiting.old.items (number - 1) (left_of q (reply_of q now payload.now))) }
-{
-    if number == 0 || number > waiting.len() as u64 {
-        return None;
-    }
-    let index = (number - 1) as usize;
-    respond_in(alloc, &mut waiting[index], now, payload)
 }
 
 impl Session {
@@ -190,7 +139,7 @@ impl Session {
             Ok(()) => {}
             Err(code) => return code,
         }
-        let Some(answer) = respond_at(alloc, &mut self.waiting, number, now, payload) else {
+        let Some(answer) = self.waiting.respond(alloc, number, now, payload) else {
             return Code::NotHanded;
         };
         let code = replied_code(&answer);
@@ -198,10 +147,31 @@ impl Session {
         code
     }
 
-    /// Closes the open queries whose deadline is before a moment, and gives them.
+    /// Forgets a query that was handed out.
+    pub(crate) fn forget(&mut self, number: u64) -> Code
+        ensures waits { Waits self.old self.new result }
+        ensures agent { self.new.agent ≡ self.old.agent }
+        ensures declines { Declines number self.old self.new result }
+        ensures forgets { Forgets number self.old self.new result }
+        ensures spares { IsSpared self.old result }
+    {
+        match self.begin() {
+            Ok(()) => {}
+            Err(code) => return code,
+        }
+        if self.waiting.forget(number) {
+            Code::Done
+        } else {
+            Code::NotHanded
+        }
+    }
+
+    /// Closes the open queries whose deadline is before a moment, and gives them. Those that were handed out, and whose
+    /// deadline is before it, are forgotten.
     pub(crate) fn close_due(&mut self, alloc: Global, now: u64, closed: &mut usize) -> Code
         ensures waits { Waits self.old self.new result }
-        ensures tells { Tells self.old self.new }
+        ensures late { ForgetsLate now self.old self.new result }
+        ensures bounded { IsBounded now self.new result }
         ensures memory { Forgoes self.old self.new result }
         ensures closes { Closes now closed.new self.old self.new result }
         ensures refused { result ≢ Code.Done → closed.new ≡ closed.old }
@@ -214,6 +184,7 @@ impl Session {
         let Ok(queries) = self.agent.take_due(alloc, now) else {
             return Code::OutOfMemory;
         };
+        self.waiting.forget_late(now);
         *closed = queries.len();
         self.give(Gave::Closed(queries));
         Code::Done

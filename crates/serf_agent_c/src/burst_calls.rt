@@ -4,7 +4,7 @@ ghost use Rattle.std.specs.Prelude.{◌≡◌, ◌≢◌, false, length, None, t
 ghost use Rattle.serf_agent_c.specs.Asking.{AddsFilter, params_of};
 ghost use Rattle.serf_agent_c.specs.Bursts.{Extends, Fires, GoesToNext, Leaves, LeavesAgent, Queues, Receives, Asks, SpendsFilters, Stands};
 ghost use Rattle.serf_agent_c.specs.Calls.{Waits};
-ghost use Rattle.serf_agent_c.specs.Exports.{Answers, Shows};
+ghost use Rattle.serf_agent_c.specs.Exports.{Answers, FillsIfDone, Shows};
 ghost use Rattle.serf_agent_c.specs.Gaves.{unsettled_in};
 ghost use Rattle.serf_agent_c.specs.Sessions.{Appends, KeepsFilters, Numbers, is_ready};
 
@@ -114,8 +114,7 @@ pub extern "C" fn serf_agent_burst_query(
 #[unsafe(no_mangle)]
 pub extern "C" fn serf_agent_next(alloc: Global, handle: &mut Handle, answered: &mut u32) -> u32
     ensures waits { Answers (λ s t code. Waits s t code) handle.old handle.new result }
-    ensures unread { Answers (λ s t code. is_ready s ≡ false → answered.new ≡ answered.old)
-        handle.old handle.new result }
+    ensures same { FillsIfDone (answered.new ≡ answered.old) result }
     ensures text { Answers (λ s t code. is_ready s ≡ true → Appends s t × Numbers s t)
         handle.old handle.new result }
     ensures agent { Answers (λ s t code. LeavesAgent s t) handle.old handle.new result }
@@ -135,8 +134,9 @@ pub extern "C" fn serf_agent_next(alloc: Global, handle: &mut Handle, answered: 
 /// How many outcomes of a burst wait for [`serf_agent_next`].
 #[unsafe(no_mangle)]
 pub extern "C" fn serf_agent_outcomes(alloc: Global, handle: &mut Handle, total: &mut usize) -> u32
-    ensures { Shows (λ s code. (code ≡ Code.Done) × (total.new ≡ length s.burst.items))
+    ensures reads { Shows (λ s code. (code ≡ Code.Done) × (total.new ≡ length s.burst.items))
         handle.old handle.new result }
+    ensures same { FillsIfDone (total.new ≡ total.old) result }
 {
     let Some(session) = handle.take(alloc) else {
         return Code::Empty.number();

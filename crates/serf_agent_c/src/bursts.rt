@@ -1,6 +1,6 @@
 //! Bursts: calls one after another whose lines the host flushes once. Their outcomes wait in a list until then.
 
-ghost use Rattle.std.specs.Prelude.{◌≡◌, ◌≢◌, ◌+◌, ◌++◌, ◌<◌, ◌∷◌, ◌^◌, [], false, length, min, None, OnOk, true};
+ghost use Rattle.std.specs.Prelude.{◌≡◌, ◌≢◌, ◌+◌, ◌++◌, ◌<◌, ◌∷◌, ◌^◌, [], false, length, min, None, OnErr, OnOk, true, ◌≤◌};
 ghost use Rattle.std.specs.VecDeque.{deque_capacity, deque_len};
 ghost use Rattle.serf_agent_c.specs.Asking.{AddsFilter, params_of};
 ghost use Rattle.serf_agent_c.specs.Bursts.{Extends, Fires, GoesToNext, Leaves, LeavesAgent, Queues, Receives, Asks, SpendsFilters, Stands};
@@ -27,6 +27,7 @@ impl Session {
         ensures agent { self.new.agent ≡ self.old.agent }
         ensures keeps { KeepsBurst self.old self.new × KeepsFilters self.old self.new }
         ensures room { OnOk result (deque_len self.new.burst < deque_capacity self.new.burst) }
+        ensures full { OnErr result (deque_capacity self.old.burst ≤ deque_len self.old.burst) }
     {
         self.written = self.written.min(self.agent.sink().durable().len());
         self.burst.reserve(1)
@@ -131,7 +132,7 @@ impl Session {
     /// Goes on to the next outcome of a burst: it is what was given then, with the code of its call.
     pub(crate) fn next(&mut self, answered: &mut u32) -> Code
         ensures waits { Waits self.old self.new result }
-        ensures unread { is_ready self.old ≡ false → answered.new ≡ answered.old }
+        ensures same { result ≢ Code.Done → answered.new ≡ answered.old }
         ensures text { is_ready self.old ≡ true → Appends self.old self.new }
         ensures numbers { is_ready self.old ≡ true → Numbers self.old self.new }
         ensures agent { LeavesAgent self.old self.new }

@@ -5,12 +5,12 @@ ghost use Rattle.std.specs.Option.{is_some};
 ghost use Rattle.serf_wire.specs.Decoded.{decoded};
 ghost use Rattle.serf_agent.specs.Answers.{answer_in};
 ghost use Rattle.serf_agent_c.specs.Answers.{ReadsAnswer, answer_head};
-ghost use Rattle.serf_agent_c.specs.Asking.{waiting_at};
 ghost use Rattle.serf_agent_c.specs.Closings.{TellsCompaction, ack_of, closed_head, response_head, response_of};
 ghost use Rattle.serf_agent_c.specs.Codes.{number_of};
-ghost use Rattle.serf_agent_c.specs.Exports.{Shows};
+ghost use Rattle.serf_agent_c.specs.Exports.{FillsIfDone, Shows};
 ghost use Rattle.serf_agent_c.specs.Faults.{ReadsFault};
 ghost use Rattle.serf_agent_c.specs.Gaves.{ack_in, closed_in, events_in, handed_in, packet_in};
+ghost use Rattle.serf_agent_c.specs.Numbered.{waiting_at};
 ghost use Rattle.serf_agent_c.specs.Reads.{ReadsAs, ReadsQuery, TellsDeadline, clocks_head, event_head, foreign_of, handed_head, kind_of, reason_of, rebroadcast_of};
 ghost use Rattle.serf_agent_c.specs.Sessions.{is_ready, settled};
 ghost use Rattle.serf_agent_c.specs.Texts.{copied};
@@ -27,16 +27,17 @@ use std::alloc::Global;
 /// What the last call gave.
 #[unsafe(no_mangle)]
 pub extern "C" fn serf_agent_gave(alloc: Global, handle: &mut Handle, gave: &mut GaveHead) -> u32
-    ensures { Shows (λ s code. (code ≡ Code.Done) × (gave.new
+    ensures reads { Shows (λ s code. (code ≡ Code.Done) × (gave.new
         ≡ record {
           kind = kind_of s.gave;
           reason = reason_of s.gave;
-          handed = if is_some (handed_in s.gave) then length s.waiting.items + 1 else 0;
+          handed = if is_some (handed_in s.gave) then s.waiting.handed + 1 else 0;
           events = length (events_in s.gave);
           foreign = foreign_of s.gave;
           rebroadcast = rebroadcast_of s.gave;
         }))
         handle.old handle.new result }
+    ensures same { FillsIfDone (gave.new ≡ gave.old) result }
 {
     let Some(session) = handle.take(alloc) else {
         return Code::Empty.number();
@@ -60,9 +61,8 @@ pub extern "C" fn serf_agent_event(
         (λ o. (event.new ≡ event_head o) × (name.new ≡ copied o.name name.old)
         × (payload.new ≡ copied o.payload payload.old)) code)
         handle.old handle.new result }
-    ensures same { Shows (λ s code. code ≢ Code.Done → (event.new ≡ event.old)
-        × (name.new ≡ name.old) × (payload.new ≡ payload.old))
-        handle.old handle.new result }
+    ensures same { FillsIfDone ((event.new ≡ event.old)
+        × (name.new ≡ name.old) × (payload.new ≡ payload.old)) result }
 {
     let Some(session) = handle.take(alloc) else {
         return Code::Empty.number();
@@ -110,8 +110,7 @@ pub extern "C" fn serf_agent_packet(
     ensures reads { Shows (λ s code. ReadsAs (is_ready s) (packet_in s.gave)
         (λ p. (len.new ≡ length p) × (to.new ≡ copied p to.old)) code)
         handle.old handle.new result }
-    ensures same { Shows (λ s code. code ≢ Code.Done → (len.new ≡ len.old) × (to.new ≡ to.old))
-        handle.old handle.new result }
+    ensures same { FillsIfDone ((len.new ≡ len.old) × (to.new ≡ to.old)) result }
 {
     let Some(session) = handle.take(alloc) else {
         return Code::Empty.number();
@@ -132,8 +131,7 @@ pub extern "C" fn serf_agent_ack(
     ensures reads { Shows (λ s code. ReadsAs (is_ready s) (ack_in s.gave)
         (λ p. (len.new ≡ length p) × (to.new ≡ copied p to.old)) code)
         handle.old handle.new result }
-    ensures same { Shows (λ s code. code ≢ Code.Done → (len.new ≡ len.old) × (to.new ≡ to.old))
-        handle.old handle.new result }
+    ensures same { FillsIfDone ((len.new ≡ len.old) × (to.new ≡ to.old)) result }
 {
     let Some(session) = handle.take(alloc) else {
         return Code::Empty.number();
@@ -155,15 +153,14 @@ pub extern "C" fn serf_agent_handed(
     source: &mut [u8],
     addr: &mut [u8],
 ) -> u32
-    ensures reads { Shows (λ s code. ReadsQuery (is_ready s) (waiting_at number (settled s))
+    ensures reads { Shows (λ s code. ReadsQuery (is_ready s) (waiting_at number (settled s).waiting)
         (λ q. (handed.new ≡ handed_head q) × (name.new ≡ copied q.name name.old)
         × (payload.new ≡ copied q.payload payload.old) × (source.new ≡ copied q.source source.old)
         × (addr.new ≡ copied q.addr addr.old)) code)
         handle.old handle.new result }
-    ensures same { Shows (λ s code. code ≢ Code.Done → (handed.new ≡ handed.old)
+    ensures same { FillsIfDone ((handed.new ≡ handed.old)
         × (name.new ≡ name.old) × (payload.new ≡ payload.old) × (source.new ≡ source.old)
-        × (addr.new ≡ addr.old))
-        handle.old handle.new result }
+        × (addr.new ≡ addr.old)) result }
 {
     let Some(session) = handle.take(alloc) else {
         return Code::Empty.number();
@@ -182,8 +179,7 @@ pub extern "C" fn serf_agent_clocks(
 ) -> u32
     ensures reads { Shows (λ s code. ReadsAs (is_ready s) (Some (clocks_head s.agent.concrete))
         (λ head. clocks.new ≡ head) code) handle.old handle.new result }
-    ensures same { Shows (λ s code. code ≢ Code.Done → (clocks.new ≡ clocks.old))
-        handle.old handle.new result }
+    ensures same { FillsIfDone (clocks.new ≡ clocks.old) result }
 {
     let Some(session) = handle.take(alloc) else {
         return Code::Empty.number();
@@ -203,8 +199,7 @@ pub extern "C" fn serf_agent_next_deadline(
     ensures reads { Shows (λ s code. (is_ready s ≡ false → code ≡ Code.Unwritten)
         × (is_ready s ≡ true → TellsDeadline s.agent.concrete deadline.new code))
         handle.old handle.new result }
-    ensures same { Shows (λ s code. code ≢ Code.Done → (deadline.new ≡ deadline.old))
-        handle.old handle.new result }
+    ensures same { FillsIfDone (deadline.new ≡ deadline.old) result }
 {
     let Some(session) = handle.take(alloc) else {
         return Code::Empty.number();
@@ -224,8 +219,7 @@ pub extern "C" fn serf_agent_open_queries(
     ensures reads { Shows (λ s code. ReadsAs (is_ready s)
         (Some (min (length s.agent.concrete.asked) (2 ^ 64 - 1))) (λ n. total.new ≡ n) code)
         handle.old handle.new result }
-    ensures same { Shows (λ s code. code ≢ Code.Done → (total.new ≡ total.old))
-        handle.old handle.new result }
+    ensures same { FillsIfDone (total.new ≡ total.old) result }
 {
     let Some(session) = handle.take(alloc) else {
         return Code::Empty.number();
@@ -246,8 +240,7 @@ pub extern "C" fn serf_agent_closed(
     ensures reads { Shows (λ s code. ReadsAs (is_ready s) (slice_get (closed_in s.gave) index)
         (λ q. closed.new ≡ closed_head q) code)
         handle.old handle.new result }
-    ensures same { Shows (λ s code. code ≢ Code.Done → (closed.new ≡ closed.old))
-        handle.old handle.new result }
+    ensures same { FillsIfDone (closed.new ≡ closed.old) result }
 {
     let Some(session) = handle.take(alloc) else {
         return Code::Empty.number();
@@ -271,8 +264,7 @@ pub extern "C" fn serf_agent_closed_ack(
         (λ s code. ReadsAs (is_ready s) (ack_of number (slice_get (closed_in s.gave) index))
         (λ name. (len.new ≡ length name) × (to.new ≡ copied name to.old)) code)
         handle.old handle.new result }
-    ensures same { Shows (λ s code. code ≢ Code.Done → (len.new ≡ len.old) × (to.new ≡ to.old))
-        handle.old handle.new result }
+    ensures same { FillsIfDone ((len.new ≡ len.old) × (to.new ≡ to.old)) result }
 {
     let Some(session) = handle.take(alloc) else {
         return Code::Empty.number();
@@ -298,9 +290,8 @@ pub extern "C" fn serf_agent_closed_response(
         (λ r. (response.new ≡ response_head r) × (from.new ≡ copied r.from from.old)
         × (payload.new ≡ copied r.payload payload.old)) code)
         handle.old handle.new result }
-    ensures same { Shows (λ s code. code ≢ Code.Done → (response.new ≡ response.old)
-        × (from.new ≡ from.old) × (payload.new ≡ payload.old))
-        handle.old handle.new result }
+    ensures same { FillsIfDone ((response.new ≡ response.old)
+        × (from.new ≡ from.old) × (payload.new ≡ payload.old)) result }
 {
     let Some(session) = handle.take(alloc) else {
         return Code::Empty.number();
@@ -322,8 +313,7 @@ pub extern "C" fn serf_agent_should_compact(
         × (is_ready s ≡ true → (code ≡ Code.Done)
         × TellsCompaction limit s.agent.concrete should.new))
         handle.old handle.new result }
-    ensures same { Shows (λ s code. code ≢ Code.Done → (should.new ≡ should.old))
-        handle.old handle.new result }
+    ensures same { FillsIfDone (should.new ≡ should.old) result }
 {
     let Some(session) = handle.take(alloc) else {
         return Code::Empty.number();

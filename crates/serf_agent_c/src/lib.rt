@@ -17,10 +17,10 @@ ghost use Rattle.serf_agent.specs.Events.{fire};
 ghost use Rattle.serf_agent.specs.Queries.{fire_query};
 ghost use Rattle.serf_agent.specs.Receive.{receive};
 ghost use Rattle.serf_agent.specs.States.{compact, save};
-ghost use Rattle.serf_agent_c.specs.Asking.{AddsFilter, Closes, Declines, ForgetsFilters, Responds, Spares, params_of};
+ghost use Rattle.serf_agent_c.specs.Asking.{AddsFilter, Closes, Declines, Forgets, ForgetsFilters, ForgetsLate, IsBounded, IsSpared, Responds, Spares, params_of};
 ghost use Rattle.serf_agent_c.specs.Calls.{Forgoes, Gives, Takes, Tells, Waits};
 ghost use Rattle.serf_agent_c.specs.Codes.{fire_code, note_code, number_of, query_code, receive_code, state_code};
-ghost use Rattle.serf_agent_c.specs.Exports.{Answers, Shows};
+ghost use Rattle.serf_agent_c.specs.Exports.{Answers, FillsIfDone, Shows};
 ghost use Rattle.serf_agent_c.specs.Members.{AddsLeft, AddsStatus};
 ghost use Rattle.serf_agent_c.specs.Merging.{Compacts, ForgetsMembers, IsUnbegun, IsUncompacted, IsUnmerged, MergesFrom, SendsState};
 ghost use Rattle.serf_agent_c.specs.Opening.{EndsAs, GoesOn, IsFirst, IsFresh, config_of};
@@ -43,6 +43,7 @@ mod getters;
 mod handle;
 mod heads;
 mod intents;
+mod laws;
 mod lookups;
 mod members;
 mod merging;
@@ -52,6 +53,7 @@ mod reading;
 mod session;
 mod tagged;
 mod told;
+mod waiting;
 
 pub use asked::serf_agent_asked_time;
 pub use burst_calls::{
@@ -75,6 +77,7 @@ pub use intents::{
     IntentHead, serf_agent_intent, serf_agent_intent_fault, serf_agent_join_packet,
     serf_agent_leave_packet,
 };
+pub use laws::{host_promises, host_steps};
 pub use observing::serf_agent_observe_member;
 use session::Session;
 use std::alloc::Global;
@@ -144,10 +147,11 @@ pub extern "C" fn serf_agent_unwritten(
     bytes: &mut BytesHead,
     to: &mut [u8],
 ) -> u32
-    ensures { Shows (λ s code. (code ≡ Code.Done) × (bytes.new
+    ensures reads { Shows (λ s code. (code ≡ Code.Done) × (bytes.new
         ≡ record { len = length (lacking s.agent.device s.written); replaces = s.replaces })
         × (to.new ≡ copied (lacking s.agent.device s.written) to.old))
         handle.old handle.new result }
+    ensures same { FillsIfDone ((bytes.new ≡ bytes.old) × (to.new ≡ to.old)) result }
 {
     let Some(session) = handle.take(alloc) else {
         return Code::Empty.number();
@@ -370,7 +374,26 @@ pub extern "C" fn serf_agent_respond(
     code.number()
 }
 
+/// Forgets the query of this number: it isn't answered, and nothing is kept of it.
+#[unsafe(no_mangle)]
+pub extern "C" fn serf_agent_forget_query(alloc: Global, handle: &mut Handle, number: u64) -> u32
+    ensures waits { Answers (λ s t code. Waits s t code) handle.old handle.new result }
+    ensures agent { Answers (λ s t code. t.agent ≡ s.agent) handle.old handle.new result }
+    ensures declines { Answers (λ s t code. Declines number s t code)
+        handle.old handle.new result }
+    ensures forgets { Answers (λ s t code. Forgets number s t code) handle.old handle.new result }
+    ensures spares { Answers (λ s t code. IsSpared s code) handle.old handle.new result }
+{
+    let Some(mut session) = handle.take(alloc) else {
+        return Code::Empty.number();
+    };
+    let code = session.forget(number);
+    *handle = Handle::of(session);
+    code.number()
+}
+
 /// Closes the open queries whose deadline is before a moment, gives them with their answers, and says how many they were.
+/// Queries that were handed out, and whose deadline is before it, are forgotten: they can't be answered any more.
 #[unsafe(no_mangle)]
 pub extern "C" fn serf_agent_close_due(
     alloc: Global,
@@ -379,12 +402,12 @@ pub extern "C" fn serf_agent_close_due(
     closed: &mut usize,
 ) -> u32
     ensures waits { Answers (λ s t code. Waits s t code) handle.old handle.new result }
-    ensures tells { Answers (λ s t code. Tells s t) handle.old handle.new result }
+    ensures late { Answers (λ s t code. ForgetsLate now s t code) handle.old handle.new result }
+    ensures bounded { Answers (λ s t code. IsBounded now t code) handle.old handle.new result }
     ensures memory { Answers (λ s t code. Forgoes s t code) handle.old handle.new result }
     ensures closes { Answers (λ s t code. Closes now closed.new s t code)
         handle.old handle.new result }
-    ensures refused { Answers (λ s t code. code ≢ Code.Done → closed.new ≡ closed.old)
-        handle.old handle.new result }
+    ensures same { FillsIfDone (closed.new ≡ closed.old) result }
     ensures spares { Answers (λ s t code. Spares now s code) handle.old handle.new result }
 {
     let Some(mut session) = handle.take(alloc) else {

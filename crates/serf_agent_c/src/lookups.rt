@@ -2,7 +2,7 @@
 
 ghost use Rattle.std.specs.Prelude.{◌≢◌, ◌≡◌, ◌-◌, ◌^◌, min, true, false, Some, length, option_copied};
 ghost use Rattle.serf_agent.specs.LentQueries.{queries_left};
-ghost use Rattle.serf_agent_c.specs.Asking.{waiting_at};
+ghost use Rattle.serf_agent_c.specs.Numbered.{waiting_at};
 ghost use Rattle.serf_agent_c.specs.Reads.{ReadsAs, ReadsQuery, TellsDeadline, handed_head};
 ghost use Rattle.serf_agent_c.specs.Sessions.{is_ready, settled};
 ghost use Rattle.serf_agent_c.specs.Texts.{copied};
@@ -12,16 +12,6 @@ use crate::copies::copy_into;
 use crate::heads::HandedHead;
 use crate::session::Session;
 use serf_agent::{HandedQuery, LentQueries};
-
-/// The query of a number, among those that wait for an answer.
-fn waiting_at(waiting: &[Option<HandedQuery>], number: u64) -> Option<&HandedQuery>
-    ensures { option_copied result ≡ waiting_at number waiting.now }
-{
-    if number == 0 {
-        return None;
-    }
-    waiting.get((number - 1) as usize)?.as_ref()
-}
 
 /// What C reads of a query that was handed out, beside its texts.
 fn head_of_query(query: &HandedQuery) -> HandedHead
@@ -54,12 +44,12 @@ fn count(queries: LentQueries<'_>) -> usize
 impl Session {
     /// The query of a number that was handed out and not yet answered.
     fn handed_at(&self, number: u64) -> Option<&HandedQuery>
-        ensures { option_copied result ≡ waiting_at number (settled self.now) }
+        ensures { option_copied result ≡ waiting_at number (settled self.now).waiting }
     {
-        if number == self.waiting.len() as u64 + 1 {
+        if number == self.waiting.next_number() {
             self.gave.unsettled()
         } else {
-            waiting_at(self.waiting.as_slice(), number)
+            self.waiting.get(number)
         }
     }
 
@@ -73,7 +63,8 @@ impl Session {
         source: &mut [u8],
         addr: &mut [u8],
     ) -> Code
-        ensures reads { ReadsQuery (is_ready self.now) (waiting_at number (settled self.now))
+        ensures reads { ReadsQuery (is_ready self.now)
+            (waiting_at number (settled self.now).waiting)
             (λ q. (head.new ≡ handed_head q) × (name.new ≡ copied q.name name.old)
             × (payload.new ≡ copied q.payload payload.old)
             × (source.new ≡ copied q.source source.old)

@@ -13,6 +13,7 @@ ghost use Rattle.serf_agent_c.specs.Opening.{GoesOn, IsFirst, IsFresh, config_of
 use crate::gave::Gave;
 use crate::heads::Settings;
 use crate::session::Session;
+use crate::waiting::Waiting;
 use serf_agent::{
     Agent, BytesList, Config, DEFAULT_QUERY_LIMIT, DEFAULT_RESPONSE_LIMIT, OpenFault,
 };
@@ -74,7 +75,7 @@ impl Session {
                 gave: Gave::Nothing,
                 written: text.len(),
                 replaces: false,
-                waiting: Vec::new(alloc),
+                waiting: Waiting::new(alloc),
                 filters: BytesList::new(alloc),
                 status: Vec::new(alloc),
                 left: BytesList::new(alloc),

@@ -118,14 +118,14 @@ impl Session {
               kind = kind_of self.now.gave;
               reason = reason_of self.now.gave;
               handed = if is_some (handed_in self.now.gave)
-                  then length self.now.waiting.items + 1 else 0;
+                  then self.now.waiting.handed + 1 else 0;
               events = length (events_in self.now.gave);
               foreign = foreign_of self.now.gave;
               rebroadcast = rebroadcast_of self.now.gave;
             } }
     {
         let handed = if self.gave.handed().is_some() {
-            self.waiting.len() as u64 + 1
+            self.waiting.next_number()
         } else {
             0
         };

@@ -2,6 +2,7 @@
 
 ghost use Rattle.std.specs.Prelude.{◌≡◌, false, true, length, Err, IsOk, None, OnOk, OnErr};
 ghost use Rattle.serf_agent_c.specs.Gaves.{unsettled_in};
+ghost use Rattle.serf_agent_c.specs.Numbered.{numbered};
 ghost use Rattle.serf_agent_c.specs.Sessions.{Appends, KeepsBurst, KeepsFilters, KeepsMembers, Numbers, Rests, is_ready, settled};
 ghost use Rattle.serf_agent_c.specs.Texts.{is_written, lacking, text_of};
 
@@ -9,7 +10,8 @@ use crate::answered::Answered;
 use crate::code::Code;
 use crate::gave::Gave;
 use crate::members::Member;
-use serf_agent::{Agent, BytesList, HandedQuery};
+use crate::waiting::Waiting;
+use serf_agent::{Agent, BytesList};
 use serf_snap::MemSink;
 use std::alloc::AllocError;
 use std::collections::VecDeque;
@@ -24,8 +26,8 @@ pub struct Session {
     pub(crate) written: usize,
     /// Whether the bytes that the file lacks replace its text.
     pub(crate) replaces: bool,
-    /// The queries that earlier calls handed out, by number from 1 on; one that was answered is gone.
-    pub(crate) waiting: Vec<Option<HandedQuery>>,
+    /// The queries that earlier calls handed out, and that can still be answered.
+    pub(crate) waiting: Waiting,
     /// The filters of the next query.
     pub(crate) filters: BytesList,
     /// The members' status times that the next state names.
@@ -69,7 +71,7 @@ impl Session {
 
     /// Puts the last query that was handed out with those that wait for an answer, and forgets what else was given.
     fn settle(&mut self) -> Result<(), AllocError>
-        ensures ok { OnOk result ((self.new.waiting.items ≡ settled self.old)
+        ensures ok { OnOk result ((numbered self.new.waiting ≡ settled self.old)
             × (self.new.gave ≡ Gave.Nothing)) }
         ensures rests { Rests self.old self.new }
         ensures rest { (self.new.agent ≡ self.old.agent) × (self.new.written ≡ self.old.written)
@@ -81,10 +83,10 @@ impl Session {
         let Some(query) = gave.into_unsettled() else {
             return Ok(());
         };
-        match self.waiting.push(Some(query)) {
+        match self.waiting.push(query) {
             Ok(()) => Ok(()),
-            Err(refused) => {
-                self.gave = Gave::Kept(refused.value);
+            Err(query) => {
+                self.gave = Gave::Kept(Some(query));
                 Err(AllocError)
             }
         }
@@ -93,7 +95,7 @@ impl Session {
     /// Makes ready for a call of the agent: the host's file has all of its text, and what the last call gave is settled.
     pub(crate) fn begin(&mut self) -> Result<(), Code>
         ensures ok { OnOk result ((is_ready self.old ≡ true)
-            × (self.new.waiting.items ≡ settled self.old) × (self.new.gave ≡ Gave.Nothing)) }
+            × (numbered self.new.waiting ≡ settled self.old) × (self.new.gave ≡ Gave.Nothing)) }
         ensures agent { self.new.agent ≡ self.old.agent }
         ensures keeps { KeepsFilters self.old self.new × KeepsMembers self.old self.new
             × KeepsBurst self.old self.new }

@@ -84,13 +84,13 @@ left_behind (asks.LookEnded look) action n new rest v is left = left_same v (ver
 -- a turn that agrees, or is no call
 pub along_on : (old now new held mid holds : Option (List ℕ)) (whole : List ℕ → Session) (serf : Bool) (a : ℕ) (config : Config) (made : List AgentCall) (action : ℕ) (n : Tally) (t : Turn) (ts : List Turn) (asked : Asked)
     → IsAlong old now held mid whole (λ w rest. session_from serf a config made action n w (t ∷ ts) rest)
-    → IfSome now (λ input. IsTaken (taken_of serf a (due_of a config (made_after a t made) t) t input) asked new mid holds)
+    → IfSome now (λ input. IsTaken (taken_of serf config.keep_events a (due_of a config (made_after a t made) t) t input) asked new mid holds)
     → ending_of asked action n ≡ None
     → IsAlong old new held holds whole (λ w rest. session_from serf a config (made_after a t made) (action + 1) (counted asked n) w ts rest)
 along_on None now new held mid holds whole serf a config made action n t ts asked along taken none = tt
 along_on (Some i) None new held mid holds whole serf a config made action n t ts asked along taken none = absurd along
 along_on (Some i) (Some r) new held mid holds whole serf a config made action n t ts asked along taken none =
-    let s : Taken = taken_of serf a (due_of a config (made_after a t made) t) t r in
+    let s : Taken = taken_of serf config.keep_events a (due_of a config (made_after a t made) t) t r in
     let next : Tally → List ℕ → List ℕ → Session = λ m w rest. session_from serf a config (made_after a t made) (action + 1) m w ts rest in
     let left : new ≡ Some s.rest = rest_goes asked action n new s.rest none taken.rest in
     let same : next (counted asked n) (along.0 ++ s.written) s.rest ≡ whole i =
@@ -102,13 +102,13 @@ along_on (Some i) (Some r) new held mid holds whole serf a config made action n 
 -- a turn that ends it
 pub along_ends : (old now new held mid holds : Option (List ℕ)) (whole : List ℕ → Session) (serf : Bool) (a : ℕ) (config : Config) (made : List AgentCall) (action : ℕ) (n : Tally) (t : Turn) (ts : List Turn) (asked : Asked)
     (v : Verdict) → IsAlong old now held mid whole (λ w rest. session_from serf a config made action n w (t ∷ ts) rest)
-    → IfSome now (λ input. IsTaken (taken_of serf a (due_of a config (made_after a t made) t) t input) asked new mid holds)
+    → IfSome now (λ input. IsTaken (taken_of serf config.keep_events a (due_of a config (made_after a t made) t) t input) asked new mid holds)
     → ending_of asked action n ≡ Some v
     → IfSome old (λ input. Concludes (whole input) v new held holds)
 along_ends None now new held mid holds whole serf a config made action n t ts asked v along taken is = tt
 along_ends (Some i) None new held mid holds whole serf a config made action n t ts asked v along taken is = absurd along
 along_ends (Some i) (Some r) new held mid holds whole serf a config made action n t ts asked v along taken is =
-    let s : Taken = taken_of serf a (due_of a config (made_after a t made) t) t r in
+    let s : Taken = taken_of serf config.keep_events a (due_of a config (made_after a t made) t) t r in
     let next : Tally → List ℕ → List ℕ → Session = λ m w rest. session_from serf a config (made_after a t made) (action + 1) m w ts rest in
     let same : record { verdict = v; written = along.0 ++ s.written; rest = s.rest } ≡ whole i =
     after_ends asked action n (along.0 ++ s.written) s.rest next v is
@@ -117,8 +117,8 @@ along_ends (Some i) (Some r) new held mid holds whole serf a config made action 
     (record { verdict_is = refl; written = Appends-trans _ _ _ _ _ along.1 taken.written; left = left_behind asked action n new s.rest v is taken.rest })
 
 -- what came of a turn, where this is what is left of the input
-abbrev pub TakenAs : Option (List ℕ) → Option (List ℕ) → Option (List ℕ) → Option (List ℕ) → Bool → ℕ → Option Look → Turn → Asked → Type 0
-TakenAs now new mid holds serf a due t asked = IfSome now (λ input. IsTaken (taken_of serf a due t input) asked new mid holds)
+abbrev pub TakenAs : Option (List ℕ) → Option (List ℕ) → Option (List ℕ) → Option (List ℕ) → Bool → Bool → ℕ → Option Look → Turn → Asked → Type 0
+TakenAs now new mid holds serf keeps a due t asked = IfSome now (λ input. IsTaken (taken_of serf keeps a due t input) asked new mid holds)
 
 -- the look that is due behind a turn
 abbrev pub DueAt : Option Look → ℕ → Config → List AgentCall → Turn → Type 0
@@ -127,19 +127,19 @@ DueAt due a config made t = due ≡ due_of a config (made_after a t made) t
 -- the first action and the first line, in the turn's place
 first_turn : (now new mid holds : Option (List ℕ)) (serf : Bool) (a : ℕ) (config : Config) (made : List AgentCall) (count : ℕ) (sent : List (List ℕ)) (x x' : Action) (y y' : Line) (due : Option Look) (asked : Asked)
     → x ≡ x' → y ≡ y' → DueAt due a config made (turn_at count sent x y)
-    → TakenAs now new mid holds serf a due (turn_at count sent x y) asked
-    → TakenAs now new mid holds serf a (due_of a config (made_after a (turn_at count sent x' y') made) (turn_at count sent x' y')) (turn_at count sent x' y') asked
+    → TakenAs now new mid holds serf config.keep_events a due (turn_at count sent x y) asked
+    → TakenAs now new mid holds serf config.keep_events a (due_of a config (made_after a (turn_at count sent x' y') made) (turn_at count sent x' y')) (turn_at count sent x' y') asked
 first_turn now new mid holds serf a config made count sent x x' y y' due asked isx isy isd taken =
     let T : Action → Line → Type 0 =
-    λ p q. TakenAs now new mid holds serf a (due_of a config (made_after a (turn_at count sent p q) made) (turn_at count sent p q)) (turn_at count sent p q) asked in
+    λ p q. TakenAs now new mid holds serf config.keep_events a (due_of a config (made_after a (turn_at count sent p q) made) (turn_at count sent p q)) (turn_at count sent p q) asked in
     subst (λ (q : Line). T x' q) isy (subst (λ (p : Action). T p y) isx
-    (subst (λ (d : Option Look). TakenAs now new mid holds serf a d (turn_at count sent x y) asked) isd taken))
+    (subst (λ (d : Option Look). TakenAs now new mid holds serf config.keep_events a d (turn_at count sent x y) asked) isd taken))
 
 pub next_on : (old now new held mid holds : Option (List ℕ)) (whole : List ℕ → Session) (serf : Bool) (a : ℕ) (config : Config) (made : List AgentCall) (action : ℕ) (n : Tally) (count : ℕ) (sent : List (List ℕ))
     (xs : List Action) (ys : List Line) (x : Action) (y : Line) (due : Option Look) (asked : Asked) → 1 ≤ length xs → x ≡ get_or xs 0 x → 1 ≤ length ys → y ≡ get_or ys 0 y
     → IsAlong old now held mid whole (λ w rest. session_from serf a config made action n w (turns_from count sent xs ys) rest)
     → DueAt due a config made (turn_at count sent x y)
-    → TakenAs now new mid holds serf a due (turn_at count sent x y) asked
+    → TakenAs now new mid holds serf config.keep_events a due (turn_at count sent x y) asked
     → ending_of asked action n ≡ None
     → IsAlong old new held holds whole (λ w rest. session_from serf a config (made_after a (turn_at count sent x y) made) (action + 1) (counted asked n) w (turns_from (count + length y.sent) sent (drop 1 xs) (drop 1 ys)) rest)
 next_on old now new held mid holds whole serf a config made action n count sent [] ys x y due asked some is somey isy along isd taken none = absurd (omega arith)
@@ -155,7 +155,7 @@ pub next_ends : (old now new held mid holds : Option (List ℕ)) (whole : List �
     (xs : List Action) (ys : List Line) (x : Action) (y : Line) (due : Option Look) (asked : Asked) (v : Verdict) → 1 ≤ length xs → x ≡ get_or xs 0 x → 1 ≤ length ys → y ≡ get_or ys 0 y
     → IsAlong old now held mid whole (λ w rest. session_from serf a config made action n w (turns_from count sent xs ys) rest)
     → DueAt due a config made (turn_at count sent x y)
-    → TakenAs now new mid holds serf a due (turn_at count sent x y) asked
+    → TakenAs now new mid holds serf config.keep_events a due (turn_at count sent x y) asked
     → ending_of asked action n ≡ Some v
     → IfSome old (λ input. Concludes (whole input) v new held holds)
 next_ends old now new held mid holds whole serf a config made action n count sent [] ys x y due asked v some is somey isy along isd taken ends = absurd (omega arith)
@@ -170,7 +170,7 @@ pub next_at : (old now new held mid holds : Option (List ℕ)) (whole : List ℕ
     → 1 ≤ length xs → x ≡ get_or xs 0 x → 1 ≤ length ys → y ≡ get_or ys 0 y
     → IsAlong old now held mid whole (λ w rest. session_from serf a config made action n w (turns_from count sent xs ys) rest)
     → DueAt due a config made (turn_at count sent x y)
-    → TakenAs now new mid holds serf a due (turn_at count sent x y) asked
+    → TakenAs now new mid holds serf config.keep_events a due (turn_at count sent x y) asked
     → ending_of asked action n ≡ None
     → xs' ≡ drop 1 xs → ys' ≡ drop 1 ys → own ≡ length y.sent → m ≡ counted asked n
     → IsAlong old new held holds whole (λ w rest. session_from serf a config (made_after a (turn_at count sent x y) made) (action + 1) m w (turns_from (count + own) sent xs' ys') rest)

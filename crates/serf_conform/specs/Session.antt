@@ -118,14 +118,15 @@ abbrev pub then_looked : Bool → Option Look → Taken → Taken
 then_looked serf None s = s
 then_looked serf (Some look) s = look_if (agrees s.asked) serf look s
 
-abbrev pub taken_by : Bool → Option Look → Option (List ℕ) → Turn → List ℕ → Taken
-taken_by serf due None t input = record { asked = asks.Skipped; written = []; rest = input }
-taken_by serf due (Some given) t input =
-    if serf && not (is_common t) then record { asked = asks.OwnRule; written = []; rest = input }
+abbrev pub taken_by : Bool → Bool → Option Look → Option (List ℕ) → Turn → List ℕ → Taken
+taken_by serf keeps due None t input = record { asked = asks.Skipped; written = []; rest = input }
+taken_by serf keeps due (Some given) t input =
+    if serf && not (is_common keeps t) then record { asked = asks.OwnRule; written = []; rest = input }
     else then_looked serf due (with_line (call_line t.action given) (asked_of given (wanted_of t.line given t.packets) input))
 
-abbrev pub taken_of : Bool → ℕ → Option Look → Turn → List ℕ → Taken
-taken_of serf a due t input = taken_by serf due (given_for a t) t input
+-- a turn of agent a, which keeps its events or doesn't
+abbrev pub taken_of : Bool → Bool → ℕ → Option Look → Turn → List ℕ → Taken
+taken_of serf keeps a due t input = taken_by serf keeps due (given_for a t) t input
 
 -- the opening, and the look after it
 abbrev pub opened_of : Bool → Config → List ℕ → Taken
@@ -237,7 +238,7 @@ session_from serf a config made action n written [] input =
     let l = looked_of serf look input in
     record { verdict = last_of l.asked action n look; written = written ++ look_line; rest = l.rest }
 session_from serf a config made action n written (t ∷ ts) input =
-    let s = taken_of serf a (due_of a config (made_after a t made) t) t input in
+    let s = taken_of serf config.keep_events a (due_of a config (made_after a t made) t) t input in
     after_asked s.asked action n (written ++ s.written) s.rest (λ m w rest. session_from serf a config (made_after a t made) (action + 1) m w ts rest)
 
 -- An agent is opened, which counts as action 0, and is then held against the turns of agent a; actions count from 1.

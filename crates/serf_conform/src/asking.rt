@@ -303,12 +303,14 @@ fn call_and_look<R: Read, W: Write>(
 }
 
 /// Makes the call of a turn, where it is one of this agent that rests on these rules, judges its reply, and then looks at
-/// the agent where that is due. Before the turn these packets were sent, and by it those.
+/// the agent where that is due. `keeps` says whether the agent keeps its events over a restart. Before the turn these
+/// packets were sent, and by it those.
 pub(crate) fn take_turn<R: Read, W: Write>(
     alloc: Global,
     reader: &mut R,
     writer: &mut W,
     rules: Rules,
+    keeps: bool,
     agent: u64,
     due: Option<Look>,
     action: &Action,
@@ -317,7 +319,7 @@ pub(crate) fn take_turn<R: Read, W: Write>(
     packets: &[Bytes],
 ) -> Result<Asked, ConformFault>
     ensures { IfOk result (λ asked.
-        IfSome (R.remaining reader.old) (λ input. IsTaken (taken_of (is_serf rules) agent due
+        IfSome (R.remaining reader.old) (λ input. IsTaken (taken_of (is_serf rules) keeps agent due
         (record {
           action = action.now;
           line = line.now;
@@ -332,7 +334,7 @@ pub(crate) fn take_turn<R: Read, W: Write>(
     let Some(given) = given_packet(action, before) else {
         return Ok(Asked::Skipped);
     };
-    if rules.is_serf() && !is_common_turn(action, line) {
+    if rules.is_serf() && !is_common_turn(keeps, action, line) {
         return Ok(Asked::OwnRule);
     }
     call_and_look(
@@ -346,6 +348,7 @@ pub(crate) fn next_turn<R: Read, W: Write>(
     reader: &mut R,
     writer: &mut W,
     rules: Rules,
+    keeps: bool,
     agent: u64,
     due: Option<Look>,
     action: &Action,
@@ -354,8 +357,8 @@ pub(crate) fn next_turn<R: Read, W: Write>(
     count: usize,
 ) -> Result<Asked, ConformFault>
     ensures taken { IfOk result (λ asked. IfSome (R.remaining reader.old) (λ input. IsTaken
-        (taken_of (is_serf rules) agent due (turn_at count sent.now action.now line.now) input)
-        asked (R.remaining reader.new) (W.contents writer.old) (W.contents writer.new))) }
+        (taken_of (is_serf rules) keeps agent due (turn_at count sent.now action.now line.now)
+        input) asked (R.remaining reader.new) (W.contents writer.old) (W.contents writer.new))) }
     ensures fits { OnOk result (count + length line.now.sent ≤ length sent.now) }
 {
     let own = line.sent.as_slice().len();
@@ -365,6 +368,6 @@ pub(crate) fn next_turn<R: Read, W: Write>(
     let before = &sent[..count];
     let packets = &sent[count..count + own];
     take_turn(
-        alloc, reader, writer, rules, agent, due, action, line, before, packets,
+        alloc, reader, writer, rules, keeps, agent, due, action, line, before, packets,
     )
 }

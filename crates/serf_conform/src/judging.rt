@@ -9,7 +9,7 @@ use crate::reply::{Reply, ReplyFault, read_reply};
 use std::alloc::{AllocError, Global};
 
 /// What a reply is against the one that is wanted.
-#[derive(Clone, Copy, Debug, PartialEq, Eq)]
+#[derive(Clone, Copy, PartialEq, Eq)]
 pub enum Judgement {
     /// It means the one that is wanted.
     Agrees,

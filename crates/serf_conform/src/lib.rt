@@ -1,5 +1,5 @@
 //! Any agent, held against the reference. Here are an agent's calls, the replies that are wanted of it, and the verdict.
-//! Calls and replies go through the pipe, as lines of text (docs/PIPE.md).
+//! Calls and replies go through the pipe, as lines of text (docs/SPEC.md).
 #![tactic(auto)]
 
 mod asking;

@@ -30,8 +30,7 @@ fn lone_roster(alloc: Global, config: &Config) -> Result<Roster, ConformFault>
     }
 }
 
-/// The model's agent of these settings, on an empty snapshot. `NoAgent` where they are out of bounds,
-/// or keep events.
+/// The model's agent of these settings, on an empty snapshot. `NoAgent` where they are out of bounds.
 pub(crate) fn open_lone(alloc: Global, config: &Config) -> Result<World, ConformFault>
     ensures { IfOk result (λ world. IsLone config.now [] world) }
 {

@@ -18,7 +18,7 @@ use serf_wire::Bytes;
 use std::alloc::{AllocError, Global};
 
 /// What an agent has.
-#[derive(Debug, Drop)]
+#[derive(Drop)]
 pub struct Look {
     pub member_clock: u64,
     pub event_clock: u64,

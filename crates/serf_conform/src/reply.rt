@@ -12,7 +12,7 @@ use std::alloc::Global;
 use thiserror::Error;
 
 /// What an agent replied to a call.
-#[derive(Debug, Drop)]
+#[derive(Drop)]
 pub struct Reply {
     /// The first line, as it stands.
     pub answer: Bytes,

@@ -18,7 +18,7 @@ const MAX_TIME: u64 = u64::MAX - 1;
 const MAX_ID: u64 = u32::MAX as u64;
 
 /// What a line of a reply says. Times are Lamport times, below 2^64 - 1.
-#[derive(Debug, Drop)]
+#[derive(Drop)]
 pub enum ReplyLine {
     /// A packet was sent.
     Sent(Bytes),

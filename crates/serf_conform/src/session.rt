@@ -142,13 +142,14 @@ fn look_last<R: Read, W: Write>(
     Ok(last_ending(looked, action, tally, look))
 }
 
-/// Holds an agent that was opened against the turns from here on.
+/// Holds an agent that was opened with these settings against the turns from here on.
 fn hold_on<R: Read, W: Write>(
     alloc: Global,
     reader: &mut R,
     writer: &mut W,
     rules: Rules,
     agent: u64,
+    config: &Config,
     lone: &mut World,
     tally: Tally,
     actions: &[Action],
@@ -156,10 +157,10 @@ fn hold_on<R: Read, W: Write>(
     sent: &[Bytes],
 ) -> Result<Verdict, ConformFault>
     requires { IsFew tally 1 }
-    ensures { (config : ConfigOf) (w : List ℕ) (held : Option (List ℕ))
-        → IsLone config [] lone.old → Appends held (W.contents writer.old) w
+    ensures { (w : List ℕ) (held : Option (List ℕ))
+        → IsLone config.now [] lone.old → Appends held (W.contents writer.old) w
         → IfOk result (λ verdict. IfSome (R.remaining reader.old) (λ input. Concludes (session_from
-        (is_serf rules) agent config [] 1 tally w (turns_from 0 sent.now actions.now lines.now)
+        (is_serf rules) agent config.now [] 1 tally w (turns_from 0 sent.now actions.now lines.now)
         input) verdict (R.remaining reader.new) held (W.contents writer.new))) }
 {
     let mut actions = actions;
@@ -175,7 +176,17 @@ fn hold_on<R: Read, W: Write>(
                 [line, lines_left @ ..] => {
                     let due = follow_turn(alloc, lone, agent, action, line, sent, count)?;
                     let asked = next_turn(
-                        alloc, reader, writer, rules, agent, due, action, line, sent, count,
+                        alloc,
+                        reader,
+                        writer,
+                        rules,
+                        config.keep_events,
+                        agent,
+                        due,
+                        action,
+                        line,
+                        sent,
+                        count,
                     )?;
                     let more = asked.counted(tally);
                     if let Some(verdict) = ending(asked, number, tally) {
@@ -201,8 +212,8 @@ fn hold_on<R: Read, W: Write>(
 ///
 /// A call is written only once the reply to the one before is read and agrees. A delivery or a merge that names no
 /// packet is no call. Where the agent has not ended, just the replies to the calls were read, so that the next `hold` on
-/// these devices opens it anew. `NoAgent` where the settings are out of bounds, or keep events. After a fault the agent
-/// may have got a part of a call.
+/// these devices opens it anew. `NoAgent` where the settings are out of bounds. After a fault the agent may have got a
+/// part of a call.
 ///
 /// [`judge_look`]: crate::judge_look
 pub fn hold<R: Read, W: Write>(
@@ -237,6 +248,7 @@ pub fn hold<R: Read, W: Write>(
         writer,
         rules,
         agent,
+        config,
         &mut lone,
         tally,
         actions,

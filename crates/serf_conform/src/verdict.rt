@@ -5,7 +5,7 @@ use serf_wire::Bytes;
 use thiserror::Error;
 
 /// Which rules are asked for.
-#[derive(Clone, Copy, Debug, PartialEq, Eq)]
+#[derive(Clone, Copy, PartialEq, Eq)]
 pub enum Rules {
     /// Those of Serf: a comparison ends before the first turn that rests on a rule of this project's own.
     Serf,
@@ -29,7 +29,7 @@ impl Rules {
 }
 
 /// Why a comparison ended.
-#[derive(Debug, Drop)]
+#[derive(Drop)]
 pub enum End {
     /// Every call was made, and every reply agrees.
     AllAgree,
@@ -44,7 +44,7 @@ pub enum End {
 }
 
 /// What came of holding an agent against the reference.
-#[derive(Debug, Drop)]
+#[derive(Drop)]
 pub struct Verdict {
     /// How many calls agree. That the agent was opened is one.
     pub calls: u64,

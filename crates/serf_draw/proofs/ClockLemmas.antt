@@ -1,11 +1,11 @@
--- The event clock of an agent that a world stores.
+-- The event clock of an agent that a world stores, and the least time of an event that it takes.
 use Rattle.std.proofs.Common.{◌≡◌, ℕ, List, Option, Some, None, refl, sym, ap, ◌∙◌}
 use Rattle.std.specs.Prelude.{slice_get}
 use Rattle.std.specs.Option.{option_map}
 use Rattle.std.proofs.lemmas.Option.{slice_get-map}
 use Rattle.serf_model.specs.Cluster.{Cluster, IdealNode}
 use Rattle.serf_world.specs.View.{IsViewed, NodeState, WorldState, agent_at, node_of}
-use Rattle.serf_draw.specs.Drawing.{clock_in}
+use Rattle.serf_draw.specs.Drawing.{clock_in, least_in}
 
 mapped : (o : Option IdealNode) → option_map (λ s. s.events.clock) (option_map (λ s. s.concrete) (option_map node_of o)) ≡ option_map (λ m. m.agent.events.clock) o
 mapped None = refl
@@ -16,3 +16,13 @@ clock_viewed c w a h =
     ap (λ (ns : List NodeState). option_map (λ s. s.events.clock) (option_map (λ s. s.concrete) (slice_get ns a))) (sym h.nodes)
     ∙ ap (λ (o : Option NodeState). option_map (λ s. s.events.clock) (option_map (λ s. s.concrete) o)) (slice_get-map node_of c.nodes a)
     ∙ mapped (slice_get c.nodes a)
+
+mapped-least : (o : Option IdealNode) → option_map (λ s. s.events.minimum) (option_map (λ s. s.concrete) (option_map node_of o)) ≡ option_map (λ m. m.agent.events.minimum) o
+mapped-least None = refl
+mapped-least (Some m) = refl
+
+pub least_viewed : (c : Cluster) (w : WorldState) (a : ℕ) → IsViewed c w → option_map (λ s. s.events.minimum) (agent_at w a) ≡ least_in c (Some a)
+least_viewed c w a h =
+    ap (λ (ns : List NodeState). option_map (λ s. s.events.minimum) (option_map (λ s. s.concrete) (slice_get ns a))) (sym h.nodes)
+    ∙ ap (λ (o : Option NodeState). option_map (λ s. s.events.minimum) (option_map (λ s. s.concrete) o)) (slice_get-map node_of c.nodes a)
+    ∙ mapped-least (slice_get c.nodes a)

@@ -15,6 +15,7 @@ use Rattle.serf_model.specs.declared.line.EventLine.{EventLine}
 use Rattle.serf_model.specs.declared.line.Line.{Line}
 use Rattle.serf_model.specs.Trace.{actor_of}
 use Rattle.serf_draw.specs.declared.asked.Asked.{Asked}
+use Rattle.serf_draw.specs.Merges.{passed_over, times_brought}
 
 -- Agents and numbers
 
@@ -35,16 +36,17 @@ shows agents from to action agent = if nat_lt action from || nat_lt to action th
 abbrev pub missing_agent : List ℕ → ℕ → Option ℕ
 missing_agent agents count = find (λ a. nat_le count a) agents
 
--- What came of it
+-- What came of it: an injection alone brings nobody anything
 
 abbrev pub is_taken : Answer → Bool
 is_taken (answers.Ignored reason) = false
 is_taken (answers.Refused refusal) = false
+is_taken answers.Injected = false
 is_taken _ = true
 
--- of what is asked for alone, an action that was neither ignored nor refused
-abbrev pub is_kept : Bool → Answer → Bool
-is_kept taken answer = if taken then is_taken answer else true
+-- where that is asked for, an action that was neither ignored nor refused, is no injection, and passed no events over
+abbrev pub is_kept : Bool → Answer → List ℕ → Bool
+is_kept taken answer passed = if taken then is_taken answer && length passed == 0 else true
 
 -- Events of a name
 
@@ -92,4 +94,4 @@ named (Some name) events = filter (has_name name) events
 -- that is drawn, it was taken where that is asked for, and it fires, brings or hands out an event of the name.
 abbrev pub is_drawn : Asked → ℕ → Action → Option (List ℕ) → Line → Bool
 is_drawn asked n action given line = shows asked.agents.items asked.from asked.to n (actor_of action)
-    && is_kept asked.taken line.answer && (names asked.event action given || hands_out asked.event line.events)
+    && is_kept asked.taken line.answer (passed_over line.answer line.events (times_brought action given)) && (names asked.event action given || hands_out asked.event line.events)

@@ -28,6 +28,7 @@ use Rattle.serf_draw.specs.declared.picture.Tone.{Tone}
 use Rattle.serf_draw.specs.declared.picture.Tone.TheVariants.{Taken, Ignored, Refused}
 use Rattle.serf_draw.specs.Asked.{is_chosen, is_drawn, missing_agent, named}
 use Rattle.serf_draw.specs.Label.{action_words, label_of}
+use Rattle.serf_draw.specs.Merges.{passed_over, times_brought}
 
 abbrev pub tone_of : Answer → Tone
 tone_of (answers.Ignored reason) = Ignored
@@ -77,6 +78,11 @@ abbrev pub clock_in : Cluster → Option ℕ → Option ℕ
 clock_in c None = None
 clock_in c (Some a) = option_map (λ m. m.agent.events.clock) (slice_get c.nodes a)
 
+-- the least time of an event that an agent takes
+abbrev pub least_in : Cluster → Option ℕ → Option ℕ
+least_in c None = None
+least_in c (Some a) = option_map (λ m. m.agent.events.minimum) (slice_get c.nodes a)
+
 -- the clock afterwards, where it is another one
 abbrev pub changed : Option ℕ → Option ℕ → Option ℕ
 changed (Some before) (Some now) = if before == now then None else Some now
@@ -89,22 +95,27 @@ abbrev pub merged_events : Option (List ℕ) → Action → List EventLine → L
 merged_events name (actions.Of agent (acts.Merge packet join)) events = named name events
 merged_events name _ events = []
 
-abbrev pub row_with : Option (List ℕ) → ℕ → ℕ → Action → List ℕ → Arrow → Option ℕ → Line → Row
-row_with name n above action words arrow clock line = record {
+-- a merge that brought events and passed all of them over changed nothing
+abbrev pub row_tone : Answer → List ℕ → Tone
+row_tone answer passed = if length passed == 0 then tone_of answer else Ignored
+
+abbrev pub row_with : Option (List ℕ) → ℕ → ℕ → Action → List ℕ → Arrow → Option ℕ → Option ℕ → List ℕ → Line → Row
+row_with name n above action words arrow clock least passed line = record {
   action = n;
   above = above;
   agent = actor_of action;
-  tone = tone_of line.answer;
-  label = label_of words line.answer (merged_events name action line.events) clock;
+  tone = row_tone line.answer passed;
+  label = label_of words line.answer least (merged_events name action line.events) passed clock;
   arrow = arrow;
   event_clock = clock;
   restarts = restarts line.answer;
 }
 
 -- The row of an action of this number, which has so many rows above it, and before which these packets were sent: what came
--- of it is this line, and the agent's event clock is another one afterwards, or none is shown.
-abbrev pub row_of : Option (List ℕ) → ℕ → ℕ → List Packet → Action → Option (List ℕ) → Option ℕ → Line → Row
-row_of name n above packets action given clock line = row_with name n above action (action_words action given) (arrow_of packets action) clock line
+-- of it is this line, the agent's event clock is another one afterwards, or none is shown, and it takes events from this time on.
+abbrev pub row_of : Option (List ℕ) → ℕ → ℕ → List Packet → Action → Option (List ℕ) → Option ℕ → Option ℕ → Line → Row
+row_of name n above packets action given clock least line =
+    row_with name n above action (action_words action given) (arrow_of packets action) clock least (passed_over line.answer line.events (times_brought action given)) line
 
 -- how many actions were done, what they made of the cluster, the packets that were sent, and a row for each action that is drawn
 pub record Drawing : Type 0 where
@@ -128,7 +139,7 @@ drawn_by asked d n action shown s = record {
   cluster = s.cluster;
   packets = given_by d.packets action ++ replicate (length s.turn.line.sent) (packet_of (sender_of n (length d.rows) action) shown);
   rows = d.rows ++ shown_row shown (row_of asked.event n (length d.rows) d.packets action (packet_given d.cluster.sent action)
-      (changed (clock_in d.cluster (actor_of action)) (clock_in s.cluster (actor_of action))) s.turn.line);
+      (changed (clock_in d.cluster (actor_of action)) (clock_in s.cluster (actor_of action))) (least_in s.cluster (actor_of action)) s.turn.line);
 }
 
 abbrev pub drawn_next : Asked → Drawing → ℕ → Action → Stepped → Drawing

@@ -9,7 +9,7 @@ use Rattle.serf_model.specs.declared.action.Action.{Action}
 use Rattle.serf_model.specs.declared.action.Action.TheVariants as actions
 use Rattle.serf_model.specs.declared.line.Answer.{Answer}
 use Rattle.serf_model.specs.declared.line.EventLine.{EventLine}
-use Rattle.serf_schedule.specs.Show.{answer_text}
+use Rattle.serf_draw.specs.Merges.{came_words, passed_words}
 
 -- a text of at most 12 bytes, or the first 8 of a longer one and its length
 unfoldable pub short : List ℕ → List ℕ
@@ -86,8 +86,13 @@ cut_to n text = if nat_lt n (length text) then take (n - 2) text ++ codes ".." e
 unfoldable pub joined : List ℕ → List ℕ → List ℕ
 joined front end = cut_to (72 - length end) front ++ end
 
--- These words, what came of it, and the first two of the events that a merge handed out; and at the end how many more there
--- are, and the agent's event clock, where the action changed it.
-unfoldable pub label_of : List ℕ → Answer → List EventLine → Option ℕ → List ℕ
-label_of words answer events clock =
-    joined (words ++ answer_text answer ++ first_two events) (count_words (length events - 2) ++ clock_words clock)
+-- what came of an action, of an agent that takes events from this time on, and the first two of the events that a merge handed
+-- out, or how many it brought and passed over
+unfoldable pub outcome_words : Answer → Option ℕ → List EventLine → List ℕ → List ℕ
+outcome_words answer least events passed = came_words answer least ++ first_two events ++ passed_words passed least
+
+-- These words, and what came of it; and at the end how many more events were handed out, and the agent's event clock, where the
+-- action changed it.
+unfoldable pub label_of : List ℕ → Answer → Option ℕ → List EventLine → List ℕ → Option ℕ → List ℕ
+label_of words answer least events passed clock =
+    joined (words ++ outcome_words answer least events passed) (count_words (length events - 2) ++ clock_words clock)

@@ -11,6 +11,7 @@ use Rattle.serf_draw.specs.declared.rows.Rows.{Rows}
 use Rattle.serf_draw.specs.Asked.{names}
 use Rattle.serf_draw.specs.Drawing.{IsDrawn, arrow_of, clock_in, drawing_of}
 use Rattle.serf_draw.specs.Label.{action_words}
+use Rattle.serf_draw.specs.Merges.{times_brought}
 
 -- what of these actions is asked for is drawn
 abbrev pub draws : Asked → Rows → List Config → List Action → List ℕ → Type 0
@@ -21,6 +22,7 @@ pub record IsFound (asked : Asked) (c : Cluster) (packets : List Packet) (action
   pub words : found.words.items ≡ action_words action (packet_given c.sent action)
   pub named : found.is_named ≡ names asked.event action (packet_given c.sent action)
   pub clock : found.clock ≡ clock_in c (actor_of action)
+  pub times : found.times.items ≡ times_brought action (packet_given c.sent action)
   pub arrow : found.arrow ≡ arrow_of packets action
 
 abbrev pub found_by : Asked → Rows → Found → List Config → List Action → Action → List ℕ → Type 0

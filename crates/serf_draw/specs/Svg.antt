@@ -1,7 +1,7 @@
 -- The text of an SVG file. A lane is 1,000 units wide and a line 100 units high, so that each place is a number with two or
 -- three digits after it.
-use Rattle.std.specs.Prelude.{ℕ, ◌==◌, ◌+◌, ◌-◌, ◌*◌, ◌/◌, ◌++◌, ◌^◌, min, Bool, if◌then◌else◌, List, [], ◌∷◌, length, map, codes, decimal, position, Option, Some, None}
-use Rattle.std.specs.List.{flat_map, range_with_len}
+use Rattle.std.specs.Prelude.{ℕ, ◌==◌, ◌+◌, ◌-◌, ◌*◌, ◌/◌, ◌++◌, ◌^◌, min, nat_lt, Bool, if◌then◌else◌, List, [], ◌∷◌, length, map, codes, decimal, position, Option, Some, None}
+use Rattle.std.specs.List.{flat_map, fold, range_with_len}
 use Rattle.serf_draw.specs.declared.picture.Arrow.{Arrow}
 use Rattle.serf_draw.specs.declared.picture.Arrow.TheVariants.{NoPacket, Unsent, From}
 use Rattle.serf_draw.specs.declared.picture.Lane.{Lane}
@@ -126,7 +126,7 @@ cross_text lanes sender = placed_text (codes "<path class='x' transform='transla
 
 -- the action's number, at the left edge
 unfoldable pub number_text : ℕ → ℕ → List ℕ
-number_text line n = between (codes "<text class='n' x='-980' y='") line (codes "75'>") ++ between [] n (codes "</text>\n")
+number_text line n = between (codes "<text class='n' x='-680' y='") line (codes "75'>") ++ between [] n (codes "</text>\n")
 
 -- the group of what stands where the agent acts
 unfoldable pub dot_text : List Lane → Row → List ℕ
@@ -147,23 +147,36 @@ row_text lanes row = number_text (line_of row.above) row.action ++ dot_text lane
 
 -- The whole
 
--- the columns: one left of the lanes, and three right of them for the labels
-abbrev pub columns : List Lane → ℕ
-columns lanes = min (length lanes + 4) (2 ^ 64 - 1)
+-- the greater of two numbers
+abbrev pub greater : ℕ → ℕ → ℕ
+greater m n = if nat_lt m n then n else m
 
--- the part of the plane that is shown, in units and then in picas (16 pixels): a line is a pica high, a lane ten wide
+-- how many bytes the longest label has
+abbrev pub longest : List Row → ℕ
+longest rows = fold (λ n row. greater n (length row.label)) 0 rows
+
+-- the columns that labels take, of which the longest has so many bytes: a byte is 45 units wide
+abbrev pub label_columns : ℕ → ℕ
+label_columns n = if nat_lt 49 n then 3 else if nat_lt 27 n then 2 else 1
+
+-- The columns: one for each lane, and those of the labels; three at least, so that the legend has room.
+abbrev pub columns : List Lane → List Row → ℕ
+columns lanes rows = greater 3 (min (length lanes + label_columns (longest rows)) (2 ^ 64 - 1))
+
+-- The part of the plane that is shown, in units and then in picas (16 pixels): a line is a pica high, a lane ten wide, and left of
+-- the lanes there is the breadth of seven more.
 unfoldable pub view_text : ℕ → ℕ → List ℕ
-view_text columns lines = between [] columns (codes "000 ") ++ between [] lines (codes "99'")
+view_text columns lines = between [] columns (codes "700 ") ++ between [] lines (codes "99'")
 
 unfoldable pub size_text : ℕ → ℕ → List ℕ
-size_text columns lines = between (codes " width='") columns (codes "0pc' height='") ++ between [] lines (codes ".99pc'>\n")
+size_text columns lines = between (codes " width='") columns (codes "7pc' height='") ++ between [] lines (codes ".99pc'>\n")
 
 unfoldable pub frame_text : ℕ → ℕ → List ℕ
 frame_text columns lines = OPENING.now ++ view_text columns lines ++ size_text columns lines ++ STYLE.now
 
 -- what the signs mean, on a line of its own
 abbrev pub legend_text : ℕ → List ℕ
-legend_text line = between (codes "<g transform='translate(-980 ") line (codes "50)'>") ++ LEGEND.now
+legend_text line = between (codes "<g transform='translate(-680 ") line (codes "50)'>") ++ LEGEND.now
 
 -- what stands behind all else: the lanes with their names, and the lines to the labels
 unfoldable pub back_text : List Lane → List Row → List ℕ
@@ -175,5 +188,5 @@ front_text lanes rows lost = flat_map (arrow_text lanes) rows ++ flat_map (cross
 
 -- all of it in its frame, with a legend below
 unfoldable pub svg_of : Picture → List ℕ
-svg_of p = frame_text (columns p.lanes.items) (line_of (length p.rows.items)) ++ back_text p.lanes.items p.rows.items
+svg_of p = frame_text (columns p.lanes.items p.rows.items) (line_of (length p.rows.items)) ++ back_text p.lanes.items p.rows.items
     ++ front_text p.lanes.items p.rows.items p.lost.items ++ legend_text (line_of (length p.rows.items)) ++ codes "</svg>\n"

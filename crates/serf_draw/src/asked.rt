@@ -11,9 +11,9 @@ use serf_wire::{Bytes, Message, decode};
 use std::alloc::{AllocError, Global};
 
 /// Which part of a run is drawn: the actions from one number to another; of them those of some agents, or of all where
-/// none is named; of them those that were neither ignored nor refused, where `taken` asks for that; and of them those
+/// none is named; of them those that were neither ignored nor refused nor injected, where `taken` asks for that; and of them those
 /// that fire, inject, deliver or hand out an event of a name, where one is given.
-#[derive(Debug, Drop)]
+#[derive(Drop)]
 pub struct Asked {
     pub agents: Vec<u64>,
     pub from: u64,
@@ -29,13 +29,14 @@ fn is_among(numbers: &[u64], number: u64) -> bool
     numbers.iter().any(|n| *n == number)
 }
 
-/// Whether an action was neither ignored nor refused.
+/// Whether an action was neither ignored nor refused, and is no injection.
 fn is_taken(answer: Answer) -> bool
     ensures { result ≡ is_taken_answer answer }
 {
     match answer {
         Answer::Ignored(_) => false,
         Answer::Refused(_) => false,
+        Answer::Injected => false,
         _ => true,
     }
 }
@@ -144,11 +145,15 @@ impl Asked {
         self.agents.iter().copied().find(|agent| count <= *agent)
     }
 
-    /// Whether an action's answer leaves it drawn. Takes no memory.
-    fn keeps(&self, answer: Answer) -> bool
-        ensures { result ≡ is_kept self.now.taken answer }
+    /// Whether an action's answer, and the events that it passed over, leave it drawn. Takes no memory.
+    fn keeps(&self, answer: Answer, passed: &[u64]) -> bool
+        ensures { result ≡ is_kept self.now.taken answer passed.now }
     {
-        !self.taken || is_taken(answer)
+        if self.taken {
+            is_taken(answer) && passed.is_empty()
+        } else {
+            true
+        }
     }
 
     /// Whether an action fires, injects or delivers an event that is asked for, where this packet is given. Takes no memory.
@@ -171,15 +176,23 @@ impl Asked {
         }
     }
 
-    /// Whether an action is drawn of which this came, where it is known whether it names an event that is asked for.
+    /// Whether an action is drawn of which this came, where it is known whether it names an event that is asked for, and the
+    /// times of the events that it passed over.
     /// Takes no memory.
-    pub(crate) fn draws(&self, number: u64, action: &Action, is_named: bool, line: &Line) -> bool
+    pub(crate) fn draws(
+        &self,
+        number: u64,
+        action: &Action,
+        is_named: bool,
+        line: &Line,
+        passed: &[u64],
+    ) -> bool
         ensures { result ≡ (shows self.now.agents.items self.now.from self.now.to number
-            (actor_of action.now) && is_kept self.now.taken line.now.answer
+            (actor_of action.now) && is_kept self.now.taken line.now.answer passed.now
             && (is_named || hands_out self.now.event line.now.events)) }
     {
         self.shows(number, action.actor())
-            && self.keeps(line.answer)
+            && self.keeps(line.answer, passed)
             && (is_named || self.hands_out(line.events.as_slice()))
     }
 

@@ -10,7 +10,7 @@ use crate::fault::DrawFault;
 use crate::picture::{Lane, Packet, Picture, Sender};
 use crate::rows::Rows;
 use serf_agent::Config;
-use serf_schedule::{Schedule, ScheduleFault, parse_schedule, tell_schedule};
+use serf_schedule::{Schedule, ScheduleFault, Watch, Watched, parse_schedule, tell_schedule};
 use serf_wire::Bytes;
 use std::alloc::{AllocError, Global};
 
@@ -64,26 +64,39 @@ fn lanes_of(alloc: Global, configs: &[Config], asked: &Asked) -> Result<Vec<Lane
 }
 
 /// The picture of a schedule's run.
-fn picture_of(alloc: Global, schedule: Schedule, asked: &Asked) -> Result<Picture, AllocError>
+fn picture_of<T: Watch>(
+    alloc: Global,
+    schedule: Schedule,
+    asked: &Asked,
+    watch: &mut T,
+) -> Result<Picture, AllocError>
     ensures { IfOk result (IsPicture asked.now (parsed_of schedule)) }
 {
     let lanes = lanes_of(alloc, schedule.agents.as_slice(), asked)?;
-    let mut drawn = Rows::new(alloc, asked);
-    tell_schedule(alloc, schedule, &mut drawn)?;
-    let Rows { packets, rows, .. } = drawn;
+    let all = schedule.actions.len() as u64;
+    let teller = Rows::new(alloc, asked);
+    let mut watched = Watched { teller, watch, all };
+    tell_schedule(alloc, schedule, &mut watched)?;
+    let Watched { teller, .. } = watched;
+    let Rows { packets, rows, .. } = teller;
     let lost = lost_of(alloc, packets.as_slice())?;
     Ok(Picture { lanes, rows, lost })
 }
 
 /// The picture of a schedule's run, where it has each agent that is named.
-fn picture_asked(alloc: Global, schedule: Schedule, asked: &Asked) -> Result<Picture, DrawFault>
+fn picture_asked<T: Watch>(
+    alloc: Global,
+    schedule: Schedule,
+    asked: &Asked,
+    watch: &mut T,
+) -> Result<Picture, DrawFault>
     ensures { Draws asked.now result (Ok (parsed_of schedule)) }
 {
     let count = schedule.agents.as_slice().len() as u64;
     if let Some(agent) = asked.missing_agent(count) {
         return Err(DrawFault::NoAgent { agent, count });
     }
-    match picture_of(alloc, schedule, asked) {
+    match picture_of(alloc, schedule, asked, watch) {
         Ok(picture) => Ok(picture),
         Err(_) => Err(DrawFault::OutOfMemory),
     }
@@ -92,12 +105,17 @@ fn picture_asked(alloc: Global, schedule: Schedule, asked: &Asked) -> Result<Pic
 /// The picture of the run of the schedule that a text stands for, as far as it is asked for.
 ///
 /// `BadLine` comes exactly where a line is not sound, and says the first, as [`serf_replay::replay`] does. `NoAgent` comes
-/// exactly where an agent is named that the schedule doesn't have, and says the first.
-pub fn draw_picture(alloc: Global, text: &[u8], asked: &Asked) -> Result<Picture, DrawFault>
+/// exactly where an agent is named that the schedule doesn't have, and says the first. The watch is told of each action.
+pub fn draw_picture<T: Watch>(
+    alloc: Global,
+    text: &[u8],
+    asked: &Asked,
+    watch: &mut T,
+) -> Result<Picture, DrawFault>
     ensures { Draws asked.now result (schedule_of text.now) }
 {
     match parse_schedule(alloc, text) {
-        Ok(schedule) => picture_asked(alloc, schedule, asked),
+        Ok(schedule) => picture_asked(alloc, schedule, asked, watch),
         Err(ScheduleFault::BadLine { line, cause }) => Err(DrawFault::BadLine { line, cause }),
         Err(ScheduleFault::OutOfMemory) => Err(DrawFault::OutOfMemory),
     }

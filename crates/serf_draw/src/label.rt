@@ -3,10 +3,10 @@
 ghost use Rattle.std.specs.Prelude.{◌≡◌, ◌++◌, IfOk, Ok, OnOk};
 ghost use Rattle.std.specs.Option.{option_copied};
 ghost use Rattle.serf_wire.specs.Message.{message_of};
-ghost use Rattle.serf_draw.specs.Label.{act_words, action_words, at_time, clock_words, count_words, cut_to, event_behind, event_words, first_two, given_words, joined as joined_words, label_of, message_words, packet_words, short, texts};
+ghost use Rattle.serf_draw.specs.Label.{act_words, action_words, at_time, clock_words, count_words, cut_to, event_behind, event_words, first_two, given_words, joined as joined_words, label_of, message_words, outcome_words, packet_words, short, texts};
 
+use crate::merges::{put_came, put_passed_over};
 use serf_model::{Act, Action, Answer, EventLine};
-use serf_schedule::put_answer;
 use serf_text::put_number;
 use serf_wire::{Bytes, Message, decode};
 use std::alloc::{AllocError, Global};
@@ -236,20 +236,41 @@ fn joined(front: Vec<u8>, end: &[u8]) -> Result<Bytes, AllocError>
     Ok(Bytes::from_vec(text))
 }
 
-/// The label that begins with these words, where a merge handed out these events, and the agent's event clock is another one.
+/// Appends what came of an action, of an agent that takes events from this time on, where a merge handed out these events or
+/// passed over those of these times.
+#[tactic(auto, unfolding(crate::specs::Label::outcome_words))]
+fn put_outcome(
+    out: &mut Vec<u8>,
+    answer: Answer,
+    least: Option<u64>,
+    events: &[EventLine],
+    passed: &[u64],
+) -> Result<(), AllocError>
+    ensures { OnOk result (out.new.items ≡ out.old.items
+        ++ outcome_words answer least events.now passed.now) }
+{
+    put_came(out, answer, least)?;
+    put_first_two(out, events)?;
+    put_passed_over(out, passed, least)
+}
+
+/// The label that begins with these words, where a merge handed out these events or passed over those of these times, the
+/// agent takes events from this time on, and its event clock is another one.
 #[tactic(auto, unfolding(crate::specs::Label::label_of))]
 pub(crate) fn label(
     alloc: Global,
     words: Vec<u8>,
     answer: Answer,
+    least: Option<u64>,
     events: &[EventLine],
+    passed: &[u64],
     clock: Option<u64>,
 ) -> Result<Bytes, AllocError>
-    ensures { IfOk result (λ label. label ≡ label_of words.items answer events.now clock) }
+    ensures { IfOk result (λ label. label ≡ label_of words.items answer least events.now
+        passed.now clock) }
 {
     let mut front = words;
-    put_answer(&mut front, answer)?;
-    put_first_two(&mut front, events)?;
+    put_outcome(&mut front, answer, least, events, passed)?;
     let mut end = Vec::new(alloc);
     put_count(&mut end, events.len().saturating_sub(2))?;
     put_clock(&mut end, clock)?;

@@ -8,6 +8,7 @@ mod drawing;
 mod escape;
 mod fault;
 mod label;
+mod merges;
 mod mermaid;
 mod picture;
 mod row;

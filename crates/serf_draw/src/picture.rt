@@ -3,7 +3,7 @@
 use serf_wire::Bytes;
 
 /// How an action ended.
-#[derive(Clone, Copy, Debug, PartialEq, Eq)]
+#[derive(Clone, Copy, PartialEq, Eq)]
 pub enum Tone {
     /// It did what it was to do.
     Taken,
@@ -14,7 +14,7 @@ pub enum Tone {
 }
 
 /// Who sent a packet: the action that did, counted from 1, and the agent that acted; none where the packet was injected.
-#[derive(Clone, Copy, Debug, PartialEq, Eq)]
+#[derive(Clone, Copy, PartialEq, Eq)]
 pub struct Sender {
     pub agent: Option<u64>,
     pub action: u64,
@@ -23,7 +23,7 @@ pub struct Sender {
 }
 
 /// A packet that was sent: who sent it, whether the action that did is drawn, and whether some action gave it to an agent.
-#[derive(Clone, Copy, Debug, PartialEq, Eq)]
+#[derive(Clone, Copy, PartialEq, Eq)]
 pub struct Packet {
     pub sender: Sender,
     pub is_shown: bool,
@@ -31,7 +31,7 @@ pub struct Packet {
 }
 
 /// Where the packet that an action gives comes from.
-#[derive(Clone, Copy, Debug, PartialEq, Eq)]
+#[derive(Clone, Copy, PartialEq, Eq)]
 pub enum Arrow {
     /// The action gives no packet.
     NoPacket,
@@ -42,7 +42,7 @@ pub enum Arrow {
 }
 
 /// An action in a picture.
-#[derive(Debug, Drop)]
+#[derive(Drop)]
 pub struct Row {
     /// The action's number, counted from 1.
     pub action: u64,
@@ -61,14 +61,14 @@ pub struct Row {
 }
 
 /// An agent's lane: its number, and its name, of which at most 12 bytes are shown.
-#[derive(Debug, Drop)]
+#[derive(Drop)]
 pub struct Lane {
     pub agent: u64,
     pub name: Bytes,
 }
 
 /// A picture of a run: the lanes of its agents, the rows of its actions that are drawn, and the packets of these that nobody got.
-#[derive(Debug, Drop)]
+#[derive(Drop)]
 pub struct Picture {
     pub lanes: Vec<Lane>,
     pub rows: Vec<Row>,

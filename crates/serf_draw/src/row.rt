@@ -1,7 +1,7 @@
 //! The row of an action.
 
 ghost use Rattle.std.specs.Prelude.{◌≡◌, ◌++◌, IfOk, OnOk, false, replicate, length, slice_get};
-ghost use Rattle.serf_draw.specs.Drawing.{arrow_of, from_packet, given_by, merged_events as merged, packet_of, restarts, tone_of, with_given};
+ghost use Rattle.serf_draw.specs.Drawing.{arrow_of, from_packet, given_by, merged_events as merged, packet_of, restarts, row_tone, tone_of, with_given};
 
 use crate::asked::Asked;
 use crate::picture::{Arrow, Packet, Sender, Tone};
@@ -53,13 +53,24 @@ pub(crate) fn note_packet(packets: &mut Vec<Packet>, action: &Action)
     }
 }
 
-pub(crate) fn tone(answer: Answer) -> Tone
+fn tone_of_answer(answer: Answer) -> Tone
     ensures { result ≡ tone_of answer }
 {
     match answer {
         Answer::Ignored(_) => Tone::Ignored,
         Answer::Refused(_) => Tone::Refused,
         _ => Tone::Taken,
+    }
+}
+
+/// How an action ended, of which a merge passed over the events of these times.
+pub(crate) fn tone(answer: Answer, passed: &[u64]) -> Tone
+    ensures { result ≡ row_tone answer passed.now }
+{
+    if passed.is_empty() {
+        tone_of_answer(answer)
+    } else {
+        Tone::Ignored
     }
 }
 

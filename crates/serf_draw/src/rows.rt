@@ -8,8 +8,9 @@ ghost use Rattle.serf_draw.specs.Drawing.{Drawing, IsDrawn, drawn, row_with, sho
 ghost use Rattle.serf_draw.specs.Rows.{IsFound, draws};
 
 use crate::asked::Asked;
-use crate::clock::{changed_clock, event_clock};
+use crate::clock::{changed_clock, event_clock, event_minimum};
 use crate::label::{first_words, label};
+use crate::merges::{passed_over, times_brought};
 use crate::picture::{Arrow, Packet, Row, Sender};
 use crate::row::{add_packets, arrow, is_restart, merged_events, note_packet, tone};
 use serf_model::{Action, Line};
@@ -25,11 +26,13 @@ fn row(
     words: Vec<u8>,
     arrow: Arrow,
     event_clock: Option<u64>,
+    least: Option<u64>,
+    passed: &[u64],
     line: Line,
 ) -> Result<Row, AllocError>
     ensures { IfOk result (λ row. row
         ≡ row_with asked.now.event sender.action sender.above action.now words.items arrow
-        event_clock line) }
+        event_clock least passed.now line) }
 {
     let answer = line.answer;
     let events = merged_events(alloc, asked, action, line.into_events())?;
@@ -37,8 +40,8 @@ fn row(
         action: sender.action,
         above: sender.above,
         agent: action.actor(),
-        tone: tone(answer),
-        label: label(alloc, words, answer, &events, event_clock)?,
+        tone: tone(answer, passed),
+        label: label(alloc, words, answer, least, &events, passed, event_clock)?,
         arrow,
         event_clock,
         restarts: is_restart(answer),
@@ -56,12 +59,13 @@ fn add_row(rows: &mut Vec<Row>, is_shown: bool, row: Row) -> Result<(), AllocErr
 }
 
 /// What is found before an action is done: the first words of its label, whether it names an event that is asked for, its
-/// agent's event clock, and its arrow.
+/// agent's event clock, the times of the events that a merge brings, and its arrow.
 #[derive(Drop)]
 pub(crate) struct Found {
     pub(crate) words: Vec<u8>,
     pub(crate) is_named: bool,
     pub(crate) clock: Option<u64>,
+    pub(crate) times: Vec<u64>,
     pub(crate) arrow: Arrow,
 }
 
@@ -95,6 +99,7 @@ impl<'a> Rows<'a> {
             words: first_words(alloc, action, given)?,
             is_named: self.asked.names(action, given),
             clock: event_clock(world, action.actor()),
+            times: times_brought(alloc, action, given)?,
             arrow: arrow(self.packets.as_slice(), action),
         })
     }
@@ -120,11 +125,14 @@ impl<'a> Rows<'a> {
             words,
             is_named,
             clock,
+            times,
             arrow,
         } = found;
         let agent = action.actor();
         let clock = changed_clock(clock, event_clock(world, agent));
-        let is_shown = self.asked.draws(number, action, is_named, &line);
+        let least = event_minimum(world, agent);
+        let passed = passed_over(line.answer, line.events.as_slice(), &times);
+        let is_shown = self.asked.draws(number, action, is_named, &line, passed);
         let sender = Sender {
             agent,
             action: number,
@@ -132,7 +140,9 @@ impl<'a> Rows<'a> {
         };
         note_packet(&mut self.packets, action);
         add_packets(&mut self.packets, sender, is_shown, line.sent.as_slice())?;
-        let row = row(alloc, self.asked, sender, action, words, arrow, clock, line)?;
+        let row = row(
+            alloc, self.asked, sender, action, words, arrow, clock, least, passed, line,
+        )?;
         add_row(&mut self.rows, is_shown, row)
     }
 }

@@ -1,7 +1,7 @@
 //! What each picture begins with.
 
 /// The first tag, up to how wide and how high the part of the plane is that is shown.
-pub const OPENING: &[u8] = b"<svg xmlns='http://www.w3.org/2000/svg' role='img' viewBox='-1000 0 ";
+pub const OPENING: &[u8] = b"<svg xmlns='http://www.w3.org/2000/svg' role='img' viewBox='-700 0 ";
 
 /// The title, the colours in light and dark, the heads of the arrows, and the paper. Each colour stands as it is in light before its
 /// variable, for viewers that know no variables.
@@ -27,7 +27,7 @@ text{white-space:pre}
 <marker id='i' viewBox='0 0 10 10' refX='12' refY='5' markerWidth='6' markerHeight='6' orient='auto'><path d='M0 0L10 5L0 10z'/></marker>
 <marker id='r' viewBox='0 0 10 10' refX='12' refY='5' markerWidth='6' markerHeight='6' orient='auto'><path d='M0 0L10 5L0 10z'/></marker>
 </defs>
-<rect class='p' x='-1000' y='0' width='100%' height='100%'/>
+<rect class='p' x='-700' y='0' width='100%' height='100%'/>
 ";
 
 /// What the signs mean, and the end of its group.

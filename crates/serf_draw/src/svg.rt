@@ -3,7 +3,7 @@
 ghost use Rattle.std.specs.Prelude.{◌≡◌, ◌++◌, ◌+◌, ◌-◌, IfOk, OnOk};
 ghost use Rattle.std.specs.List.{flat_map};
 ghost use Rattle.serf_draw.specs.Label.{short};
-ghost use Rattle.serf_draw.specs.Svg.{agent_thousands, arrow_line, arrow_of_text, arrow_text, back_text, between, class_text, columns as columns_of, cross_text, dot_text, frame_text, front_text, guide_text, heads_text, label_place, label_text, lane_line, lane_place as place_among, lanes_text, legend_text, line_above as above, line_of, mark_text, name_text, names_text, number_text, place_text, placed_text, row_text, size_text, svg_of, text_element, thousands, tone_word as word_of, view_text};
+ghost use Rattle.serf_draw.specs.Svg.{agent_thousands, arrow_line, arrow_of_text, arrow_text, back_text, between, class_text, columns as columns_of, cross_text, dot_text, frame_text, front_text, guide_text, heads_text, label_columns as columns_of_labels, label_place, label_text, lane_line, lane_place as place_among, lanes_text, legend_text, line_above as above, line_of, longest as longest_of, mark_text, name_text, names_text, number_text, place_text, placed_text, row_text, size_text, svg_of, text_element, thousands, tone_word as word_of, view_text};
 
 use crate::escape::put_escaped;
 use crate::label::put_short;
@@ -309,7 +309,7 @@ fn put_crosses(out: &mut Vec<u8>, lanes: &[Lane], lost: &[Sender]) -> Result<(),
 fn put_row_number(out: &mut Vec<u8>, line: u64, action: u64) -> Result<(), AllocError>
     ensures { OnOk result (out.new.items ≡ out.old.items ++ number_text line action) }
 {
-    put_between(out, b"<text class='n' x='-980' y='", line, b"75'>")?;
+    put_between(out, b"<text class='n' x='-680' y='", line, b"75'>")?;
     put_between(out, b"", action, b"</text>\n")
 }
 
@@ -370,18 +370,46 @@ fn put_rows(out: &mut Vec<u8>, lanes: &[Lane], rows: &[Row]) -> Result<(), Alloc
     Ok(())
 }
 
-/// How many columns there are: one left of the lanes, and three right of them for the labels.
-fn columns(lanes: &[Lane]) -> u64
-    ensures { result ≡ columns_of lanes.now }
+/// How many bytes the longest label has.
+fn longest(rows: &[Row]) -> usize
+    ensures { result ≡ longest_of rows.now }
 {
-    (lanes.len() as u64).saturating_add(4)
+    let mut longest: usize = 0;
+    for row in rows {
+        let length = row.label.as_slice().len();
+        if longest < length {
+            longest = length;
+        }
+    }
+    longest
+}
+
+/// How many columns labels take, of which the longest has so many bytes.
+fn label_columns(longest: usize) -> u64
+    ensures { result ≡ columns_of_labels longest }
+{
+    if longest > 49 {
+        3
+    } else if longest > 27 {
+        2
+    } else {
+        1
+    }
+}
+
+/// How many columns there are: one for each lane, and those of the labels.
+fn columns(lanes: &[Lane], rows: &[Row]) -> u64
+    ensures { result ≡ columns_of lanes.now rows.now }
+{
+    let columns = (lanes.len() as u64).saturating_add(label_columns(longest(rows)));
+    if columns > 3 { columns } else { 3 }
 }
 
 #[tactic(auto, unfolding(crate::specs::Svg::view_text))]
 fn put_view(out: &mut Vec<u8>, columns: u64, lines: u64) -> Result<(), AllocError>
     ensures { OnOk result (out.new.items ≡ out.old.items ++ view_text columns lines) }
 {
-    put_between(out, b"", columns, b"000 ")?;
+    put_between(out, b"", columns, b"700 ")?;
     put_between(out, b"", lines, b"99'")
 }
 
@@ -389,7 +417,7 @@ fn put_view(out: &mut Vec<u8>, columns: u64, lines: u64) -> Result<(), AllocErro
 fn put_size(out: &mut Vec<u8>, columns: u64, lines: u64) -> Result<(), AllocError>
     ensures { OnOk result (out.new.items ≡ out.old.items ++ size_text columns lines) }
 {
-    put_between(out, b" width='", columns, b"0pc' height='")?;
+    put_between(out, b" width='", columns, b"7pc' height='")?;
     put_between(out, b"", lines, b".99pc'>\n")
 }
 
@@ -407,7 +435,7 @@ fn put_frame(out: &mut Vec<u8>, columns: u64, lines: u64) -> Result<(), AllocErr
 fn put_legend(out: &mut Vec<u8>, line: u64) -> Result<(), AllocError>
     ensures { OnOk result (out.new.items ≡ out.old.items ++ legend_text line) }
 {
-    put_between(out, b"<g transform='translate(-980 ", line, b"50)'>")?;
+    put_between(out, b"<g transform='translate(-680 ", line, b"50)'>")?;
     out.extend_from_slice(LEGEND)
 }
 
@@ -457,7 +485,7 @@ pub fn svg_text(alloc: Global, picture: &Picture) -> Result<Vec<u8>, AllocError>
     let lanes = picture.lanes.as_slice();
     let rows = picture.rows.as_slice();
     let below = line(rows.len() as u64);
-    put_frame(&mut out, columns(lanes), below)?;
+    put_frame(&mut out, columns(lanes, rows), below)?;
     put_back(alloc, &mut out, lanes, rows)?;
     put_front(&mut out, lanes, rows, picture.lost.as_slice())?;
     put_legend(&mut out, below)?;

@@ -6,7 +6,10 @@
 //! each run begins without them.
 #![tactic(auto)]
 
+mod lives;
+
 use anyhow::{Context, Result, bail};
+use lives::over_a_file;
 use serf_agent::{
     Agent, BytesList, Config, DEFAULT_SNAPSHOT_LIMIT, EventOut, OpenQuery, Outcome, QueryParams,
     answer_in, is_ack,
@@ -260,6 +263,7 @@ fn live<R: Files<File = File> + Print + AllocGlobal>(
 }
 
 fn main(rt: HostRuntime) -> Result<()> {
+    over_a_file();
     begin(&rt)?;
     let mut alpha = open(&rt, "alpha", "alpha.snapshot")?;
     live(&rt, &mut alpha)

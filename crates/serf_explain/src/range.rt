@@ -3,7 +3,7 @@
 ghost use Rattle.std.specs.Prelude.{◌≡◌};
 
 /// Which actions are explained: those of one agent, or of all, from one number to another. Actions count from 1.
-#[derive(Clone, Copy, Debug, PartialEq, Eq)]
+#[derive(Clone, Copy, PartialEq, Eq)]
 pub struct Range {
     /// The agent whose actions are explained; those of all agents, and injections, where it is `None`.
     pub agent: Option<u64>,

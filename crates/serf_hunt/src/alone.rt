@@ -183,7 +183,7 @@ fn lone_roster(alloc: Global, config: &Config) -> Result<Roster, ConformFault>
 }
 
 /// The schedule of an agent's calls alone: the packets that they give are injected first, and then the calls are made
-/// of agent 0. `NoAgent` where the settings are out of bounds, or keep events.
+/// of agent 0. `NoAgent` where the settings are out of bounds.
 ///
 /// A response stays as it stands: it names a query by its number among those that are handed out in this schedule, and is
 /// refused there where it names none.

@@ -8,7 +8,7 @@ use serf_wire::Bytes;
 use std::alloc::{AllocError, Global};
 
 /// A call of an agent. What it gives are bytes, so that it means the same whatever came before.
-#[derive(Debug, Drop)]
+#[derive(Drop)]
 pub struct Call {
     pub act: Act,
     /// The packet of a delivery or a merge; empty in every other call.

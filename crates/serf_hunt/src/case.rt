@@ -11,7 +11,7 @@ use serf_world::run;
 use std::alloc::{AllocError, Global};
 
 /// A schedule and the trace of its run.
-#[derive(Debug, Drop)]
+#[derive(Drop)]
 pub struct Case {
     pub configs: Vec<Config>,
     pub actions: Vec<Action>,

@@ -6,7 +6,7 @@ ghost use Rattle.serf_hunt.specs.Sweep.{ends_unsupported as ends_unsupported_of,
 use serf_conform::{End, Verdict};
 
 /// Sums over agents; each stops at 2^64 - 1.
-#[derive(Clone, Copy, Debug, PartialEq, Eq)]
+#[derive(Clone, Copy, PartialEq, Eq)]
 pub struct Counts {
     /// How many agents were held.
     pub agents: u64,

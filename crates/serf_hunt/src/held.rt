@@ -16,7 +16,7 @@ use std::alloc::Global;
 use std::io::{Read, Write};
 
 /// An agent that does otherwise than the reference.
-#[derive(Debug, Drop)]
+#[derive(Drop)]
 pub struct Other {
     /// The agent's number.
     pub agent: u64,
@@ -25,7 +25,7 @@ pub struct Other {
 }
 
 /// What is thought of the agents of a schedule.
-#[derive(Debug, Drop)]
+#[derive(Drop)]
 pub struct Held {
     pub counts: Counts,
     /// The first agent that does otherwise.

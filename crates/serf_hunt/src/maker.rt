@@ -7,7 +7,7 @@ ghost use Rattle.serf_random.specs.Comment.{comment_text};
 ghost use Rattle.serf_schedule.specs.ScheduleText.{schedule_text};
 
 use serf_random::{Ask, random_schedule};
-use serf_schedule::Schedule;
+use serf_schedule::{Schedule, Unwatched};
 use std::alloc::{AllocError, Global};
 
 /// Makes the schedule of a seed. `makes` says of which seed a schedule may be.
@@ -24,7 +24,7 @@ pub trait Maker {
 }
 
 /// Makes random schedules, of the seed that is asked for in the place of its own.
-#[derive(Clone, Copy, Debug)]
+#[derive(Clone, Copy)]
 pub struct RandomSchedules(pub Ask);
 
 impl Maker for RandomSchedules {
@@ -35,7 +35,7 @@ impl Maker for RandomSchedules {
     fn make(&self, alloc: Global, seed: u64) -> Result<Schedule, AllocError> {
         let RandomSchedules(asked) = *self;
         let ask = Ask { seed, ..asked };
-        let made = random_schedule(alloc, &ask)?;
+        let made = random_schedule(alloc, &ask, &mut Unwatched)?;
         Ok(made.schedule)
     }
 }

@@ -10,7 +10,7 @@ use serf_text::put_number;
 use std::alloc::AllocError;
 
 /// Where an agent did otherwise than the reference.
-#[derive(Clone, Copy, Debug)]
+#[derive(Clone, Copy)]
 pub struct Disagreement<'a> {
     /// The seed of the schedule; `None` where it came from a file.
     pub seed: Option<u64>,
@@ -35,7 +35,7 @@ pub struct Disagreement<'a> {
 }
 
 /// What came of all agents together.
-#[derive(Clone, Copy, Debug)]
+#[derive(Clone, Copy)]
 pub struct Sums {
     /// How many seeds, or 1 for the schedule of a file, were held to their end.
     pub schedules: u64,

@@ -16,7 +16,7 @@ use std::io::{Read, Write};
 use thiserror::Error;
 
 /// The first agent that does otherwise.
-#[derive(Debug, Drop)]
+#[derive(Drop)]
 pub struct Found {
     /// The seed of its schedule.
     pub seed: u64,
@@ -24,7 +24,7 @@ pub struct Found {
 }
 
 /// What came of a hunt.
-#[derive(Debug, Drop)]
+#[derive(Drop)]
 pub struct Hunted {
     pub counts: Counts,
     /// `None` where all agents of all seeds agree.

@@ -14,7 +14,7 @@ use std::alloc::Global;
 use std::io::{Read, Write};
 
 /// What is left of the calls at which an agent fails.
-#[derive(Debug, Drop)]
+#[derive(Drop)]
 pub struct Shrunk {
     pub calls: Vec<Call>,
     /// Whether no single call can be left out. Otherwise the agent ended at a trial: that is tested, and not proved.
@@ -68,7 +68,7 @@ fn settle<R: Read, W: Write, H: Watch>(
 ///
 /// `None` where the calls themselves don't fail: they are tried first. What is left failed when it was last tried; what
 /// was tried after that did not. Where the agent ends at a trial, no other is made, and what is left by then is given.
-/// `NoAgent` where the settings are out of bounds, or keep events; after any fault the agent may have got a part of a call.
+/// `NoAgent` where the settings are out of bounds; after any fault the agent may have got a part of a call.
 ///
 /// `watch` is told now and then how many calls are left out, and of how many: that is tested, and not proved.
 pub fn shrink<R: Read, W: Write, H: Watch>(

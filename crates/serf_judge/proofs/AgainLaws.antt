@@ -1,13 +1,14 @@
 -- What stands again, and what first, where one more comes behind, and what a view of the items says.
 use Rattle.std.proofs.Common.{◌≡◌, ◌∙◌, ◌++◌, ◌∷◌, ◌||◌, [], Bool, true, false, cond, not, List, map, refl, sym, ap, append_assoc}
 use Rattle.std.specs.List.{list_any}
-use Rattle.std.specs.Cmp.{IsEquivalence}
 use Rattle.std.proofs.lemmas.List.{append-nil, map-append}
 use Rattle.std.proofs.lemmas.List.Folds.{list_any-append}
 use Rattle.serf_judge.specs.Again.{again_behind, firsts_of, new_behind, repeats_of}
-use Rattle.serf_judge.specs.Seen.{AreFirsts, AreRepeats}
-use Rattle.serf_judge.specs.declared.again.Keyed.{Keyed}
-use Rattle.serf_judge.specs.declared.tally.Handed.{Handed}
+use Rattle.serf_judge.specs.Identity.{key_eq, key_identity}
+use Rattle.serf_judge.specs.Seen.{AreFirsts, AreRepeats, is_again}
+use Rattle.serf_judge.specs.declared.key.Handed.{Handed}
+use Rattle.serf_judge.specs.declared.key.Key.{Key}
+use Rattle.serf_judge.proofs.KeyLaws.{same-turned}
 
 again-push : {X : Type 0} (eq : X → X → Bool) (before xs : List X) (x : X) → again_behind eq before (xs ++ x ∷ []) ≡ again_behind eq before xs ++ cond (list_any (eq x) (before ++ xs)) (x ∷ []) []
 again-push eq before [] x = simp append-nil
@@ -24,59 +25,55 @@ or-cond false true = refl
 or-cond false false = refl
 
 -- one more key is noted
-noted-more : {K X : Type 0} (eq : K → K → Bool) (laws : IsEquivalence eq) (key : X → K) (xs : List X) (x : X) (q : K)
+noted-more : {K X : Type 0} (eq : K → K → Bool) (turn : (x y : K) → eq x y ≡ eq y x) (key : X → K) (xs : List X) (x : X) (q : K)
     → list_any (λ y. eq q (key y)) (xs ++ x ∷ []) ≡ cond (eq (key x) q) true (list_any (λ y. eq q (key y)) xs)
-noted-more eq laws key xs x q =
+noted-more eq turn key xs x q =
     list_any-append (λ y. eq q (key y)) xs (x ∷ [])
     ∙ or-cond (list_any (λ y. eq q (key y)) xs) (eq q (key x))
-    ∙ ap (λ b. cond b true (list_any (λ y. eq q (key y)) xs)) (laws.symm q (key x))
+    ∙ ap (λ b. cond b true (list_any (λ y. eq q (key y)) xs)) (turn q (key x))
 
 pub none-first : {K : Type 0} (eq : K → K → Bool) (noted : K → Bool) → ((q : K) → noted q ≡ false) → AreFirsts eq [] [] noted
 none-first eq noted none = record { found_are = refl; noted_are = none }
 
-pub first-kept : {K : Type 0} (eq : K → K → Bool) (laws : IsEquivalence eq) (keys found : List K) (x : K) (old new : K → Bool)
+pub first-kept : {K : Type 0} (eq : K → K → Bool) (turn : (x y : K) → eq x y ≡ eq y x) (keys found : List K) (x : K) (old new : K → Bool)
     → AreFirsts eq keys found old → old x ≡ false → ((q : K) → new q ≡ cond (eq x q) true (old q)) → AreFirsts eq (keys ++ x ∷ []) (found ++ x ∷ []) new
-first-kept eq laws keys found x old new h is step = record {
+first-kept eq turn keys found x old new h is step = record {
   found_are = ap (λ f. f ++ x ∷ []) h.found_are ∙ sym (new-push eq [] keys x ∙ ap (λ b. firsts_of eq keys ++ cond b [] (x ∷ [])) (sym (h.noted_are x) ∙ is));
-  noted_are = λ q. step q ∙ ap (λ b. cond (eq x q) true b) (h.noted_are q) ∙ sym (noted-more eq laws (λ k. k) keys x q);
+  noted_are = λ q. step q ∙ ap (λ b. cond (eq x q) true b) (h.noted_are q) ∙ sym (noted-more eq turn (λ k. k) keys x q);
 }
 
-pub first-dropped : {K : Type 0} (eq : K → K → Bool) (laws : IsEquivalence eq) (keys found : List K) (x : K) (old new : K → Bool)
+pub first-dropped : {K : Type 0} (eq : K → K → Bool) (turn : (x y : K) → eq x y ≡ eq y x) (keys found : List K) (x : K) (old new : K → Bool)
     → AreFirsts eq keys found old → old x ≡ true → ((q : K) → new q ≡ cond (eq x q) true (old q)) → AreFirsts eq (keys ++ x ∷ []) found new
-first-dropped eq laws keys found x old new h is step = record {
+first-dropped eq turn keys found x old new h is step = record {
   found_are = h.found_are ∙ sym (new-push eq [] keys x ∙ ap (λ b. firsts_of eq keys ++ cond b [] (x ∷ [])) (sym (h.noted_are x) ∙ is) ∙ append-nil (firsts_of eq keys));
-  noted_are = λ q. step q ∙ ap (λ b. cond (eq x q) true b) (h.noted_are q) ∙ sym (noted-more eq laws (λ k. k) keys x q);
+  noted_are = λ q. step q ∙ ap (λ b. cond (eq x q) true b) (h.noted_are q) ∙ sym (noted-more eq turn (λ k. k) keys x q);
 }
 
-pub none-again : {K : Type 0} (eq : K → K → Bool) (noted : K → Bool) → ((q : K) → noted q ≡ false) → AreRepeats eq [] [] noted
-none-again eq noted none = record { found_are = refl; noted_are = none }
+pub none-again : (noted : Key → Bool) → ((q : Key) → noted q ≡ false) → AreRepeats [] [] noted
+none-again noted none = record { found_are = refl; noted_are = none }
 
-abbrev pub is_same_key : {K : Type 0} → (K → K → Bool) → Keyed K → Keyed K → Bool
-is_same_key eq x y = eq x.key y.key
+again-kept : (lines : List Handed) (x : Handed) (b : Bool) → list_any (λ y. key_eq x.key y.key) lines ≡ b → repeats_of is_again (lines ++ x ∷ []) ≡ repeats_of is_again lines ++ cond b (x ∷ []) []
+again-kept lines x b is = again-push is_again [] lines x ∙ ap (λ c. repeats_of is_again lines ++ cond c (x ∷ []) []) is
 
-abbrev pub handed_by : {K : Type 0} → Keyed K → Handed
-handed_by l = l.handed
+turned : (x y : Key) → key_eq x y ≡ key_eq y x
+turned x y = same-turned (key_identity x) (key_identity y)
 
-again-kept : {K : Type 0} (eq : K → K → Bool) (lines : List (Keyed K)) (x : Keyed K) → list_any (λ y. eq x.key y.key) lines ≡ true
-    → repeats_of (is_same_key eq) (lines ++ x ∷ []) ≡ repeats_of (is_same_key eq) lines ++ x ∷ []
-again-kept eq lines x is = again-push (is_same_key eq) [] lines x ∙ ap (λ b. repeats_of (is_same_key eq) lines ++ cond b (x ∷ []) []) is
+noted-line : (lines : List Handed) (x : Handed) (old new : Key → Bool) → ((q : Key) → old q ≡ list_any (λ l. key_eq q l.key) lines) → ((q : Key) → new q ≡ cond (key_eq x.key q) true (old q))
+    → (q : Key) → new q ≡ list_any (λ l. key_eq q l.key) (lines ++ x ∷ [])
+noted-line lines x old new h step q = step q ∙ ap (λ b. cond (key_eq x.key q) true b) (h q) ∙ sym (noted-more key_eq turned (λ (l : Handed). l.key) lines x q)
 
-again-dropped : {K : Type 0} (eq : K → K → Bool) (lines : List (Keyed K)) (x : Keyed K) → list_any (λ y. eq x.key y.key) lines ≡ false
-    → repeats_of (is_same_key eq) (lines ++ x ∷ []) ≡ repeats_of (is_same_key eq) lines
-again-dropped eq lines x is = again-push (is_same_key eq) [] lines x ∙ ap (λ b. repeats_of (is_same_key eq) lines ++ cond b (x ∷ []) []) is ∙ append-nil (repeats_of (is_same_key eq) lines)
-
-pub repeat-kept : {K : Type 0} (eq : K → K → Bool) (laws : IsEquivalence eq) (lines : List (Keyed K)) (found : List Handed) (x : Keyed K) (old new : K → Bool)
-    → AreRepeats eq lines found old → old x.key ≡ true → ((q : K) → new q ≡ cond (eq x.key q) true (old q)) → AreRepeats eq (lines ++ x ∷ []) (found ++ x.handed ∷ []) new
-repeat-kept eq laws lines found x old new h is step = record {
-  found_are = ap (λ f. f ++ x.handed ∷ []) h.found_are ∙ sym (ap (map handed_by) (again-kept eq lines x (sym (h.noted_are x.key) ∙ is)) ∙ map-append handed_by (repeats_of (is_same_key eq) lines) (x ∷ []));
-  noted_are = λ q. step q ∙ ap (λ b. cond (eq x.key q) true b) (h.noted_are q) ∙ sym (noted-more eq laws (λ l. l.key) lines x q);
+pub repeat-kept : (lines found : List Handed) (x : Handed) (old new : Key → Bool)
+    → AreRepeats lines found old → old x.key ≡ true → ((q : Key) → new q ≡ cond (key_eq x.key q) true (old q)) → AreRepeats (lines ++ x ∷ []) (found ++ x ∷ []) new
+repeat-kept lines found x old new h is step = record {
+  found_are = ap (λ f. f ++ x ∷ []) h.found_are ∙ sym (again-kept lines x true (sym (h.noted_are x.key) ∙ is));
+  noted_are = noted-line lines x old new h.noted_are step;
 }
 
-pub repeat-dropped : {K : Type 0} (eq : K → K → Bool) (laws : IsEquivalence eq) (lines : List (Keyed K)) (found : List Handed) (x : Keyed K) (old new : K → Bool)
-    → AreRepeats eq lines found old → old x.key ≡ false → ((q : K) → new q ≡ cond (eq x.key q) true (old q)) → AreRepeats eq (lines ++ x ∷ []) found new
-repeat-dropped eq laws lines found x old new h is step = record {
-  found_are = h.found_are ∙ sym (ap (map handed_by) (again-dropped eq lines x (sym (h.noted_are x.key) ∙ is)));
-  noted_are = λ q. step q ∙ ap (λ b. cond (eq x.key q) true b) (h.noted_are q) ∙ sym (noted-more eq laws (λ l. l.key) lines x q);
+pub repeat-dropped : (lines found : List Handed) (x : Handed) (old new : Key → Bool)
+    → AreRepeats lines found old → old x.key ≡ false → ((q : Key) → new q ≡ cond (key_eq x.key q) true (old q)) → AreRepeats (lines ++ x ∷ []) found new
+repeat-dropped lines found x old new h is step = record {
+  found_are = h.found_are ∙ sym (again-kept lines x false (sym (h.noted_are x.key) ∙ is) ∙ append-nil (repeats_of is_again lines));
+  noted_are = noted-line lines x old new h.noted_are step;
 }
 
 -- A view of the items, by which they are compared.

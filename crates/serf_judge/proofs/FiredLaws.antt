@@ -1,185 +1,167 @@
--- The first line of each firing, noted one after another.
-use Rattle.std.proofs.Common.{◌≡◌, ◌⊎◌, ◌∙◌, ℕ, ◌+◌, ◌<◌, ◌≤◌, ◌&&◌, Bool, true, false, cond, List, Option, None, Some, refl, sym, ap, subst, inl, inr, length, arith, Decides, nat_eq, nat_lt}
-use Rattle.std.specs.Prelude.{MatchOption, slice_get}
-use Rattle.std.specs.Cmp.Lexicographic.{pointwise}
-use Rattle.std.proofs.lemmas.Bool.{and_from, and_parts, cases_lt, lt-ltb, ltb-true, true≢false}
-use Rattle.std.proofs.lemmas.Bool.Decides.{Decides-eqb}
-use Rattle.std.proofs.lemmas.Option.{slice_get_within}
-use Rattle.std.proofs.lemmas.Slice.Eq.{slice_eq-Decides}
+-- Where each event was fired, noted one after another.
+use Rattle.std.proofs.Common.{◌≡◌, ◌⊎◌, inl, inr, ◌∙◌, ℕ, ◌+◌, ◌<◌, ◌≤◌, ◌&&◌, ◌||◌, ◌++◌, ◌∷◌, [], Bool, true, false, cond, min, max, List, Option, None, Some, refl, sym, ap, subst, arith, Decides, nat_eq, nat_lt}
+use Rattle.std.specs.Prelude.{filter, slice_get}
+use Rattle.std.specs.List.{fold, list_any}
+use Rattle.std.specs.Str.{bytes_eq}
+use Rattle.std.proofs.lemmas.Bool.{and_from, and_parts, cases_lt, lt-ltb, ltb-false, ltb-true}
+use Rattle.std.proofs.lemmas.Bool.Decides.{Decides-eqb, same_from_decides}
+use Rattle.std.proofs.lemmas.List.{append-nil}
+use Rattle.std.proofs.lemmas.List.Elements.{filter-append}
+use Rattle.std.proofs.lemmas.List.Sums.{fold-append}
+use Rattle.std.proofs.lemmas.Slice.Eq.{bytes_eq-Decides}
 use Rattle.serf_judge.specs.declared.entry.EventEntry.{EventEntry}
 use Rattle.serf_judge.specs.declared.fired.ContentKey.{ContentKey}
-use Rattle.serf_judge.specs.Fired.{EventContent, IsFiredBefore, IsFirstLine, NoneFired, NotesLines, content_key_eq, content_of, key_content}
+use Rattle.serf_judge.specs.declared.fired.Firings.{Firings}
+use Rattle.serf_judge.specs.Fired.{EventContent, content_key_eq, content_of, counts, firings_of, is_same_content, key_content, log_at, one_firing, one_more, own_firings, was_fired}
 
-bytes : (xs ys : List ℕ) → Decides (pointwise nat_eq xs ys) (xs ≡ ys)
-bytes xs ys = slice_eq-Decides Decides-eqb xs ys (pointwise nat_eq xs ys) refl
+content-decides : (x y : EventContent) → Decides (is_same_content x y) (x ≡ y)
+content-decides x y =
+    let texts : Bool = bytes_eq x.name y.name && bytes_eq x.payload y.payload in (
+      λ e.
+          let a = and_parts (nat_eq x.time y.time) texts e in
+          let b = and_parts (bytes_eq x.name y.name) (bytes_eq x.payload y.payload) a.1 in
+          let time = (Decides-eqb x.time y.time).0 a.0 in
+          let name = (bytes_eq-Decides x.name y.name).0 b.0 in
+          let payload = (bytes_eq-Decides x.payload y.payload).0 b.1 in
+          λ k. record { time = time k; name = name k; payload = payload k },
+      λ e.
+          and_from (nat_eq x.time y.time) texts ((Decides-eqb x.time y.time).1 (ap (λ (i : EventContent). i.time) e))
+          (and_from (bytes_eq x.name y.name) (bytes_eq x.payload y.payload) ((bytes_eq-Decides x.name y.name).1 (ap (λ (i : EventContent). i.name) e))
+          ((bytes_eq-Decides x.payload y.payload).1 (ap (λ (i : EventContent). i.payload) e))),
+    )
 
-pub content-key-decides : (x y : ContentKey) → Decides (content_key_eq x y) (key_content x ≡ key_content y)
-content-key-decides x y = (
-  λ e.
-      let b = and_parts (nat_eq x.time y.time) (pointwise nat_eq x.name.now y.name.now && pointwise nat_eq x.payload.now y.payload.now) e in
-      let d = and_parts (pointwise nat_eq x.name.now y.name.now) (pointwise nat_eq x.payload.now y.payload.now) b.1 in
-      let time = (Decides-eqb x.time y.time).0 b.0 in
-      let name = (bytes x.name.now y.name.now).0 d.0 in
-      let payload = (bytes x.payload.now y.payload.now).0 d.1 in
-      λ k. record { time = time k; name = name k; payload = payload k },
-  λ same.
-      and_from (nat_eq x.time y.time) (pointwise nat_eq x.name.now y.name.now && pointwise nat_eq x.payload.now y.payload.now)
-      ((Decides-eqb x.time y.time).1 (ap (λ (i : EventContent). i.time) same))
-      (and_from (pointwise nat_eq x.name.now y.name.now) (pointwise nat_eq x.payload.now y.payload.now)
-      ((bytes x.name.now y.name.now).1 (ap (λ (i : EventContent). i.name) same))
-      ((bytes x.payload.now y.payload.now).1 (ap (λ (i : EventContent). i.payload) same))),
-)
+content-turned : (x y : EventContent) → is_same_content x y ≡ is_same_content y x
+content-turned x y =
+    same_from_decides (is_same_content x y) (is_same_content y x) (content-decides x y) (λ e. sym ((content-decides y x).0 e), λ p. (content-decides y x).1 (sym p))
 
-pub no-lines : (fired : List EventEntry) (noted : ContentKey → Option ℕ) → ((q : ContentKey) → noted q ≡ None) → NotesLines fired 0 noted
-no-lines fired noted none q = rw (none q) (λ i f lt at same. absurd (omega arith))
+-- the firings of an event
+abbrev own : EventContent → List EventEntry → List EventEntry
+own x fired = filter (λ f. is_same_content x (content_of f)) fired
 
-one-entry : (x y : EventEntry) → Some x ≡ Some y → x ≡ y
-one-entry x y e = cc
-
--- the firing at the next place is that one, or an earlier one
-at-next : (fired : List EventEntry) (n i : ℕ) (entry f : EventEntry) → slice_get fired n ≡ Some entry → i < n + 1 → slice_get fired i ≡ Some f → (i < n) ⊎ (entry ≡ f)
-at-next fired n i entry f at lt is = by (cases_lt i n)
+-- a firing is noted
+pub firing-noted : (starts : List ℕ) (fired : List EventEntry) (f : EventEntry) (key : ContentKey) (v : Firings) (old new : ContentKey → Option Firings)
+    → key_content key ≡ content_of f → firings_of starts (own_firings key fired ++ f ∷ []) ≡ Some v
+    → ((q : ContentKey) → old q ≡ firings_of starts (own_firings q fired)) → ((q : ContentKey) → new q ≡ cond (content_key_eq key q) (Some v) (old q))
+    → (q : ContentKey) → new q ≡ firings_of starts (own_firings q (fired ++ f ∷ []))
+firing-noted starts fired f key v old new same is h step q = step q ∙ by (content_key_eq key q) refl
   where
-    by : (i < n) ⊎ (n ≤ i) → (i < n) ⊎ (entry ≡ f)
-    by (inl h) = inl h
-    by (inr h) = let here : i ≡ n = omega arith in inr (one-entry entry f (sym at ∙ ap (slice_get fired) (sym here) ∙ is))
+    x : EventContent
+    x = key_content q
 
--- the next firing is the first of its event, or has an earlier line than those before
-pub line-here : (fired : List EventEntry) (n : ℕ) (entry : EventEntry) (x : EventContent) (old : Option ℕ) → slice_get fired n ≡ Some entry → content_of entry ≡ x
-    → MatchOption old (NoneFired fired n x) (λ line. IsFirstLine fired n x line) → MatchOption old (Unit {0}) (λ line. entry.line < line)
-    → IsFirstLine fired (n + 1) x entry.line
-line-here fired n entry x None at same h lower = record {
-  place = n;
-  firing = entry;
-  below = omega arith;
-  at = at;
-  same = same;
-  line_is = refl;
-  least = λ i f lt is content. by i f is content (at-next fired n i entry f at lt is);
-}
-  where
-    by : (i : ℕ) (f : EventEntry) → slice_get fired i ≡ Some f → content_of f ≡ x → (i < n) ⊎ (entry ≡ f) → entry.line ≤ f.line
-    by i f is content (inl lt) = absurd (h i f lt is content)
-    by i f is content (inr e) = let same_line = ap (λ (y : EventEntry). y.line) e in omega arith
-line-here fired n entry x (Some line) at same h lower = record {
-  place = n;
-  firing = entry;
-  below = omega arith;
-  at = at;
-  same = same;
-  line_is = refl;
-  least = λ i f lt is content. by i f is content (at-next fired n i entry f at lt is);
-}
-  where
-    by : (i : ℕ) (f : EventEntry) → slice_get fired i ≡ Some f → content_of f ≡ x → (i < n) ⊎ (entry ≡ f) → entry.line ≤ f.line
-    by i f is content (inl lt) = let later = h.least i f lt is content in omega arith
-    by i f is content (inr e) = let same_line = ap (λ (y : EventEntry). y.line) e in omega arith
+    more : own x (fired ++ f ∷ []) ≡ own x fired ++ cond (is_same_content x (content_of f)) (f ∷ []) []
+    more = filter-append (λ (g : EventEntry). is_same_content x (content_of g)) fired (f ∷ [])
 
--- the next firing is of another event, or has no earlier line
-pub line-kept : (fired : List EventEntry) (n : ℕ) (entry : EventEntry) (x : EventContent) (old : Option ℕ) → slice_get fired n ≡ Some entry
-    → MatchOption old (NoneFired fired n x) (λ line. IsFirstLine fired n x line)
-    → MatchOption old (content_of entry ≡ x → ⊥) (λ line. content_of entry ≡ x → line ≤ entry.line)
-    → MatchOption old (NoneFired fired (n + 1) x) (λ line. IsFirstLine fired (n + 1) x line)
-line-kept fired n entry x None at h other = λ i f lt is content. by i f is content (at-next fired n i entry f at lt is)
-  where
-    by : (i : ℕ) (f : EventEntry) → slice_get fired i ≡ Some f → content_of f ≡ x → (i < n) ⊎ (entry ≡ f) → ⊥
-    by i f is content (inl lt) = h i f lt is content
-    by i f is content (inr e) = other (ap content_of e ∙ content)
-line-kept fired n entry x (Some line) at h other =
-    let below = h.below in record {
-      place = h.place;
-      firing = h.firing;
-      below = omega arith;
-      at = h.at;
-      same = h.same;
-      line_is = h.line_is;
-      least = λ i f lt is content. by i f is content (at-next fired n i entry f at lt is);
-    }
-  where
-    by : (i : ℕ) (f : EventEntry) → slice_get fired i ≡ Some f → content_of f ≡ x → (i < n) ⊎ (entry ≡ f) → line ≤ f.line
-    by i f is content (inl lt) = h.least i f lt is content
-    by i f is content (inr e) = let le = other (ap content_of e ∙ content) in let same_line = ap (λ (y : EventEntry). y.line) e in omega arith
+    turned : is_same_content x (content_of f) ≡ content_key_eq key q
+    turned = content-turned x (content_of f) ∙ ap (λ c. is_same_content c x) (sym same)
 
-never : (old : Option ℕ) (C : Type 0) (L : ℕ → Type 0) → (C → ⊥) → MatchOption old (C → ⊥) (λ line. C → L line)
-never None C L other = other
-never (Some line) C L other = λ c. absurd (other c)
-
--- the line of the next firing was noted
-pub noted-here : (fired : List EventEntry) (n : ℕ) (entry : EventEntry) (key : ContentKey) (noted new : ContentKey → Option ℕ)
-    → NotesLines fired n noted → slice_get fired n ≡ Some entry → key_content key ≡ content_of entry
-    → MatchOption (noted key) (Unit {0}) (λ line. entry.line < line)
-    → ((q : ContentKey) → new q ≡ cond (content_key_eq key q) (Some entry.line) (noted q)) → NotesLines fired (n + 1) new
-noted-here fired n entry key noted new h at is lower step q = rw (step q) (by (content_key_eq key q) refl)
-  where
-    by : (b : Bool) → content_key_eq key q ≡ b → MatchOption (cond b (Some entry.line) (noted q)) (NoneFired fired (n + 1) (key_content q)) (λ line. IsFirstLine fired (n + 1) (key_content q) line)
+    by : (b : Bool) → content_key_eq key q ≡ b → cond b (Some v) (old q) ≡ firings_of starts (own x (fired ++ f ∷ []))
     by true e =
-        let same : key_content key ≡ key_content q = (content-key-decides key q).0 e in
-        subst (λ (x : EventContent). IsFirstLine fired (n + 1) x entry.line) same (line-here fired n entry (key_content key) (noted key) at (sym is) (h key) lower)
-    by false e =
-        line-kept fired n entry (key_content q) (noted q) at (h q)
-        (never (noted q) (content_of entry ≡ key_content q) (λ line. line ≤ entry.line) (λ same. true≢false (sym ((content-key-decides key q).1 (is ∙ same)) ∙ e)))
+        let there : key_content key ≡ x = (content-decides (key_content key) x).0 e in
+        sym is ∙ ap (λ c. firings_of starts (own c fired ++ f ∷ [])) there ∙ ap (firings_of starts) (sym (more ∙ ap (λ b. own x fired ++ cond b (f ∷ []) []) (turned ∙ e)))
+    by false e = h q ∙ ap (firings_of starts) (sym (more ∙ ap (λ b. own x fired ++ cond b (f ∷ []) []) (turned ∙ e) ∙ append-nil (own x fired)))
 
-kept-other : (fired : List EventEntry) (n line : ℕ) (entry : EventEntry) (x y : EventContent) (old : Option ℕ) → IsFirstLine fired n y line → line ≤ entry.line → y ≡ content_of entry
-    → MatchOption old (NoneFired fired n x) (λ l. IsFirstLine fired n x l) → MatchOption old (content_of entry ≡ x → ⊥) (λ l. content_of entry ≡ x → l ≤ entry.line)
-kept-other fired n line entry x y None first le is h = λ same. h first.place first.firing first.below first.at (first.same ∙ is ∙ same)
-kept-other fired n line entry x y (Some l) first le is h = λ same.
-    let least = h.least first.place first.firing first.below first.at (first.same ∙ is ∙ same) in
-    let line_is = first.line_is in
-    omega arith
+-- what one more firing makes of what is noted
+pub first-noted : (starts : List ℕ) (own : List EventEntry) (f : EventEntry) → firings_of starts own ≡ None → firings_of starts (own ++ f ∷ []) ≡ Some (one_firing starts f)
+first-noted starts [] f none = refl
+first-noted starts (g ∷ gs) f none = absurd (cc none)
 
--- an earlier line of its event is noted
-pub noted-before : (fired : List EventEntry) (n line : ℕ) (entry : EventEntry) (key : ContentKey) (noted : ContentKey → Option ℕ)
-    → NotesLines fired n noted → slice_get fired n ≡ Some entry → key_content key ≡ content_of entry → noted key ≡ Some line → line ≤ entry.line → NotesLines fired (n + 1) noted
-noted-before fired n line entry key noted h at is old le q =
-    let first : IsFirstLine fired n (key_content key) line = rw old at (h key) in
-    line-kept fired n entry (key_content q) (noted q) at (h q) (kept-other fired n line entry (key_content q) (key_content key) (noted q) first le is (h q))
-
--- what the notes say of an event that was handed out
-pub fired-before : (fired : List EventEntry) (line : ℕ) (entry : EventEntry) (key : ContentKey) (noted : ContentKey → Option ℕ)
-    → NotesLines fired (length fired) noted → key_content key ≡ content_of entry → noted key ≡ Some line → line < entry.line → IsFiredBefore fired entry
-fired-before fired line entry key noted h is found lt =
-    let first : IsFirstLine fired (length fired) (key_content key) line = rw found at (h key) in
-    let line_is = first.line_is in
-    record { place = first.place; firing = first.firing; at = first.at; before = omega arith; same = first.same ∙ is }
-
-pub not-fired-before : (fired : List EventEntry) (line : ℕ) (entry : EventEntry) (key : ContentKey) (noted : ContentKey → Option ℕ)
-    → NotesLines fired (length fired) noted → key_content key ≡ content_of entry → noted key ≡ Some line → entry.line ≤ line → IsFiredBefore fired entry → ⊥
-not-fired-before fired line entry key noted h is found le b =
-    let first : IsFirstLine fired (length fired) (key_content key) line = rw found at (h key) in
-    let least = first.least b.place b.firing (slice_get_within fired b.place b.firing b.at) b.at (b.same ∙ sym is) in
-    let before = b.before in
-    absurd (omega arith)
-
-pub never-fired : (fired : List EventEntry) (entry : EventEntry) (key : ContentKey) (noted : ContentKey → Option ℕ)
-    → NotesLines fired (length fired) noted → key_content key ≡ content_of entry → noted key ≡ None → IsFiredBefore fired entry → ⊥
-never-fired fired entry key noted h is none b =
-    let nowhere : NoneFired fired (length fired) (key_content key) = rw none at (h key) in
-    nowhere b.place b.firing (slice_get_within fired b.place b.firing b.at) b.at (b.same ∙ sym is)
-
--- what a test of the noted line says
-pub lower-from-first : (old : Option ℕ) (line : ℕ) (r : Bool) → MatchOption old (r ≡ true) (λ noted. r ≡ nat_lt line noted) → r ≡ true → MatchOption old (Unit {0}) (λ noted. line < noted)
-lower-from-first None line r h is = tt
-lower-from-first (Some noted) line r h is = ltb-true line noted (sym h ∙ is)
-
-pub record IsNoted (old : Option ℕ) (line : ℕ) : Type 0 where
-  pub noted : ℕ
-  pub is : old ≡ Some noted
-  pub le : noted ≤ line
-
-pub noted-from-later : (old : Option ℕ) (line : ℕ) (r : Bool) → MatchOption old (r ≡ true) (λ noted. r ≡ nat_lt line noted) → r ≡ false → IsNoted old line
-noted-from-later None line r h is = absurd (true≢false (sym h ∙ is))
-noted-from-later (Some noted) line r h is = record { noted = noted; is = refl; le = by (cases_lt line noted) }
+pub more-noted : (starts : List ℕ) (own : List EventEntry) (f : EventEntry) (noted : Firings) → firings_of starts own ≡ Some noted → firings_of starts (own ++ f ∷ []) ≡ Some (one_more starts noted f)
+more-noted starts [] f noted some = absurd (cc some)
+more-noted starts (g ∷ gs) f noted some = ap (λ n. Some n) (fold-append (one_more starts) (one_firing starts g) gs (f ∷ []) ∙ ap (λ n. one_more starts n f) (one (fold (one_more starts) (one_firing starts g) gs) noted some))
   where
-    by : (line < noted) ⊎ (noted ≤ line) → noted ≤ line
-    by (inr le) = le
-    by (inl lt) = absurd (true≢false (sym (lt-ltb line noted lt) ∙ sym h ∙ is))
+    one : (a b : Firings) → Some a ≡ Some b → a ≡ b
+    one a b e = cc e
 
--- the events up to the next place were fired
-pub below-or-here : (fired events : List EventEntry) (n : ℕ) (event : EventEntry) → slice_get events n ≡ Some event
-    → ((k : ℕ) (e : EventEntry) → k < n → slice_get events k ≡ Some e → IsFiredBefore fired e) → IsFiredBefore fired event
-    → (k : ℕ) (e : EventEntry) → k < n + 1 → slice_get events k ≡ Some e → IsFiredBefore fired e
-below-or-here fired events n event at below here k e lt is = by (at-next events n k event e at lt is)
+-- ---- what is noted says whether an event was fired
+
+not-below : (a b : ℕ) → (a < b → ⊥) → nat_lt a b ≡ false
+not-below a b h = by (nat_lt a b) refl
   where
-    by : (k < n) ⊎ (event ≡ e) → IsFiredBefore fired e
-    by (inl h) = below k e h is
-    by (inr h) = subst (IsFiredBefore fired) h here
+    by : (t : Bool) → nat_lt a b ≡ t → nat_lt a b ≡ false
+    by true e = absurd (h (ltb-true a b e))
+    by false e = e
+
+min-below : (a b n : ℕ) → nat_lt (min a b) n ≡ (nat_lt a n || nat_lt b n)
+min-below a b n = by (nat_lt a n) (nat_lt b n) refl refl
+  where
+    by : (p q : Bool) → nat_lt a n ≡ p → nat_lt b n ≡ q → nat_lt (min a b) n ≡ (p || q)
+    by true q e f = let lt : a < n = ltb-true a n e in lt-ltb (min a b) n (omega arith)
+    by false true e f = let lt : b < n = ltb-true b n f in lt-ltb (min a b) n (omega arith)
+    by false false e f = let first = ltb-false a n e in let second = ltb-false b n f in not-below (min a b) n (λ lt. omega arith)
+
+max-above : (a b n : ℕ) → nat_lt n (max a b) ≡ (nat_lt n a || nat_lt n b)
+max-above a b n = by (nat_lt n a) (nat_lt n b) refl refl
+  where
+    by : (p q : Bool) → nat_lt n a ≡ p → nat_lt n b ≡ q → nat_lt n (max a b) ≡ (p || q)
+    by true q e f = let lt : n < a = ltb-true n a e in lt-ltb n (max a b) (omega arith)
+    by false true e f = let lt : n < b = ltb-true n b f in lt-ltb n (max a b) (omega arith)
+    by false false e f = let first = ltb-false n a e in let second = ltb-false n b f in not-below n (max a b) (λ lt. omega arith)
+
+shuffle : (p q r s t : Bool) → (((p || q) || (r || s)) || t) ≡ ((p || r) || ((q || s) || t))
+shuffle true q r s t = refl
+shuffle false true true s t = refl
+shuffle false true false s t = refl
+shuffle false false true s t = refl
+shuffle false false false s t = refl
+
+counts-all : (starts : List ℕ) (line log : ℕ) (noted : Firings) (fs : List EventEntry)
+    → counts line log (fold (one_more starts) noted fs) ≡ (counts line log noted || list_any (λ f. counts line log (one_firing starts f)) fs)
+counts-all starts line log noted [] = by (counts line log noted)
+  where
+    by : (b : Bool) → b ≡ (b || false)
+    by true = refl
+    by false = refl
+counts-all starts line log noted (f ∷ fs) =
+    let rest : Bool = list_any (λ f. counts line log (one_firing starts f)) fs in
+    counts-all starts line log (one_more starts noted f) fs
+    ∙ (λ k. (min-below noted.first_line f.line line k || max-above noted.last_log (log_at starts f.line) log k) || rest)
+    ∙ shuffle (nat_lt noted.first_line line) (nat_lt f.line line) (nat_lt log noted.last_log) (nat_lt log (log_at starts f.line)) rest
+
+any-own : (x : EventContent) (p : EventEntry → Bool) (fired : List EventEntry) → list_any p (own x fired) ≡ list_any (λ f. is_same_content x (content_of f) && p f) fired
+any-own x p [] = refl
+any-own x p (f ∷ fs) = by (is_same_content x (content_of f)) (any-own x p fs)
+  where
+    rest : Bool
+    rest = list_any (λ g. is_same_content x (content_of g) && p g) fs
+
+    by : (b : Bool) → list_any p (own x fs) ≡ rest → list_any p (cond b (f ∷ own x fs) (own x fs)) ≡ ((b && p f) || rest)
+    by true e = ap (λ t. p f || t) e
+    by false e = e
+
+pub noted-says : (starts : List ℕ) (fired : List EventEntry) (e : EventEntry) (key : ContentKey) (noted : Firings) → key_content key ≡ content_of e
+    → firings_of starts (own_firings key fired) ≡ Some noted → counts e.line (log_at starts e.line) noted ≡ was_fired starts fired e
+noted-says starts fired e key noted same is =
+    by (own (key_content key) fired) is ∙ ap (λ c. list_any p (own c fired)) same ∙ any-own (content_of e) p fired
+  where
+    p : EventEntry → Bool
+    p f = counts e.line (log_at starts e.line) (one_firing starts f)
+
+    by : (fs : List EventEntry) → firings_of starts fs ≡ Some noted → counts e.line (log_at starts e.line) noted ≡ list_any p fs
+    by [] some = absurd (cc some)
+    by (g ∷ gs) some = ap (counts e.line (log_at starts e.line)) (one (fold (one_more starts) (one_firing starts g) gs) noted some) ∙ counts-all starts e.line (log_at starts e.line) (one_firing starts g) gs
+      where
+        one : (a b : Firings) → Some a ≡ Some b → b ≡ a
+        one a b e = cc e
+
+pub none-says : (starts : List ℕ) (fired : List EventEntry) (e : EventEntry) (key : ContentKey) → key_content key ≡ content_of e → firings_of starts (own_firings key fired) ≡ None → false ≡ was_fired starts fired e
+none-says starts fired e key same is =
+    by (own (key_content key) fired) is ∙ ap (λ c. list_any p (own c fired)) same ∙ any-own (content_of e) p fired
+  where
+    p : EventEntry → Bool
+    p f = counts e.line (log_at starts e.line) (one_firing starts f)
+
+    by : (fs : List EventEntry) → firings_of starts fs ≡ None → false ≡ list_any p fs
+    by [] none = refl
+    by (g ∷ gs) none = absurd (cc none)
+
+-- the events up to the next one were fired
+pub below-or-here : (P : EventEntry → Type 0) (events : List EventEntry) (n : ℕ) (event : EventEntry) → slice_get events n ≡ Some event
+    → ((k : ℕ) (e : EventEntry) → k < n → slice_get events k ≡ Some e → P e) → P event → (k : ℕ) (e : EventEntry) → k < n + 1 → slice_get events k ≡ Some e → P e
+below-or-here P events n event at h here k e lt is = by (cases_lt k n)
+  where
+    one : Some event ≡ Some e → event ≡ e
+    one s = cc s
+
+    by : (k < n) ⊎ (n ≤ k) → P e
+    by (inl before) = h k e before is
+    by (inr le) = let same : k ≡ n = omega arith in subst P (one (sym at ∙ ap (slice_get events) (sym same) ∙ is)) here

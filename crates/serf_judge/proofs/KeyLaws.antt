@@ -1,42 +1,13 @@
 -- Equal keys are those of one event, or of one query, at one node.
-use Rattle.std.proofs.Common.{◌≡◌, ℕ, ◌&&◌, Bool, true≢false, List, Option, None, Some, refl, sym, ap, unwrap_or, Decides, nat_eq}
-use Rattle.std.specs.Cmp.Lexicographic.{pointwise}
+use Rattle.std.proofs.Common.{◌≡◌, ℕ, ◌&&◌, Bool, true≢false, Option, None, Some, refl, sym, ap, unwrap_or, Decides, nat_eq}
 use Rattle.std.specs.Option.{option_eq}
+use Rattle.std.specs.Str.{bytes_eq}
 use Rattle.std.proofs.lemmas.Bool.{and_from, and_parts}
-use Rattle.std.proofs.lemmas.Bool.Decides.{Decides-eqb}
+use Rattle.std.proofs.lemmas.Bool.Decides.{Decides-eqb, same_from_decides}
 use Rattle.std.proofs.lemmas.Option.{none-some}
-use Rattle.std.proofs.lemmas.Slice.Eq.{slice_eq-Decides}
-use Rattle.serf_judge.specs.declared.key.EventKey.{EventKey}
-use Rattle.serf_judge.specs.declared.key.QueryKey.{QueryKey}
-use Rattle.serf_judge.specs.Identity.{EventIdentity, QueryIdentity, key_identity, query_key_identity}
-
-bytes : (xs ys : List ℕ) → Decides (pointwise nat_eq xs ys) (xs ≡ ys)
-bytes xs ys = slice_eq-Decides Decides-eqb xs ys (pointwise nat_eq xs ys) refl
-
--- how keys are compared
-abbrev pub event_key_eq : EventKey → EventKey → Bool
-event_key_eq x y = pointwise nat_eq x.node.now y.node.now && (nat_eq x.time y.time && (pointwise nat_eq x.name.now y.name.now && pointwise nat_eq x.payload.now y.payload.now))
-
-pub event-key-decides : (x y : EventKey) → Decides (event_key_eq x y) (key_identity x ≡ key_identity y)
-event-key-decides x y = (
-  λ e.
-      let a = and_parts (pointwise nat_eq x.node.now y.node.now) (nat_eq x.time y.time && (pointwise nat_eq x.name.now y.name.now && pointwise nat_eq x.payload.now y.payload.now)) e in
-      let b = and_parts (nat_eq x.time y.time) (pointwise nat_eq x.name.now y.name.now && pointwise nat_eq x.payload.now y.payload.now) a.1 in
-      let d = and_parts (pointwise nat_eq x.name.now y.name.now) (pointwise nat_eq x.payload.now y.payload.now) b.1 in
-      let node = (bytes x.node.now y.node.now).0 a.0 in
-      let time = (Decides-eqb x.time y.time).0 b.0 in
-      let name = (bytes x.name.now y.name.now).0 d.0 in
-      let payload = (bytes x.payload.now y.payload.now).0 d.1 in
-      λ k. record { node = node k; time = time k; name = name k; payload = payload k },
-  λ same.
-      and_from (pointwise nat_eq x.node.now y.node.now) (nat_eq x.time y.time && (pointwise nat_eq x.name.now y.name.now && pointwise nat_eq x.payload.now y.payload.now))
-      ((bytes x.node.now y.node.now).1 (ap (λ (i : EventIdentity). i.node) same))
-      (and_from (nat_eq x.time y.time) (pointwise nat_eq x.name.now y.name.now && pointwise nat_eq x.payload.now y.payload.now)
-      ((Decides-eqb x.time y.time).1 (ap (λ (i : EventIdentity). i.time) same))
-      (and_from (pointwise nat_eq x.name.now y.name.now) (pointwise nat_eq x.payload.now y.payload.now)
-      ((bytes x.name.now y.name.now).1 (ap (λ (i : EventIdentity). i.name) same))
-      ((bytes x.payload.now y.payload.now).1 (ap (λ (i : EventIdentity). i.payload) same)))),
-)
+use Rattle.std.proofs.lemmas.Slice.Eq.{bytes_eq-Decides}
+use Rattle.serf_judge.specs.declared.key.Key.{Key}
+use Rattle.serf_judge.specs.Identity.{Identity, is_same, key_eq, key_identity}
 
 ids : (a b : Option ℕ) → Decides (option_eq nat_eq a b) (a ≡ b)
 ids None None = (λ _. refl, λ _. refl)
@@ -44,22 +15,32 @@ ids None (Some w) = (λ e. absurd (true≢false (sym e)), λ e. absurd (none-som
 ids (Some v) None = (λ e. absurd (true≢false (sym e)), λ e. absurd (none-some v (sym e)))
 ids (Some v) (Some w) = (λ e. ap Some ((Decides-eqb v w).0 e), λ e. (Decides-eqb v w).1 (ap (λ u. unwrap_or u v) e))
 
-abbrev pub query_key_eq : QueryKey → QueryKey → Bool
-query_key_eq x y = pointwise nat_eq x.node.now y.node.now && (nat_eq x.time y.time && option_eq nat_eq x.id y.id)
+same-decides : (x y : Identity) → Decides (is_same x y) (x ≡ y)
+same-decides x y =
+    let texts : Bool = bytes_eq x.name y.name && bytes_eq x.payload y.payload in
+    let id : Bool = option_eq nat_eq x.id y.id in
+    let time : Bool = nat_eq x.time y.time in (
+      λ e.
+          let a = and_parts (bytes_eq x.node y.node) (time && (id && texts)) e in
+          let b = and_parts time (id && texts) a.1 in
+          let d = and_parts id texts b.1 in
+          let f = and_parts (bytes_eq x.name y.name) (bytes_eq x.payload y.payload) d.1 in
+          let node = (bytes_eq-Decides x.node y.node).0 a.0 in
+          let times = (Decides-eqb x.time y.time).0 b.0 in
+          let same_id = (ids x.id y.id).0 d.0 in
+          let name = (bytes_eq-Decides x.name y.name).0 f.0 in
+          let payload = (bytes_eq-Decides x.payload y.payload).0 f.1 in
+          λ k. record { node = node k; time = times k; id = same_id k; name = name k; payload = payload k },
+      λ e.
+          and_from (bytes_eq x.node y.node) (time && (id && texts)) ((bytes_eq-Decides x.node y.node).1 (ap (λ (i : Identity). i.node) e))
+          (and_from time (id && texts) ((Decides-eqb x.time y.time).1 (ap (λ (i : Identity). i.time) e))
+          (and_from id texts ((ids x.id y.id).1 (ap (λ (i : Identity). i.id) e))
+          (and_from (bytes_eq x.name y.name) (bytes_eq x.payload y.payload) ((bytes_eq-Decides x.name y.name).1 (ap (λ (i : Identity). i.name) e))
+          ((bytes_eq-Decides x.payload y.payload).1 (ap (λ (i : Identity). i.payload) e))))),
+    )
 
-pub query-key-decides : (x y : QueryKey) → Decides (query_key_eq x y) (query_key_identity x ≡ query_key_identity y)
-query-key-decides x y = (
-  λ e.
-      let a = and_parts (pointwise nat_eq x.node.now y.node.now) (nat_eq x.time y.time && option_eq nat_eq x.id y.id) e in
-      let b = and_parts (nat_eq x.time y.time) (option_eq nat_eq x.id y.id) a.1 in
-      let node = (bytes x.node.now y.node.now).0 a.0 in
-      let time = (Decides-eqb x.time y.time).0 b.0 in
-      let id = (ids x.id y.id).0 b.1 in
-      λ k. record { node = node k; time = time k; id = id k },
-  λ same.
-      and_from (pointwise nat_eq x.node.now y.node.now) (nat_eq x.time y.time && option_eq nat_eq x.id y.id)
-      ((bytes x.node.now y.node.now).1 (ap (λ (i : QueryIdentity). i.node) same))
-      (and_from (nat_eq x.time y.time) (option_eq nat_eq x.id y.id)
-      ((Decides-eqb x.time y.time).1 (ap (λ (i : QueryIdentity). i.time) same))
-      ((ids x.id y.id).1 (ap (λ (i : QueryIdentity). i.id) same))),
-)
+pub key-decides : (x y : Key) → Decides (key_eq x y) (key_identity x ≡ key_identity y)
+key-decides x y = same-decides (key_identity x) (key_identity y)
+
+pub same-turned : (x y : Identity) → is_same x y ≡ is_same y x
+same-turned x y = same_from_decides (is_same x y) (is_same y x) (same-decides x y) (λ e. sym ((same-decides y x).0 e), λ p. (same-decides y x).1 (sym p))

@@ -2,11 +2,10 @@ pub mod AgainLaws
 pub mod FiredLaws
 pub mod KeyLaws
 pub mod LatestLaws
+pub mod LogLaws
 pub mod MissedLaws
 pub mod OnceLaws
 pub mod OrderLaws
 pub mod PairLaws
-pub mod RepeatedLaws
-pub mod SpotLaws
 pub mod TallyLaws
 pub mod TwiceLaws

@@ -4,19 +4,16 @@ use Rattle.std.specs.Prelude.{filter, nat_lt}
 use Rattle.std.specs.List.{list_any}
 use Rattle.std.proofs.lemmas.Bool.{lt-ltb}
 use Rattle.std.proofs.lemmas.List.{append-nil, map_more, take_all, take_at, take-append-drop}
-use Rattle.std.proofs.lemmas.Bool.Decides.{same_from_decides}
 use Rattle.std.proofs.lemmas.List.Elements.{filter-append}
 use Rattle.std.proofs.lemmas.List.Folds.{list_any-append}
 use Rattle.serf_judge.specs.declared.entry.EventEntry.{EventEntry}
-use Rattle.serf_judge.specs.declared.key.EventKey.{EventKey}
+use Rattle.serf_judge.specs.declared.key.Key.{Key}
 use Rattle.serf_judge.specs.declared.fired.ContentKey.{ContentKey}
 use Rattle.serf_judge.specs.Fired.{EventContent, key_content}
-use Rattle.serf_judge.specs.Handed.{event_key_eq}
-use Rattle.serf_judge.specs.Identity.{event_identity, key_identity}
+use Rattle.serf_judge.specs.Identity.{event_identity, is_same, key_eq, key_identity}
 use Rattle.serf_judge.specs.Missed.{Missing, at_most, contents_of, has_nodes, missed_of, missing_at, missing_of}
 use Rattle.serf_judge.specs.Nodes.{texts_of}
-use Rattle.serf_judge.specs.Tallies.{is_same_event}
-use Rattle.serf_judge.proofs.KeyLaws.{event-key-decides}
+use Rattle.serf_judge.proofs.KeyLaws.{same-turned}
 use Rattle.serf_judge.proofs.TallyLaws.{map-map}
 
 -- a search that stops once it has enough
@@ -31,20 +28,16 @@ or-cond true false = refl
 or-cond false true = refl
 or-cond false false = refl
 
-same-turned : (x y : EventKey) → event_key_eq x y ≡ event_key_eq y x
-same-turned x y =
-    same_from_decides (event_key_eq x y) (event_key_eq y x) (event-key-decides x y) (λ e. sym ((event-key-decides y x).0 e), λ p. (event-key-decides y x).1 (sym p))
-
 -- one more event is noted
-pub handed-more : (events : List EventEntry) (e : EventEntry) (key : EventKey) (old new : EventKey → Bool)
-    → ((q : EventKey) → old q ≡ list_any (λ x. is_same_event (key_identity q) (event_identity x)) events) → key_identity key ≡ event_identity e
-    → ((q : EventKey) → new q ≡ cond (event_key_eq key q) true (old q)) → (q : EventKey) → new q ≡ list_any (λ x. is_same_event (key_identity q) (event_identity x)) (events ++ e ∷ [])
+pub handed-more : (events : List EventEntry) (e : EventEntry) (key : Key) (old new : Key → Bool)
+    → ((q : Key) → old q ≡ list_any (λ x. is_same (key_identity q) (event_identity x)) events) → key_identity key ≡ event_identity e
+    → ((q : Key) → new q ≡ cond (key_eq key q) true (old q)) → (q : Key) → new q ≡ list_any (λ x. is_same (key_identity q) (event_identity x)) (events ++ e ∷ [])
 handed-more events e key old new h is step q =
-    let here : is_same_event (key_identity q) (event_identity e) ≡ event_key_eq key q = ap (is_same_event (key_identity q)) (sym is) ∙ same-turned q key in
-    let noted = list_any (λ x. is_same_event (key_identity q) (event_identity x)) events in
+    let here : is_same (key_identity q) (event_identity e) ≡ key_eq key q = ap (is_same (key_identity q)) (sym is) ∙ same-turned (key_identity q) (key_identity key) in
+    let noted = list_any (λ x. is_same (key_identity q) (event_identity x)) events in
     step q
-    ∙ ap (λ b. cond (event_key_eq key q) true b) (h q)
-    ∙ sym (list_any-append (λ x. is_same_event (key_identity q) (event_identity x)) events (e ∷ []) ∙ or-cond noted (is_same_event (key_identity q) (event_identity e)) ∙ ap (λ b. cond b true noted) here)
+    ∙ ap (λ b. cond (key_eq key q) true b) (h q)
+    ∙ sym (list_any-append (λ x. is_same (key_identity q) (event_identity x)) events (e ∷ []) ∙ or-cond noted (is_same (key_identity q) (event_identity e)) ∙ ap (λ b. cond b true noted) here)
 
 -- what stands for an item behind the end of a list, as the goals have it
 abbrev pub no_text : Bor (List ℕ)

@@ -1,5 +1,5 @@
 -- What lines come to, one after another.
-use Rattle.std.proofs.Common.{◌≡◌, ◌∙◌, ℕ, ◌+◌, ◌-◌, ◌^◌, ◌<◌, ◌≤◌, ◌++◌, ◌∷◌, [], Bool, true, false, cond, min, max, List, Option, Some, Bor, map, take, length, get_or, refl, sym, ap, subst, arith}
+use Rattle.std.proofs.Common.{◌≡◌, ◌∙◌, ℕ, ◌+◌, ◌-◌, ◌^◌, ◌<◌, ◌≤◌, ◌++◌, ◌∷◌, [], Bool, true, false, cond, min, max, List, Option, None, Some, Bor, map, take, length, get_or, refl, sym, ap, subst, arith}
 use Rattle.std.specs.Prelude.{unwrap_or}
 use Rattle.std.specs.Str.{bytes_eq}
 use Rattle.std.specs.Cmp.Lexicographic.{nat_list_eq_equiv}
@@ -7,13 +7,22 @@ use Rattle.std.proofs.lemmas.List.{append-nil, length_push, map-append, map_more
 use Rattle.std.proofs.lemmas.List.Elements.{filter-append}
 use Rattle.std.proofs.lemmas.List.Sums.{fold-append}
 use Rattle.std.proofs.lemmas.Slice.Eq.{bytes_eq-Decides}
+use Rattle.serf_judge.specs.declared.key.Handed.{Handed}
 use Rattle.serf_judge.specs.declared.tally.Tally.{Tally}
 use Rattle.serf_judge.specs.Nodes.{texts_of}
-use Rattle.serf_judge.specs.Tallies.{Handing, greatest, least, lines_to, nodes_of, tallies_of, tally_of}
+use Rattle.serf_judge.specs.Identity.{Identity}
+use Rattle.serf_judge.specs.Tallies.{greatest, least, lines_to, nodes_of, tallies_of, tally_of}
 
 pub map-map : {X Y Z : Type 0} (g : Y → Z) (f : X → Y) (xs : List X) → map g (map f xs) ≡ map (λ x. g (f x)) xs
 map-map g f [] = refl
 map-map g f (x ∷ xs) = ap (λ t. g (f x) ∷ t) (map-map g f xs)
+
+-- what stands for an item behind the end of the list, as the goals have it
+abbrev pub no_text : Bor (List ℕ)
+no_text = record { ref_ptr = (0, 0); now = [] }
+
+abbrev pub no_line : Handed
+no_line = record { line = 0; key = record { node = no_text; time = 0; id = None; name = no_text; payload = no_text } }
 
 -- one more of a list that a loop walks
 pub take-next : {X : Type 0} (xs : List X) (i : ℕ) (x : X) → i < length xs → x ≡ get_or xs i x → take (i + 1) xs ≡ take i xs ++ x ∷ []
@@ -31,48 +40,48 @@ greatest-push numbers n = fold-append max 0 numbers (n ∷ [])
 stops : (n : ℕ) → min (n + 1) (2 ^ 64 - 1) ≡ min (min n (2 ^ 64 - 1) + 1) (2 ^ 64 - 1)
 stops n = omega arith
 
-abbrev pub with_line : Tally → Handing → Tally
+abbrev pub with_line : Tally → (ℕ × Identity) → Tally
 with_line t h = record {
   count = min (t.count + 1) (2 ^ 64 - 1);
-  least_time = min t.least_time h.time;
-  greatest_time = max t.greatest_time h.time;
-  first_line = min t.first_line h.line;
-  last_line = max t.last_line h.line;
+  least_time = min t.least_time h.1.time;
+  greatest_time = max t.greatest_time h.1.time;
+  first_line = min t.first_line h.0;
+  last_line = max t.last_line h.0;
 }
 
-pub tally-push : (own : List Handing) (h : Handing) → tally_of (own ++ h ∷ []) ≡ with_line (tally_of own) h
+pub tally-push : (own : List (ℕ × Identity)) (h : ℕ × Identity) → tally_of (own ++ h ∷ []) ≡ with_line (tally_of own) h
 tally-push own h =
     let count = ap (λ n. min n (2 ^ 64 - 1)) (length_push own h) ∙ stops (length own) in
-    let times = map-append (λ (x : Handing). x.time) own (h ∷ []) in
-    let lines = map-append (λ (x : Handing). x.line) own (h ∷ []) in
-    let least_time = ap least times ∙ least-push (map (λ x. x.time) own) h.time in
-    let greatest_time = ap greatest times ∙ greatest-push (map (λ x. x.time) own) h.time in
-    let first_line = ap least lines ∙ least-push (map (λ x. x.line) own) h.line in
-    let last_line = ap greatest lines ∙ greatest-push (map (λ x. x.line) own) h.line in
+    let times = map-append (λ (x : ℕ × Identity). x.1.time) own (h ∷ []) in
+    let lines = map-append (λ (x : ℕ × Identity). x.0) own (h ∷ []) in
+    let least_time = ap least times ∙ least-push (map (λ x. x.1.time) own) h.1.time in
+    let greatest_time = ap greatest times ∙ greatest-push (map (λ x. x.1.time) own) h.1.time in
+    let first_line = ap least lines ∙ least-push (map (λ x. x.0) own) h.0 in
+    let last_line = ap greatest lines ∙ greatest-push (map (λ x. x.0) own) h.0 in
     λ k. record { count = count k; least_time = least_time k; greatest_time = greatest_time k; first_line = first_line k; last_line = last_line k }
 
-pub lines_to-push : (node : List ℕ) (lines : List Handing) (h : Handing) → lines_to node (lines ++ h ∷ []) ≡ lines_to node lines ++ cond (bytes_eq node h.node) (h ∷ []) []
-lines_to-push node lines h = filter-append (λ (x : Handing). bytes_eq node x.node) lines (h ∷ [])
+pub lines_to-push : (node : List ℕ) (lines : List (ℕ × Identity)) (h : ℕ × Identity) → lines_to node (lines ++ h ∷ []) ≡ lines_to node lines ++ cond (bytes_eq node h.1.node) (h ∷ []) []
+lines_to-push node lines h = filter-append (λ (x : ℕ × Identity). bytes_eq node x.1.node) lines (h ∷ [])
 
 -- a node's next line is tallied
-pub line-tallied : (lines : List Handing) (h : Handing) (key : Bor (List ℕ)) (tally : Tally) (old new : Bor (List ℕ) → Option Tally)
-    → ((q : Bor (List ℕ)) → unwrap_or (old q) (tally_of []) ≡ tally_of (lines_to q.now lines)) → key.now ≡ h.node → tally ≡ tally_of (lines_to h.node lines ++ h ∷ [])
+pub line-tallied : (lines : List (ℕ × Identity)) (h : ℕ × Identity) (key : Bor (List ℕ)) (tally : Tally) (old new : Bor (List ℕ) → Option Tally)
+    → ((q : Bor (List ℕ)) → unwrap_or (old q) (tally_of []) ≡ tally_of (lines_to q.now lines)) → key.now ≡ h.1.node → tally ≡ tally_of (lines_to h.1.node lines ++ h ∷ [])
     → ((q : Bor (List ℕ)) → new q ≡ cond (bytes_eq key.now q.now) (Some tally) (old q))
     → (q : Bor (List ℕ)) → unwrap_or (new q) (tally_of []) ≡ tally_of (lines_to q.now (lines ++ h ∷ []))
 line-tallied lines h key tally old new before same is step q = rw (step q) (by (bytes_eq key.now q.now) refl)
   where
     by : (b : Bool) → bytes_eq key.now q.now ≡ b → unwrap_or (cond b (Some tally) (old q)) (tally_of []) ≡ tally_of (lines_to q.now (lines ++ h ∷ []))
     by true e =
-        let there : h.node ≡ q.now = sym same ∙ (bytes_eq-Decides key.now q.now).0 e in
-        let own : lines_to h.node (lines ++ h ∷ []) ≡ lines_to h.node lines ++ h ∷ [] = lines_to-push h.node lines h ∙ ap (λ b. lines_to h.node lines ++ cond b (h ∷ []) []) ((bytes_eq-Decides h.node h.node).1 refl) in
+        let there : h.1.node ≡ q.now = sym same ∙ (bytes_eq-Decides key.now q.now).0 e in
+        let own : lines_to h.1.node (lines ++ h ∷ []) ≡ lines_to h.1.node lines ++ h ∷ [] = lines_to-push h.1.node lines h ∙ ap (λ b. lines_to h.1.node lines ++ cond b (h ∷ []) []) ((bytes_eq-Decides h.1.node h.1.node).1 refl) in
         subst (λ (node : List ℕ). tally ≡ tally_of (lines_to node (lines ++ h ∷ []))) there (is ∙ ap tally_of (sym own))
     by false e =
-        let apart : bytes_eq q.now h.node ≡ false = nat_list_eq_equiv.symm q.now h.node ∙ ap (λ n. bytes_eq n q.now) (sym same) ∙ e in
+        let apart : bytes_eq q.now h.1.node ≡ false = nat_list_eq_equiv.symm q.now h.1.node ∙ ap (λ n. bytes_eq n q.now) (sym same) ∙ e in
         let own : lines_to q.now (lines ++ h ∷ []) ≡ lines_to q.now lines = lines_to-push q.now lines h ∙ ap (λ b. lines_to q.now lines ++ cond b (h ∷ []) []) apart ∙ append-nil (lines_to q.now lines) in
         before q ∙ ap tally_of (sym own)
 
 -- each node was told
-pub told-all : (lines : List Handing) (told : List (List ℕ × Tally)) (items nodes : List (Bor (List ℕ))) (n : ℕ) → told ≡ map (λ t. (t.now, tally_of (lines_to t.now lines))) (take n items)
+pub told-all : (lines : List (ℕ × Identity)) (told : List (List ℕ × Tally)) (items nodes : List (Bor (List ℕ))) (n : ℕ) → told ≡ map (λ t. (t.now, tally_of (lines_to t.now lines))) (take n items)
     → length items ≤ n → items ≡ nodes → texts_of nodes ≡ nodes_of lines → told ≡ tallies_of lines
 told-all lines told items nodes n are end same named =
     let row : List ℕ → List ℕ × Tally = λ node. (node, tally_of (lines_to node lines)) in

@@ -1,5 +1,5 @@
 -- Equal keys, where a view of a key is what is compared.
-use Rattle.std.proofs.Common.{◌≡◌, ◌∙◌, ℕ, Bool, true, List, Option, Some, None, map, refl, sym, ap, Decides}
+use Rattle.std.proofs.Common.{◌≡◌, ◌∙◌, ℕ, Bool, List, Option, Some, None, map, refl, sym, ap, Decides}
 use Rattle.std.specs.Prelude.{MatchOption, slice_get}
 use Rattle.std.specs.Option.{option_map}
 use Rattle.std.proofs.lemmas.Option.{slice_get-map}
@@ -7,12 +7,12 @@ use Rattle.serf_judge.specs.Pairs.{HasNoPair, IsFirstPair, IsPair}
 use Rattle.serf_judge.specs.Twice.{AreFirstTwo, HasNoTwo, IsTwice}
 
 -- a key with this view
-record HasKey {K X : Type 0} (view : K → X) (found : Option K) (x : X) : Type 0 where
+pub record HasKey {K X : Type 0} (view : K → X) (found : Option K) (x : X) : Type 0 where
   pub key : K
   pub is : found ≡ Some key
   pub seen : view key ≡ x
 
-has-key : {K X : Type 0} (view : K → X) (found : Option K) (x : X) → option_map view found ≡ Some x → HasKey view found x
+pub has-key : {K X : Type 0} (view : K → X) (found : Option K) (x : X) → option_map view found ≡ Some x → HasKey view found x
 has-key view None x e = absurd (cc)
 has-key view (Some k) x e = record { key = k; is = refl; seen = cc }
 

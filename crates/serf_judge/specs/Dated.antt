@@ -1,5 +1,5 @@
 -- A date and a time of day before a line's other words.
-use Rattle.std.specs.Prelude.{ℕ, ◌==◌, ◌&&◌, Bool, false, if◌then◌else◌, List, [], ◌∷◌, slice_get}
+use Rattle.std.specs.Prelude.{ℕ, ◌==◌, ◌&&◌, Bool, false, if◌then◌else◌, List, [], ◌∷◌, ◌++◌, slice_get}
 use Rattle.std.specs.Char.{is_ascii_digit}
 use Rattle.std.specs.Option.{option_map_or}
 
@@ -25,3 +25,12 @@ behind_clock (first ∷ rest) = if begins_as_clock first then rest else first �
 abbrev pub behind_date : List (List ℕ) → List (List ℕ)
 behind_date [] = []
 behind_date (first ∷ rest) = if begins_as_date first then behind_clock rest else first ∷ rest
+
+-- and these words, with a space between two
+abbrev pub clock_text : List (List ℕ) → List ℕ
+clock_text [] = []
+clock_text (first ∷ rest) = if begins_as_clock first then 32 ∷ first else []
+
+abbrev pub date_text : List (List ℕ) → List ℕ
+date_text [] = []
+date_text (first ∷ rest) = if begins_as_date first then first ++ clock_text rest else []

@@ -1,9 +1,11 @@
 -- What it means that an event was fired before it was handed out.
-use Rattle.std.specs.Prelude.{◌≡◌, ℕ, ◌<◌, ◌≤◌, ◌&&◌, Bool, List, length, Option, Some, MatchOption, nat_eq, slice_get}
-use Rattle.std.specs.Cmp.Lexicographic.{pointwise}
+use Rattle.std.specs.Prelude.{◌≡◌, ℕ, ◌<◌, ◌&&◌, ◌||◌, nat_eq, nat_lt, nat_le, min, max, Bool, true, false, List, [], ◌∷◌, filter, Option, None, Some, length, position, slice_get, unwrap_or}
+use Rattle.std.specs.List.{fold, list_any}
+use Rattle.std.specs.Str.{bytes_eq}
 use Rattle.std.specs.HashMap.{HashMap, get}
 use Rattle.serf_judge.specs.declared.entry.EventEntry.{EventEntry}
 use Rattle.serf_judge.specs.declared.fired.ContentKey.{ContentKey}
+use Rattle.serf_judge.specs.declared.fired.Firings.{Firings}
 
 -- an event: a time, a name and a payload
 pub record EventContent : Type 0 where
@@ -14,50 +16,58 @@ pub record EventContent : Type 0 where
 abbrev pub content_of : EventEntry → EventContent
 content_of e = record { time = e.time; name = e.name.items; payload = e.payload.items }
 
--- some node fired this event at its time, on an earlier line
-pub record IsFiredBefore (fired : List EventEntry) (e : EventEntry) : Type 0 where
-  pub place : ℕ
-  pub firing : EventEntry
-  pub at : slice_get fired place ≡ Some firing
-  pub before : firing.line < e.line
-  pub same : content_of firing ≡ content_of e
+abbrev pub is_same_content : EventContent → EventContent → Bool
+is_same_content x y = nat_eq x.time y.time && (bytes_eq x.name y.name && bytes_eq x.payload y.payload)
 
-abbrev pub AreAllFired : List EventEntry → List EventEntry → Type 0
-AreAllFired fired events = (k : ℕ) (e : EventEntry) → slice_get events k ≡ Some e → IsFiredBefore fired e
+-- Of several logs, one after another: which of them has a line, counted from 0. `starts` says of each but the first how
+-- many lines come before it.
+abbrev pub log_at : List ℕ → ℕ → ℕ
+log_at starts line = unwrap_or (position (λ s. nat_le line s) starts) (length starts)
+
+-- This firing is of the event, and stands above it or in a later log. (What stands in an earlier one is above it.)
+abbrev pub is_firing_of : List ℕ → EventEntry → EventEntry → Bool
+is_firing_of starts e f = is_same_content (content_of e) (content_of f) && (nat_lt f.line e.line || nat_lt (log_at starts e.line) (log_at starts f.line))
+
+abbrev pub was_fired : List ℕ → List EventEntry → EventEntry → Bool
+was_fired starts fired e = list_any (is_firing_of starts e) fired
+
+abbrev pub AreAllFired : List ℕ → List EventEntry → List EventEntry → Type 0
+AreAllFired starts fired events = (k : ℕ) (e : EventEntry) → slice_get events k ≡ Some e → was_fired starts fired e ≡ true
 
 -- the first event that was not
-pub record IsFirstUnfired (fired events : List EventEntry) (place : ℕ) : Type 0 where
+pub record IsFirstUnfired (starts : List ℕ) (fired events : List EventEntry) (place : ℕ) : Type 0 where
   pub event : EventEntry
   pub at : slice_get events place ≡ Some event
-  pub unfired : IsFiredBefore fired event → ⊥
-  pub least : (k : ℕ) (e : EventEntry) → k < place → slice_get events k ≡ Some e → IsFiredBefore fired e
+  pub unfired : was_fired starts fired event ≡ false
+  pub least : (k : ℕ) (e : EventEntry) → k < place → slice_get events k ≡ Some e → was_fired starts fired e ≡ true
 
--- The first lines of firings, noted by content: private to the crate.
+-- Where each event was fired, noted by content: private to the crate.
 
 abbrev pub key_content : ContentKey → EventContent
 key_content k = record { time = k.time; name = k.name.now; payload = k.payload.now }
 
--- none of the first firings is of this event
-abbrev pub NoneFired : List EventEntry → ℕ → EventContent → Type 0
-NoneFired fired n x = (i : ℕ) (f : EventEntry) → i < n → slice_get fired i ≡ Some f → content_of f ≡ x → ⊥
-
--- of the first firings of this event one has this line, and none has a line before it
-pub record IsFirstLine (fired : List EventEntry) (n : ℕ) (x : EventContent) (line : ℕ) : Type 0 where
-  pub place : ℕ
-  pub firing : EventEntry
-  pub below : place < n
-  pub at : slice_get fired place ≡ Some firing
-  pub same : content_of firing ≡ x
-  pub line_is : firing.line ≡ line
-  pub least : (i : ℕ) (f : EventEntry) → i < n → slice_get fired i ≡ Some f → content_of f ≡ x → line ≤ f.line
-
-abbrev pub NotesLines : List EventEntry → ℕ → (ContentKey → Option ℕ) → Type 0
-NotesLines fired n noted = (q : ContentKey) → MatchOption (noted q) (NoneFired fired n (key_content q)) (λ line. IsFirstLine fired n (key_content q) line)
-
 -- how keys are compared
 abbrev pub content_key_eq : ContentKey → ContentKey → Bool
-content_key_eq x y = nat_eq x.time y.time && (pointwise nat_eq x.name.now y.name.now && pointwise nat_eq x.payload.now y.payload.now)
+content_key_eq x y = is_same_content (key_content x) (key_content y)
 
--- the table has the first line of each firing
-abbrev pub AreFirstLines : {S : Type 0} → List EventEntry → HashMap ContentKey ℕ S → Type 0
-AreFirstLines fired table = NotesLines fired (length fired) (λ q. get content_key_eq table q)
+abbrev pub one_firing : List ℕ → EventEntry → Firings
+one_firing starts f = record { first_line = f.line; last_log = log_at starts f.line }
+
+-- and one more
+abbrev pub one_more : List ℕ → Firings → EventEntry → Firings
+one_more starts noted f = record { first_line = min noted.first_line f.line; last_log = max noted.last_log (log_at starts f.line) }
+
+-- whether one of them stands above this line of this log, or in a later log
+abbrev pub counts : ℕ → ℕ → Firings → Bool
+counts line log noted = nat_lt noted.first_line line || nat_lt log noted.last_log
+
+abbrev pub firings_of : List ℕ → List EventEntry → Option Firings
+firings_of starts [] = None
+firings_of starts (f ∷ fs) = Some (fold (one_more starts) (one_firing starts f) fs)
+
+-- the firings of an event
+abbrev pub own_firings : ContentKey → List EventEntry → List EventEntry
+own_firings q fired = filter (λ f. is_same_content (key_content q) (content_of f)) fired
+
+abbrev pub AreNoted : {S : Type 0} → List ℕ → List EventEntry → HashMap ContentKey Firings S → Type 0
+AreNoted starts fired table = (q : ContentKey) → get content_key_eq table q ≡ firings_of starts (own_firings q fired)

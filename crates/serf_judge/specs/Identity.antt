@@ -1,32 +1,44 @@
 -- What tells an event, or a query, from others.
-use Rattle.std.specs.Prelude.{ℕ, List, Option}
+use Rattle.std.specs.Prelude.{ℕ, ◌&&◌, nat_eq, Bool, List, [], Option, None}
+use Rattle.std.specs.Option.{option_eq}
+use Rattle.std.specs.Str.{bytes_eq}
 use Rattle.serf_judge.specs.declared.entry.EventEntry.{EventEntry}
 use Rattle.serf_judge.specs.declared.entry.QueryEntry.{QueryEntry}
-use Rattle.serf_judge.specs.declared.key.EventKey.{EventKey}
-use Rattle.serf_judge.specs.declared.key.QueryKey.{QueryKey}
+use Rattle.serf_judge.specs.declared.key.Handed.{Handed}
+use Rattle.serf_judge.specs.declared.key.Key.{Key}
 
--- the node that was handed an event, and the event: a time, a name and a payload
-pub record EventIdentity : Type 0 where
-  pub node : List ℕ
-  pub time : ℕ
-  pub name : List ℕ
-  pub payload : List ℕ
-
-abbrev pub event_identity : EventEntry → EventIdentity
-event_identity e = record { node = e.node.items; time = e.time; name = e.name.items; payload = e.payload.items }
-
--- the node that was handed a query, and the query: a time and an ID, or no ID
-pub record QueryIdentity : Type 0 where
+-- The node that was handed something, and what: of an event a time, a name and a payload, of a query a time and an ID, or
+-- no ID.
+pub record Identity : Type 0 where
   pub node : List ℕ
   pub time : ℕ
   pub id : Option ℕ
+  pub name : List ℕ
+  pub payload : List ℕ
 
-abbrev pub query_identity : QueryEntry → QueryIdentity
-query_identity q = record { node = q.node.items; time = q.time; id = q.id }
+abbrev pub event_identity : EventEntry → Identity
+event_identity e = record { node = e.node.items; time = e.time; id = None; name = e.name.items; payload = e.payload.items }
 
--- what a key lends: private to the crate
-abbrev pub key_identity : EventKey → EventIdentity
-key_identity k = record { node = k.node.now; time = k.time; name = k.name.now; payload = k.payload.now }
+abbrev pub query_identity : QueryEntry → Identity
+query_identity q = record { node = q.node.items; time = q.time; id = q.id; name = []; payload = [] }
 
-abbrev pub query_key_identity : QueryKey → QueryIdentity
-query_key_identity k = record { node = k.node.now; time = k.time; id = k.id }
+abbrev pub is_same : Identity → Identity → Bool
+is_same x y = bytes_eq x.node y.node && (nat_eq x.time y.time && (option_eq nat_eq x.id y.id && (bytes_eq x.name y.name && bytes_eq x.payload y.payload)))
+
+-- the number of a line, and what it hands to whom
+abbrev pub event_seen : EventEntry → ℕ × Identity
+event_seen e = (e.line, event_identity e)
+
+abbrev pub query_seen : QueryEntry → ℕ × Identity
+query_seen q = (q.line, query_identity q)
+
+-- what a key lends, and a line with its key
+abbrev pub key_identity : Key → Identity
+key_identity k = record { node = k.node.now; time = k.time; id = k.id; name = k.name.now; payload = k.payload.now }
+
+abbrev pub handed_seen : Handed → ℕ × Identity
+handed_seen h = (h.line, key_identity h.key)
+
+-- how keys are compared
+abbrev pub key_eq : Key → Key → Bool
+key_eq x y = is_same (key_identity x) (key_identity y)

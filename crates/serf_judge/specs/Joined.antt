@@ -16,5 +16,6 @@ joined_logs x y = record {
   events = x.events ++ moved_on x.lines y.events;
   queries = x.queries ++ moved_on x.lines y.queries;
   bad = x.bad ++ moved_on x.lines y.bad;
+  dates = x.dates ++ moved_on x.lines y.dates;
   lines = min (x.lines + y.lines) (2 ^ 64 - 1);
 }

@@ -1,24 +1,25 @@
 -- What is said of a snapshot beside a log: whether the log has its node, whether it is a snapshot, and where it begins anew.
-use Rattle.std.specs.Prelude.{ℕ, ◌==◌, ◌||◌, ◌&&◌, nat_eq, nat_lt, Bool, if◌then◌else◌, List, [], ◌∷◌, length, codes}
+use Rattle.std.specs.Prelude.{ℕ, ◌==◌, ◌||◌, ◌&&◌, ◌-◌, nat_eq, nat_lt, Bool, if◌then◌else◌, List, [], ◌∷◌, length, slice_index, take, codes}
 use Rattle.std.specs.List.{list_any, starts_with}
 use Rattle.std.specs.Str.{bytes_eq}
 use Rattle.serf_text.specs.Lines.{lines_of}
-use Rattle.serf_judge.specs.declared.entry.EventEntry.{EventEntry}
-use Rattle.serf_judge.specs.declared.entry.QueryEntry.{QueryEntry}
 use Rattle.serf_judge.specs.declared.log.Log.{Log}
+use Rattle.serf_judge.specs.Identity.{Identity, event_seen, query_seen}
 
--- whether one of these is of a node
-abbrev pub has_event_of : List ℕ → List EventEntry → Bool
-has_event_of node entries = list_any (λ e. bytes_eq e.node.items node) entries
+-- whether an entry is of a node, and whether it is at a time above a clock too
+abbrev pub is_line_of : {E : Type 0} → (E → ℕ × Identity) → List ℕ → E → Bool
+is_line_of seen node e = bytes_eq (seen e).1.node node
 
-abbrev pub has_query_of : List ℕ → List QueryEntry → Bool
-has_query_of node entries = list_any (λ q. bytes_eq q.node.items node) entries
+abbrev pub is_line_above : {E : Type 0} → (E → ℕ × Identity) → List ℕ → ℕ → E → Bool
+is_line_above seen node clock e = bytes_eq (seen e).1.node node && nat_lt clock (seen e).1.time
 
 -- whether a log says anything of a node
 abbrev pub has_line_of : List ℕ → Log → Bool
-has_line_of node log = has_event_of node log.events.items || (has_query_of node log.queries.items || has_event_of node log.fired.items)
+has_line_of node log =
+    list_any (is_line_of event_seen node) log.events.items
+    || (list_any (is_line_of query_seen node) log.queries.items || list_any (is_line_of event_seen node) log.fired.items)
 
--- whether a line begins as those do that Serf writes into a snapshot, or an agent of this project
+-- whether a line begins as those do that Serf writes into a snapshot, as an agent of this project does too
 abbrev pub begins_as_kept : List ℕ → Bool
 begins_as_kept line =
     starts_with nat_eq line (codes "clock: ")
@@ -32,12 +33,39 @@ begins_as_kept line =
 abbrev pub is_leave : List ℕ → Bool
 is_leave line = bytes_eq line (codes "leave")
 
+-- whether a line begins as those do that an agent of this project alone writes
+abbrev pub is_own : List ℕ → Bool
+is_own line = starts_with nat_eq line (codes "#event ") || (starts_with nat_eq line (codes "#query ") || starts_with nat_eq line (codes "#least "))
+
+-- what a crash may leave of the word that a line begins with: of a clock's, and of any
+abbrev pub is_torn_clock_word : List ℕ → Bool
+is_torn_clock_word bytes = starts_with nat_eq (codes "clock: ") bytes || (starts_with nat_eq (codes "event-clock: ") bytes || starts_with nat_eq (codes "query-clock: ") bytes)
+
+abbrev pub is_torn : List ℕ → Bool
+is_torn bytes =
+    is_torn_clock_word bytes
+    || (starts_with nat_eq (codes "alive: ") bytes
+    || (starts_with nat_eq (codes "not-alive: ") bytes
+    || (starts_with nat_eq (codes "coordinate: ") bytes
+    || starts_with nat_eq (codes "leave") bytes)))
+
+-- and what an opening makes of it: it has a `#` behind it
+abbrev pub is_sealed : List ℕ → Bool
+is_sealed line = nat_lt 1 (length line) && (slice_index line (length line - 1) == 35 && is_torn (take (length line - 1) line))
+
 abbrev pub is_kept_line : List ℕ → Bool
-is_kept_line line = is_leave line || begins_as_kept line
+is_kept_line line = is_leave line || (begins_as_kept line || (is_own line || is_sealed line))
 
 -- a snapshot has nothing yet, or such a line
 abbrev pub is_snapshot_text : List ℕ → Bool
 is_snapshot_text text = (length text == 0) || list_any is_kept_line (lines_of text)
+
+-- one that has a line which Serf never writes
+abbrev pub is_own_text : List ℕ → Bool
+is_own_text text = list_any is_own (lines_of text)
+
+abbrev pub is_line_wanted : Bool → List ℕ → Bool
+is_line_wanted own line = if own then is_own line else is_kept_line line
 
 -- Of the lines of a snapshot those that count where Serf doesn't rejoin: what stands after the last line `leave`. Those
 -- from here on are left, and `start` counts so far. What follows the last newline is no line.

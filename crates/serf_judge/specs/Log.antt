@@ -1,24 +1,24 @@
 -- What a log says, a line a happening.
-use Rattle.std.specs.Prelude.{ℕ, ◌+◌, ◌==◌, if◌then◌else◌, List, length, codes, Option, Some, None, is_some, Result, Ok, Err}
+use Rattle.std.specs.Prelude.{ℕ, ◌+◌, ◌==◌, if◌then◌else◌, List, [], length, codes, Option, Some, None, is_some, Result, Ok, Err}
 use Rattle.std.specs.Str.{bytes_eq}
 use Rattle.serf_text.specs.declared.cause.Cause.{Cause}
 use Rattle.serf_text.specs.declared.cause.Cause.TheVariants.{UnknownWord, WordCount}
 use Rattle.serf_text.specs.Gives.{◌>>=◌}
 use Rattle.serf_text.specs.Words.{number_in, number_of, word_at}
-use Rattle.serf_judge.specs.Identity.{EventIdentity, QueryIdentity}
+use Rattle.serf_judge.specs.Identity.{Identity}
 
 -- what a line says: an event was fired or handed out, a query was handed out, or nothing that is judged
 pub data Happening : Type 0 where
   nothing : Happening
-  fired : EventIdentity → Happening
-  event : EventIdentity → Happening
-  query : QueryIdentity → Happening
+  fired : Identity → Happening
+  event : Identity → Happening
+  query : Identity → Happening
 
 -- the event of four words, of which the first is at this place: the node, the time, the name and the payload
-unfoldable pub event_at : ℕ → List (List ℕ) → Result EventIdentity Cause
+unfoldable pub event_at : ℕ → List (List ℕ) → Result Identity Cause
 event_at place words = do
   time ← number_in (place + 1) words
-  Ok (record { node = word_at place words; time = time; name = word_at (place + 2) words; payload = word_at (place + 3) words })
+  Ok (record { node = word_at place words; time = time; id = None; name = word_at (place + 2) words; payload = word_at (place + 3) words })
 
 -- the ID at a place: a number, or `-` for none
 unfoldable pub id_in : ℕ → List (List ℕ) → Result (Option ℕ) Cause
@@ -27,17 +27,17 @@ id_in place words =
     else (number_in place words >>= (λ n. Ok (Some n)))
 
 -- the query of a node's word and two others
-unfoldable pub query_at : ℕ → ℕ → ℕ → List (List ℕ) → Result QueryIdentity Cause
+unfoldable pub query_at : ℕ → ℕ → ℕ → List (List ℕ) → Result Identity Cause
 query_at node time id words = do
   t ← number_in time words
   i ← id_in id words
-  Ok (record { node = word_at node words; time = t; id = i })
+  Ok (record { node = word_at node words; time = t; id = i; name = []; payload = [] })
 
 -- a line of so many words
 abbrev pub of_count : ℕ → List (List ℕ) → Result Happening Cause → Result Happening Cause
 of_count n words said = if length words == n then said else Err WordCount
 
-abbrev pub event_line : ℕ → List (List ℕ) → (EventIdentity → Happening) → Result Happening Cause
+abbrev pub event_line : ℕ → List (List ℕ) → (Identity → Happening) → Result Happening Cause
 event_line place words happening = event_at place words >>= (λ e. Ok (happening e))
 
 abbrev pub query_line : ℕ → ℕ → ℕ → List (List ℕ) → Result Happening Cause

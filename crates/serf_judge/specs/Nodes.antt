@@ -2,10 +2,9 @@
 use Rattle.std.specs.Prelude.{ℕ, ◌++◌, Bool, List, map}
 use Rattle.std.specs.Borrow.{Bor}
 use Rattle.std.specs.Str.{bytes_eq}
-use Rattle.serf_judge.specs.declared.entry.EventEntry.{EventEntry}
-use Rattle.serf_judge.specs.declared.entry.QueryEntry.{QueryEntry}
 use Rattle.serf_judge.specs.declared.log.Log.{Log}
 use Rattle.serf_judge.specs.Again.{firsts_of}
+use Rattle.serf_judge.specs.Identity.{Identity, event_seen, query_seen}
 
 -- the bytes of texts that are lent
 abbrev pub texts_of : List (Bor (List ℕ)) → List (List ℕ)
@@ -14,18 +13,13 @@ texts_of lent = map (λ t. t.now) lent
 abbrev pub is_same_text : Bor (List ℕ) → Bor (List ℕ) → Bool
 is_same_text x y = bytes_eq x.now y.now
 
-abbrev pub event_nodes : List EventEntry → List (List ℕ)
-event_nodes events = map (λ e. e.node.items) events
+-- the nodes of some entries, and each of them once, in the order in which they come first
+abbrev pub nodes_in : {E : Type 0} → (E → ℕ × Identity) → List E → List (List ℕ)
+nodes_in seen entries = map (λ e. (seen e).1.node) entries
 
-abbrev pub query_nodes : List QueryEntry → List (List ℕ)
-query_nodes queries = map (λ q. q.node.items) queries
+abbrev pub receivers_of : {E : Type 0} → (E → ℕ × Identity) → List E → List (List ℕ)
+receivers_of seen entries = firsts_of bytes_eq (nodes_in seen entries)
 
--- each node that was handed an event, a query, or that the log names at all, once, in the order in which they come first
-abbrev pub event_receivers_of : List EventEntry → List (List ℕ)
-event_receivers_of events = firsts_of bytes_eq (event_nodes events)
-
-abbrev pub query_receivers_of : List QueryEntry → List (List ℕ)
-query_receivers_of queries = firsts_of bytes_eq (query_nodes queries)
-
+-- those that a log names at all
 abbrev pub log_nodes_of : Log → List (List ℕ)
-log_nodes_of log = firsts_of bytes_eq (event_nodes log.events.items ++ query_nodes log.queries.items ++ event_nodes log.fired.items)
+log_nodes_of log = firsts_of bytes_eq (nodes_in event_seen log.events.items ++ nodes_in query_seen log.queries.items ++ nodes_in event_seen log.fired.items)

@@ -7,13 +7,12 @@ use Rattle.serf_text.specs.Words.{words_of}
 use Rattle.serf_text.specs.declared.stream_fault.StreamLineFault.{StreamLineFault as LineFault}
 use Rattle.serf_text.specs.declared.stream_fault.StreamLineFault.TheVariants.{Bad, OutOfMemory}
 use Rattle.serf_judge.specs.declared.entry.BadLine.{BadLine}
-use Rattle.serf_judge.specs.declared.entry.EventEntry.{EventEntry}
-use Rattle.serf_judge.specs.declared.entry.QueryEntry.{QueryEntry}
+use Rattle.serf_judge.specs.declared.entry.DatedLine.{DatedLine}
 use Rattle.serf_judge.specs.declared.happening.Happening.{Happening as Held}
 use Rattle.serf_judge.specs.declared.happening.Happening.TheVariants as held
 use Rattle.serf_judge.specs.declared.log.Log.{Log}
-use Rattle.serf_judge.specs.Dated.{behind_date}
-use Rattle.serf_judge.specs.Identity.{EventIdentity, QueryIdentity, event_identity, query_identity}
+use Rattle.serf_judge.specs.Dated.{behind_date, date_text}
+use Rattle.serf_judge.specs.Identity.{Identity, event_identity, event_seen, query_identity, query_seen}
 use Rattle.serf_judge.specs.Log.{Happening, nothing, fired, event, query, happening_of}
 
 -- the result, seen by view, is what the definition says, unless memory ran out
@@ -41,17 +40,22 @@ without_mark line = if bytes_eq (take 3 line) (239 ∷ 187 ∷ 191 ∷ []) then 
 abbrev pub bare : Bool → List ℕ → List ℕ
 bare is_first line = without_return (if is_first then without_mark line else line)
 
--- what a line says; a comment and a line without words say nothing, and a date before it isn't read
+-- what a line says; a comment and a line without words say nothing, and a date before it is no word of it
 abbrev pub line_said : List ℕ → Result Happening Cause
 line_said line = if is_comment line then Ok nothing else words_said (behind_date (words_of line))
 
--- Events and queries, and what is wrong with bad lines, each with the number of its line; and how many lines there are,
--- which stops at 2^64 - 1.
+-- the date before a line; no bytes where there is none
+abbrev pub line_date : List ℕ → List ℕ
+line_date line = if is_comment line then [] else date_text (words_of line)
+
+-- Events and queries, what is wrong with bad lines, and the dates that lines have, each with the number of its line; and
+-- how many lines there are, which stops at 2^64 - 1.
 pub record LogView : Type 0 where
-  pub fired : List (ℕ × EventIdentity)
-  pub events : List (ℕ × EventIdentity)
-  pub queries : List (ℕ × QueryIdentity)
+  pub fired : List (ℕ × Identity)
+  pub events : List (ℕ × Identity)
+  pub queries : List (ℕ × Identity)
   pub bad : List (ℕ × Cause)
+  pub dates : List (ℕ × List ℕ)
   pub lines : ℕ
 
 abbrev pub with_happening : LogView → ℕ → Happening → LogView
@@ -65,31 +69,35 @@ abbrev pub with_said : LogView → ℕ → Result Happening Cause → LogView
 with_said log n (Ok h) = with_happening log n h
 with_said log n (Err cause) = record log { bad = log.bad ++ (n, cause) ∷ [] }
 
+abbrev pub with_date : LogView → ℕ → List ℕ → LogView
+with_date log n date = if length date == 0 then log else record log { dates = log.dates ++ (n, date) ∷ [] }
+
+-- a line that says this, of this date
+abbrev pub with_line : LogView → ℕ → List ℕ → LogView
+with_line log n line = with_said (with_date log n (line_date line)) n (line_said line)
+
 abbrev pub next_line : LogView → ℕ
 next_line log = min (log.lines + 1) (2 ^ 64 - 1)
 
 abbrev pub after_line : LogView → List ℕ → LogView
-after_line log line = with_said (record log { lines = next_line log }) (next_line log) (line_said (bare (log.lines == 0) line))
+after_line log line = with_line (record log { lines = next_line log }) (next_line log) (bare (log.lines == 0) line)
 
 -- what the lines of a log say, in order
 abbrev pub log_of : List (List ℕ) → LogView
-log_of lines = fold after_line (record { fired = []; events = []; queries = []; bad = []; lines = 0 }) lines
+log_of lines = fold after_line (record { fired = []; events = []; queries = []; bad = []; dates = []; lines = 0 }) lines
 
 -- a line is answered by nothing, and none is refused
 abbrev pub log_answer : List (List ℕ) → List ℕ → Result (List ℕ) Cause
 log_answer before line = Ok []
 
-abbrev pub event_seen : EventEntry → ℕ × EventIdentity
-event_seen e = (e.line, event_identity e)
-
-abbrev pub query_seen : QueryEntry → ℕ × QueryIdentity
-query_seen q = (q.line, query_identity q)
-
 abbrev pub bad_seen : BadLine → ℕ × Cause
 bad_seen b = (b.line, b.cause)
 
+abbrev pub date_seen : DatedLine → ℕ × List ℕ
+date_seen d = (d.line, d.date.items)
+
 abbrev pub log_view : Log → LogView
-log_view log = record { fired = map event_seen log.fired.items; events = map event_seen log.events.items; queries = map query_seen log.queries.items; bad = map bad_seen log.bad.items; lines = log.lines }
+log_view log = record { fired = map event_seen log.fired.items; events = map event_seen log.events.items; queries = map query_seen log.queries.items; bad = map bad_seen log.bad.items; dates = map date_seen log.dates.items; lines = log.lines }
 
 -- what the code holds of a line
 abbrev pub happening_view : Held → Happening

@@ -2,21 +2,16 @@
 
 ghost use Rattle.std.specs.Prelude.{◌≡◌, ◌++◌, ◌∷◌, [], IfOk, List, OnOk, map};
 ghost use Rattle.std.specs.HashSet.{contains};
-ghost use Rattle.serf_judge.specs.Again.{firsts_of, repeats_of};
+ghost use Rattle.serf_judge.specs.Again.{firsts_of};
+ghost use Rattle.serf_judge.specs.Identity.{handed_seen, key_eq};
 ghost use Rattle.serf_judge.specs.Seen.{AreFirsts, AreRepeats};
-ghost use Rattle.serf_judge.specs.declared.again.Keyed.{Keyed as Line};
+ghost use Rattle.serf_judge.specs.Tallies.{repeats_among};
+ghost use Rattle.serf_judge.specs.declared.key.Handed.{Handed as Line};
 
-use crate::tally::Handed;
+use crate::key::{Handed, Key};
 use std::alloc::{AllocError, Global};
 use std::collections::HashSet;
 use std::hash::Hash;
-
-/// A line that hands something to a node, and a key of what it hands.
-#[derive(Clone, Copy)]
-pub(crate) struct Keyed<'a, K> {
-    pub(crate) key: K,
-    pub(crate) handed: Handed<'a>,
-}
 
 /// Notes a key, and keeps it where none that is noted equals it.
 fn keep_first<K: Eq + Hash + Copy>(
@@ -49,31 +44,30 @@ pub(crate) fn firsts<K: Eq + Hash + Copy>(alloc: Global, keys: &[K]) -> Result<V
 }
 
 /// Notes a line's key, and keeps the line where one that is noted equals it.
-fn keep_repeat<'a, K: Eq + Hash + Copy>(
-    noted: &mut HashSet<K>,
+fn keep_repeat<'a>(
+    noted: &mut HashSet<Key<'a>>,
     found: &mut Vec<Handed<'a>>,
-    line: &Keyed<'a, K>,
+    line: &Handed<'a>,
 ) -> Result<(), AllocError>
-    ensures { (lines : List (Line K))
-        → AreRepeats K.eq lines found.old.items (contains K.eq noted.old)
-        → OnOk result (AreRepeats K.eq (lines ++ line.now ∷ []) found.new.items
-        (contains K.eq noted.new)) }
+    ensures { (lines : List Line) → AreRepeats lines found.old.items (contains key_eq noted.old)
+        → OnOk result (AreRepeats (lines ++ line.now ∷ []) found.new.items
+        (contains key_eq noted.new)) }
 {
     let is_new = noted.insert(line.key)?;
     if is_new {
         return Ok(());
     }
-    found.push(line.handed)?;
+    found.push(*line)?;
     Ok(())
 }
 
-/// The lines whose key equals that of a line before them, in order.
-pub(crate) fn repeats<'a, K: Eq + Hash + Copy>(
+/// The lines that hand a node what a line before them handed it, in order.
+pub(crate) fn repeats<'a>(
     alloc: Global,
-    lines: &[Keyed<'a, K>],
+    lines: &[Handed<'a>],
 ) -> Result<Vec<Handed<'a>>, AllocError>
-    ensures { IfOk result (λ found. found.items
-        ≡ map (λ l. l.handed) (repeats_of (λ x y. K.eq x.key y.key) lines.entry.now)) }
+    ensures { IfOk result (λ found. map handed_seen found.items
+        ≡ repeats_among (map handed_seen lines.entry.now)) }
 {
     let mut noted = HashSet::new(alloc);
     let mut found = Vec::new(alloc);

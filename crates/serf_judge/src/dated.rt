@@ -1,7 +1,9 @@
 //! A date and a time of day before a line.
 
-ghost use Rattle.std.specs.Prelude.{◌≡◌, map};
-ghost use Rattle.serf_judge.specs.Dated.{begins_as_clock, begins_as_date, behind_clock, behind_date, has_byte, has_digit};
+ghost use Rattle.std.specs.Prelude.{◌≡◌, ◌++◌, IfOk, OnOk, map};
+ghost use Rattle.serf_judge.specs.Dated.{begins_as_clock, begins_as_date, behind_clock, behind_date, clock_text, date_text, has_byte, has_digit};
+
+use std::alloc::{AllocError, Global};
 
 /// Whether a word has a decimal digit at this place.
 fn is_digit_at(word: &[u8], place: usize) -> bool
@@ -65,4 +67,35 @@ pub(crate) fn cut_date<'w, 'a>(words: &'w [&'a [u8]]) -> &'w [&'a [u8]]
         return cut_clock(rest);
     }
     words
+}
+
+/// Appends a time of day behind a space, where one stands first.
+fn put_clock(text: &mut Vec<u8>, words: &[&[u8]]) -> Result<(), AllocError>
+    ensures { OnOk result (text.new.items
+        ≡ text.old.items ++ clock_text (map (λ w. w.now) words.now)) }
+{
+    let Some((first, _)) = words.split_first() else {
+        return Ok(());
+    };
+    if !is_clock(first) {
+        return Ok(());
+    }
+    text.extend_from_slice(b" ")?;
+    text.extend_from_slice(first)
+}
+
+/// The date and the time of day before a line's other words, as they stand there; no bytes where no date stands first.
+pub(crate) fn date_of(alloc: Global, words: &[&[u8]]) -> Result<Vec<u8>, AllocError>
+    ensures { IfOk result (λ text. text.items ≡ date_text (map (λ w. w.now) words.now)) }
+{
+    let mut text = Vec::new(alloc);
+    let Some((first, rest)) = words.split_first() else {
+        return Ok(text);
+    };
+    if !is_date(first) {
+        return Ok(text);
+    }
+    text.extend_from_slice(first)?;
+    put_clock(&mut text, rest)?;
+    Ok(text)
 }

@@ -1,9 +1,8 @@
 //! Whether each event that was handed out was fired before.
 
-ghost use Rattle.std.specs.Prelude.{◌≡◌, ◌↔◌, ◌+◌, ℕ, IfOk, IsTrue, List, MatchOption, OnOk, Some, nat_lt, slice_get, true};
-ghost use Rattle.std.specs.HashMap.{get};
+ghost use Rattle.std.specs.Prelude.{◌≡◌, ◌++◌, ◌∷◌, ℕ, [], IfOk, List, MatchOption, OnOk, Some, nat_le, position};
 ghost use Rattle.serf_judge.specs.declared.entry.EventEntry.{EventEntry as Entry};
-ghost use Rattle.serf_judge.specs.Fired.{AreAllFired, AreFirstLines, IsFiredBefore, IsFirstUnfired, NotesLines, content_key_eq, content_of, key_content};
+ghost use Rattle.serf_judge.specs.Fired.{AreAllFired, AreNoted, IsFirstUnfired, content_of, counts, firings_of, key_content, log_at, one_firing, one_more, own_firings, was_fired};
 
 use crate::entry::EventEntry;
 use std::alloc::{AllocError, Global};
@@ -27,80 +26,158 @@ pub(crate) fn content_key(entry: &EventEntry) -> ContentKey<'_>
     }
 }
 
-/// Whether no line up to this one is noted for an event.
-fn is_first(lines: &HashMap<ContentKey, u64>, key: &ContentKey, line: u64) -> bool
-    ensures { MatchOption (get content_key_eq lines.now key.now) (result ≡ true)
-        (λ noted. result ≡ nat_lt line noted) }
+/// Where an event was fired.
+#[derive(Clone, Copy)]
+pub(crate) struct Firings {
+    /// The number of the first line that fires it.
+    first_line: u64,
+    /// Of several logs the last one that has such a line, counted from 0.
+    last_log: usize,
+}
+
+fn is_from(start: &u64, line: u64) -> bool
+    ensures { result ≡ nat_le line start.now }
 {
-    match lines.get(key) {
-        Some(noted) => line < *noted,
-        None => true,
+    line <= *start
+}
+
+/// The first log, counted from 0 behind the first one, that begins behind a line.
+fn next_start(starts: &[u64], line: u64) -> Option<usize>
+    ensures { result ≡ position (λ s. nat_le line s) starts.now }
+{
+    starts.iter().position(|start| is_from(start, line))
+}
+
+/// Of several logs the one that has a line, counted from 0.
+fn log_of(starts: &[u64], line: u64) -> usize
+    ensures { result ≡ log_at starts.now line }
+{
+    match next_start(starts, line) {
+        Some(log) => log,
+        None => starts.len(),
     }
 }
 
-/// Notes the line of a firing, where none up to it is noted.
+fn firing_of(starts: &[u64], entry: &EventEntry) -> Firings
+    ensures { result ≡ one_firing starts.now entry.now }
+{
+    Firings {
+        first_line: entry.line,
+        last_log: log_of(starts, entry.line),
+    }
+}
+
+/// What is noted, and one firing more.
+fn with_firing(noted: Firings, starts: &[u64], entry: &EventEntry) -> Firings
+    ensures { result ≡ one_more starts.now noted entry.now }
+{
+    Firings {
+        first_line: noted.first_line.min(entry.line),
+        last_log: noted.last_log.max(log_of(starts, entry.line)),
+    }
+}
+
+/// The firings of an event that are noted, and this one.
+fn noted_with(
+    table: &HashMap<ContentKey, Firings>,
+    key: &ContentKey,
+    starts: &[u64],
+    entry: &EventEntry,
+) -> Firings
+    ensures { (fired : List Entry) → AreNoted starts.now fired table.now
+        → firings_of starts.now (own_firings key.now fired ++ entry.now ∷ []) ≡ Some result }
+{
+    match table.get(key) {
+        Some(noted) => with_firing(*noted, starts, entry),
+        None => firing_of(starts, entry),
+    }
+}
+
+/// Notes a firing.
 fn note<'a>(
-    lines: &mut HashMap<ContentKey<'a>, u64>,
+    table: &mut HashMap<ContentKey<'a>, Firings>,
+    starts: &[u64],
     entry: &'a EventEntry,
 ) -> Result<(), AllocError>
-    ensures { (fired : List Entry) (n : ℕ)
-        → NotesLines fired n (λ q. get content_key_eq lines.old q)
-        → slice_get fired n ≡ Some entry.entry.now
-        → OnOk result (NotesLines fired (n + 1) (λ q. get content_key_eq lines.new q)) }
+    ensures { (fired : List Entry) → AreNoted starts.now fired table.old
+        → OnOk result (AreNoted starts.now (fired ++ entry.entry.now ∷ []) table.new) }
 {
     let key = content_key(entry);
-    if !is_first(lines, &key, entry.line) {
-        return Ok(());
-    }
-    match lines.insert(key, entry.line) {
+    let firings = noted_with(table, &key, starts, entry);
+    match table.insert(key, firings) {
         Ok(_) => Ok(()),
         Err(_) => Err(AllocError),
     }
 }
 
-/// The first line on which each event was fired.
-fn first_lines<'a>(
+/// Where each event was fired.
+fn all_firings<'a>(
     alloc: Global,
+    starts: &[u64],
     fired: &'a [EventEntry],
-) -> Result<HashMap<ContentKey<'a>, u64>, AllocError>
-    ensures { IfOk result (AreFirstLines fired.entry.now) }
+) -> Result<HashMap<ContentKey<'a>, Firings>, AllocError>
+    ensures { IfOk result (AreNoted starts.now fired.entry.now) }
 {
-    let mut lines = HashMap::new(alloc);
+    let mut table = HashMap::new(alloc);
     for entry in fired {
-        note(&mut lines, entry)?;
+        note(&mut table, starts, entry)?;
     }
-    Ok(lines)
+    Ok(table)
 }
 
-/// Whether an event that was handed out was fired on an earlier line.
-fn is_fired(lines: &HashMap<ContentKey, u64>, event: &EventEntry) -> bool
-    ensures { (fired : List Entry) → AreFirstLines fired lines.now
-        → IsTrue result ↔ IsFiredBefore fired event.now }
+/// Whether one of these firings stands above a line of a log, or in a later log.
+fn is_before(noted: Firings, line: u64, log: usize) -> bool
+    ensures { result ≡ counts line log noted }
+{
+    noted.first_line < line || log < noted.last_log
+}
+
+/// Whether an event that was handed out was fired above it, or in a later log.
+fn is_fired(table: &HashMap<ContentKey, Firings>, starts: &[u64], event: &EventEntry) -> bool
+    ensures { (fired : List Entry) → AreNoted starts.now fired table.now
+        → result ≡ was_fired starts.now fired event.now }
 {
     let key = content_key(event);
-    match lines.get(&key) {
-        Some(line) => *line < event.line,
+    match table.get(&key) {
+        Some(noted) => is_before(*noted, event.line, log_of(starts, event.line)),
         None => false,
     }
 }
 
+/// The place of the first event that is not noted as fired.
+fn unfired_by(
+    table: &HashMap<ContentKey, Firings>,
+    starts: &[u64],
+    events: &[EventEntry],
+) -> Option<usize>
+    ensures { (fired : List Entry) → AreNoted starts.now fired table.now
+        → MatchOption result (AreAllFired starts.now fired events.now)
+        (IsFirstUnfired starts.now fired events.now) }
+{
+    for (place, event) in events.iter().enumerate() {
+        if !is_fired(table, starts, event) {
+            return Some(place);
+        }
+    }
+    None
+}
+
 /// The place of the first event that was handed out and that no node had fired at its time on an earlier line; `None`
-/// where each was.
+/// where each was. Where the entries are those of several logs, one after another, a firing in another log counts
+/// wherever it stands, and `starts` says how many lines come before each log but the first. It is empty for one log.
 ///
-/// Each entry is looked up once by its hash. It is an `AllocError` only where there is no memory for that.
+/// Each entry is looked up once by its hash, and its log by a walk over `starts`. It is an `AllocError` only where there
+/// is no memory for that.
 pub fn first_unfired(
     alloc: Global,
+    starts: &[u64],
     fired: &[EventEntry],
     events: &[EventEntry],
 ) -> Result<Option<usize>, AllocError>
-    ensures { IfOk result (λ place. MatchOption place (AreAllFired fired.now events.now)
-        (IsFirstUnfired fired.now events.now)) }
+    ensures { IfOk result (λ place. MatchOption place
+        (AreAllFired starts.now fired.now events.now)
+        (IsFirstUnfired starts.now fired.now events.now)) }
 {
-    let lines = first_lines(alloc, fired)?;
-    for (place, event) in events.iter().enumerate() {
-        if !is_fired(&lines, event) {
-            return Ok(Some(place));
-        }
-    }
-    Ok(None)
+    let table = all_firings(alloc, starts, fired)?;
+    Ok(unfired_by(&table, starts, events))
 }

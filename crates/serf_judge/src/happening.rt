@@ -11,7 +11,7 @@ use serf_text::{Cause, StreamLineFault, number};
 use std::alloc::Global;
 
 /// What a line says.
-#[derive(Debug, Drop)]
+#[derive(Drop)]
 pub(crate) enum Happening {
     Nothing,
     Fired(EventEntry),

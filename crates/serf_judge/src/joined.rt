@@ -4,7 +4,7 @@ ghost use Rattle.std.specs.Prelude.{◌≡◌, ◌++◌, IfOk, map};
 ghost use Rattle.serf_judge.specs.Joined.{joined_logs, moved_on};
 ghost use Rattle.serf_judge.specs.Said.{log_view};
 
-use crate::entry::{BadLine, EventEntry, QueryEntry};
+use crate::entry::{BadLine, DatedLine, EventEntry, QueryEntry};
 use crate::log::Log;
 use std::alloc::AllocError;
 
@@ -23,10 +23,9 @@ trait Numbered: Sized {
 }
 
 impl Numbered for EventEntry {
-    ghost use Rattle.serf_judge.specs.Identity.{EventIdentity};
-    ghost use Rattle.serf_judge.specs.Said.{event_seen};
+    ghost use Rattle.serf_judge.specs.Identity.{Identity, event_seen};
 
-    ghost Said = { EventIdentity };
+    ghost Said = { Identity };
 
     ghost seen = { event_seen };
 
@@ -38,10 +37,9 @@ impl Numbered for EventEntry {
 }
 
 impl Numbered for QueryEntry {
-    ghost use Rattle.serf_judge.specs.Identity.{QueryIdentity};
-    ghost use Rattle.serf_judge.specs.Said.{query_seen};
+    ghost use Rattle.serf_judge.specs.Identity.{Identity, query_seen};
 
-    ghost Said = { QueryIdentity };
+    ghost Said = { Identity };
 
     ghost seen = { query_seen };
 
@@ -65,6 +63,21 @@ impl Numbered for BadLine {
             line: self.line.saturating_add(lines),
             cause: self.cause,
         }
+    }
+}
+
+impl Numbered for DatedLine {
+    ghost use Rattle.std.specs.Prelude.{List, ℕ};
+    ghost use Rattle.serf_judge.specs.Said.{date_seen};
+
+    ghost Said = { List ℕ };
+
+    ghost seen = { date_seen };
+
+    fn further_on(self, lines: u64) -> DatedLine {
+        let mut moved = self;
+        moved.line = moved.line.saturating_add(lines);
+        moved
     }
 }
 
@@ -92,6 +105,7 @@ pub fn join_logs(first: Log, more: Log) -> Result<Log, AllocError>
         events: joined(first.events, more.events, lines)?,
         queries: joined(first.queries, more.queries, lines)?,
         bad: joined(first.bad, more.bad, lines)?,
+        dates: joined(first.dates, more.dates, lines)?,
         lines: lines.saturating_add(more.lines),
     })
 }

@@ -1,73 +1,63 @@
 //! What a snapshot leaves open, and whether it is one of a node that the log has.
 
-ghost use Rattle.std.specs.Prelude.{◌≡◌, ◌&&◌, nat_lt, position};
+ghost use Rattle.std.specs.Prelude.{◌≡◌, position};
 ghost use Rattle.std.specs.List.{list_any};
-ghost use Rattle.std.specs.Str.{bytes_eq};
 ghost use Rattle.serf_text.specs.Lines.{lines_of};
-ghost use Rattle.serf_judge.specs.Kept.{begins_as_kept, counted_lines, has_event_of, has_line_of, has_query_of, is_kept_line, is_leave, is_snapshot_text};
+ghost use Rattle.serf_judge.specs.Kept.{begins_as_kept, counted_lines, has_line_of, is_kept_line, is_leave, is_line_above, is_line_of, is_line_wanted, is_own, is_own_text, is_sealed, is_snapshot_text, is_torn, is_torn_clock_word};
 
-use crate::entry::{EventEntry, QueryEntry};
+use crate::key::HandedOut;
 use crate::log::Log;
 use serf_text::cut;
 
-fn is_above(entry: &EventEntry, node: &[u8], clock: u64) -> bool
-    ensures { result ≡ (bytes_eq entry.now.node.items node.now && nat_lt clock entry.now.time) }
+fn is_of<E: HandedOut>(entry: &E, node: &[u8]) -> bool
+    ensures { result ≡ is_line_of E.seen node.now entry.now }
 {
-    entry.node.as_slice() == node && clock < entry.time
+    entry.handed().key.node == node
 }
 
-/// The place of the first event that was handed to this node at a time above this clock. A node that is opened again on
-/// a snapshot which keeps this event clock may be handed that event again. Takes no memory.
-pub fn first_above(entries: &[EventEntry], node: &[u8], clock: u64) -> Option<usize>
-    ensures { result
-        ≡ position (λ e. bytes_eq e.node.items node.now && nat_lt clock e.time) entries.now }
+fn is_above<E: HandedOut>(entry: &E, node: &[u8], clock: u64) -> bool
+    ensures { result ≡ is_line_above E.seen node.now clock entry.now }
+{
+    let key = entry.handed().key;
+    key.node == node && clock < key.time
+}
+
+/// The place of the first event, or of the first query, that was handed to this node at a time above this clock. A node
+/// that is opened again on a snapshot which keeps this clock may be handed it again. Takes no memory.
+pub fn first_above<E: HandedOut>(entries: &[E], node: &[u8], clock: u64) -> Option<usize>
+    ensures { result ≡ position (is_line_above E.seen node.now clock) entries.now }
 {
     entries
         .iter()
         .position(|entry| is_above(entry, node, clock))
 }
 
-fn is_query_above(query: &QueryEntry, node: &[u8], clock: u64) -> bool
-    ensures { result ≡ (bytes_eq query.now.node.items node.now && nat_lt clock query.now.time) }
+fn is_among<E: HandedOut>(entries: &[E], node: &[u8]) -> bool
+    ensures { result ≡ list_any (is_line_of E.seen node.now) entries.now }
 {
-    query.node.as_slice() == node && clock < query.time
-}
-
-/// As [`first_above`], of queries and a query clock.
-pub fn first_query_above(entries: &[QueryEntry], node: &[u8], clock: u64) -> Option<usize>
-    ensures { result
-        ≡ position (λ q. bytes_eq q.node.items node.now && nat_lt clock q.time) entries.now }
-{
-    entries
-        .iter()
-        .position(|query| is_query_above(query, node, clock))
-}
-
-fn is_in_events(entries: &[EventEntry], node: &[u8]) -> bool
-    ensures { result ≡ has_event_of node.now entries.now }
-{
-    entries.iter().any(|entry| entry.node.as_slice() == node)
-}
-
-fn is_in_queries(entries: &[QueryEntry], node: &[u8]) -> bool
-    ensures { result ≡ has_query_of node.now entries.now }
-{
-    entries.iter().any(|entry| entry.node.as_slice() == node)
+    entries.iter().any(|entry| is_of(entry, node))
 }
 
 /// Whether a log says that this node fired an event, or was handed an event or a query. Takes no memory.
 pub fn has_node(log: &Log, node: &[u8]) -> bool
     ensures { result ≡ has_line_of node.now log.now }
 {
-    is_in_events(log.events.as_slice(), node)
-        || is_in_queries(log.queries.as_slice(), node)
-        || is_in_events(log.fired.as_slice(), node)
+    is_among(log.events.as_slice(), node)
+        || is_among(log.queries.as_slice(), node)
+        || is_among(log.fired.as_slice(), node)
 }
 
 fn is_leave_line(line: &[u8]) -> bool
     ensures { result ≡ is_leave line.now }
 {
     line == b"leave".as_slice()
+}
+
+/// Whether a line begins as those do that an agent of this project alone writes.
+fn is_own_line(line: &[u8]) -> bool
+    ensures { result ≡ is_own line.now }
+{
+    line.starts_with(b"#event ") || line.starts_with(b"#query ") || line.starts_with(b"#least ")
 }
 
 fn begins_as_kept_line(line: &[u8]) -> bool
@@ -81,13 +71,65 @@ fn begins_as_kept_line(line: &[u8]) -> bool
         || line.starts_with(b"coordinate: ")
 }
 
-fn has_kept_line(text: &[u8]) -> bool
-    ensures { result ≡ list_any is_kept_line (lines_of text.now) }
+fn is_torn_clock(bytes: &[u8]) -> bool
+    ensures { result ≡ is_torn_clock_word bytes.now }
+{
+    b"clock: ".starts_with(bytes)
+        || b"event-clock: ".starts_with(bytes)
+        || b"query-clock: ".starts_with(bytes)
+}
+
+/// Whether these bytes are what a crash may leave of the word that such a line begins with.
+fn is_torn_word(bytes: &[u8]) -> bool
+    ensures { result ≡ is_torn bytes.now }
+{
+    is_torn_clock(bytes)
+        || b"alive: ".starts_with(bytes)
+        || b"not-alive: ".starts_with(bytes)
+        || b"coordinate: ".starts_with(bytes)
+        || b"leave".starts_with(bytes)
+}
+
+/// Whether a line is what an opening makes of a torn one, which it ends by `#`.
+fn is_sealed_line(line: &[u8]) -> bool
+    ensures { result ≡ is_sealed line.now }
+{
+    match line.split_last() {
+        Some((last, front)) => *last == b'#' && !front.is_empty() && is_torn_word(front),
+        None => false,
+    }
+}
+
+fn is_line_of_snapshot(line: &[u8]) -> bool
+    ensures { result ≡ is_kept_line line.now }
+{
+    is_leave_line(line) || begins_as_kept_line(line) || is_own_line(line) || is_sealed_line(line)
+}
+
+/// Whether a text is that of a snapshot: it is empty, or has a line that Serf writes into snapshots, or an agent of this
+/// project. Takes no memory.
+pub fn is_snapshot(text: &[u8]) -> bool
+    ensures { result ≡ is_snapshot_text text.now }
+{
+    text.is_empty() || has_line(text, false)
+}
+
+/// Whether a snapshot has a line that an agent of this project writes, and Serf never does: what it keeps of events and
+/// queries. Such an agent goes on from all lines, also from those before a line `leave`. Takes no memory.
+pub fn is_own_snapshot(text: &[u8]) -> bool
+    ensures { result ≡ is_own_text text.now }
+{
+    has_line(text, true)
+}
+
+/// Whether a text has a line of a snapshot, or such a line of an agent of this project.
+fn has_line(text: &[u8], own: bool) -> bool
+    ensures { result ≡ list_any (is_line_wanted own) (lines_of text.now) }
 {
     let mut rest = text;
     'lines: loop {
         let (line, more) = cut(rest, b'\n');
-        if is_leave_line(line) || begins_as_kept_line(line) {
+        if is_wanted(line, own) {
             return true;
         }
         match more {
@@ -97,12 +139,14 @@ fn has_kept_line(text: &[u8]) -> bool
     }
 }
 
-/// Whether a text is that of a snapshot: it is empty, or has a line that Serf writes into snapshots, or an agent of this
-/// project. Takes no memory.
-pub fn is_snapshot(text: &[u8]) -> bool
-    ensures { result ≡ is_snapshot_text text.now }
+fn is_wanted(line: &[u8], own: bool) -> bool
+    ensures { result ≡ is_line_wanted own line.now }
 {
-    text.is_empty() || has_kept_line(text)
+    if own {
+        is_own_line(line)
+    } else {
+        is_line_of_snapshot(line)
+    }
 }
 
 /// What counts of a snapshot where Serf is started without `-rejoin`: what stands after the last line `leave`, and all

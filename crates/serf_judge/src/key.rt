@@ -1,44 +1,89 @@
-//! What tells an event from others, lent by its entry.
+//! What tells an event, or a query, from others, lent by its line.
 
-ghost use Rattle.std.specs.Prelude.{◌≡◌};
-ghost use Rattle.serf_judge.specs.Identity.{event_identity, key_identity, query_identity, query_key_identity};
+ghost use Rattle.std.specs.Prelude.{◌≡◌, IfOk, map};
+ghost use Rattle.serf_judge.specs.Identity.{handed_seen};
 
 use crate::entry::{EventEntry, QueryEntry};
+use std::alloc::{AllocError, Global};
 
-/// The node, and the time, the name and the payload of an event.
+/// The node that was handed something, and what it was: an event has no ID, and a query no texts.
 #[derive(Clone, Copy, PartialEq, Eq, Hash)]
-pub(crate) struct EventKey<'a> {
-    pub(crate) node: &'a [u8],
-    pub(crate) time: u64,
-    pub(crate) name: &'a [u8],
-    pub(crate) payload: &'a [u8],
+pub struct Key<'a> {
+    pub node: &'a [u8],
+    pub time: u64,
+    pub id: Option<u64>,
+    pub name: &'a [u8],
+    pub payload: &'a [u8],
 }
 
-pub(crate) fn key_of(entry: &EventEntry) -> EventKey<'_>
-    ensures { key_identity result ≡ event_identity entry.now }
-{
-    EventKey {
-        node: entry.node.as_slice(),
-        time: entry.time,
-        name: entry.name.as_slice(),
-        payload: entry.payload.as_slice(),
+/// A line that hands something to a node.
+#[derive(Clone, Copy)]
+pub struct Handed<'a> {
+    /// The number of the line.
+    pub line: u64,
+    pub key: Key<'a>,
+}
+
+/// What a line of a log hands to a node: an event or a query.
+pub trait HandedOut: Sized {
+    ghost use Rattle.std.specs.Prelude.{◌≡◌, ℕ};
+    ghost use Rattle.serf_judge.specs.Identity.{Identity, handed_seen};
+
+    ghost seen: { Self → ℕ × Identity };
+
+    /// The line, with what tells it from others. Takes no memory.
+    fn handed(&self) -> Handed<'_>
+        ensures { handed_seen result ≡ seen self.now };
+}
+
+impl HandedOut for EventEntry {
+    ghost use Rattle.serf_judge.specs.Identity.{event_seen};
+
+    ghost seen = { event_seen };
+
+    fn handed(&self) -> Handed<'_> {
+        Handed {
+            line: self.line,
+            key: Key {
+                node: self.node.as_slice(),
+                time: self.time,
+                id: None,
+                name: self.name.as_slice(),
+                payload: self.payload.as_slice(),
+            },
+        }
     }
 }
 
-/// The node, and the time and the ID of a query.
-#[derive(Clone, Copy, PartialEq, Eq, Hash)]
-pub(crate) struct QueryKey<'a> {
-    pub(crate) node: &'a [u8],
-    pub(crate) time: u64,
-    pub(crate) id: Option<u64>,
+impl HandedOut for QueryEntry {
+    ghost use Rattle.serf_judge.specs.Identity.{query_seen};
+
+    ghost seen = { query_seen };
+
+    fn handed(&self) -> Handed<'_> {
+        Handed {
+            line: self.line,
+            key: Key {
+                node: self.node.as_slice(),
+                time: self.time,
+                id: self.id,
+                name: &[],
+                payload: &[],
+            },
+        }
+    }
 }
 
-pub(crate) fn query_key_of(entry: &QueryEntry) -> QueryKey<'_>
-    ensures { query_key_identity result ≡ query_identity entry.now }
+/// The lines of some entries, in order.
+pub(crate) fn handed_lines<'a, E: HandedOut>(
+    alloc: Global,
+    entries: &'a [E],
+) -> Result<Vec<Handed<'a>>, AllocError>
+    ensures { IfOk result (λ lines. map handed_seen lines.items ≡ map E.seen entries.entry.now) }
 {
-    QueryKey {
-        node: entry.node.as_slice(),
-        time: entry.time,
-        id: entry.id,
+    let mut lines = Vec::new(alloc);
+    for entry in entries {
+        lines.push(entry.handed())?;
     }
+    Ok(lines)
 }

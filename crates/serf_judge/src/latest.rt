@@ -11,7 +11,7 @@ use std::alloc::AllocError;
 use std::collections::HashMap;
 
 /// An event's time and its place.
-#[derive(Clone, Copy, Debug)]
+#[derive(Clone, Copy)]
 pub(crate) struct Latest {
     pub(crate) time: u64,
     pub(crate) place: usize,

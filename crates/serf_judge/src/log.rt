@@ -5,10 +5,11 @@ ghost use Rattle.std.specs.Io.KnownBytes.{Consumes, IsAtEnd};
 ghost use Rattle.serf_text.specs.Words.{words_of};
 ghost use Rattle.serf_text.specs.Lines.{lines_of};
 ghost use Rattle.serf_text.specs.Streams.{IsStopped};
-ghost use Rattle.serf_judge.specs.Said.{IsAt, Says, bare, happening_view, is_comment, line_said, log_answer, log_of, log_view, with_happening, with_said, without_mark, without_return};
+ghost use Rattle.serf_judge.specs.Dated.{behind_date, date_text};
+ghost use Rattle.serf_judge.specs.Said.{IsAt, Says, bare, happening_view, is_comment, log_answer, log_of, log_view, with_date, with_happening, with_line, with_said, without_mark, without_return, words_said};
 
-use crate::dated::cut_date;
-use crate::entry::{BadLine, EventEntry, QueryEntry};
+use crate::dated::{cut_date, date_of};
+use crate::entry::{BadLine, DatedLine, EventEntry, QueryEntry};
 use crate::happening::{Happening, happening_in};
 use serf_text::{Cause, LineJob, StreamFault, StreamLineFault, answer_lines, cut};
 use std::alloc::{AllocError, Global};
@@ -16,13 +17,15 @@ use std::io;
 use std::io::{Read, Write};
 
 /// What a log says: events that were fired, and events and queries that were handed out; and its lines that are not
-/// sound. Each is in the log's order.
-#[derive(Debug, Drop)]
+/// sound, and the dates of those that have one. Each is in the log's order.
+#[derive(Drop)]
 pub struct Log {
     pub fired: Vec<EventEntry>,
     pub events: Vec<EventEntry>,
     pub queries: Vec<QueryEntry>,
     pub bad: Vec<BadLine>,
+    /// The dates of its lines, of those that have one.
+    pub dates: Vec<DatedLine>,
     /// How many lines it has, with an empty one after a last newline; it stops at 2^64 - 1.
     pub lines: u64,
 }
@@ -86,23 +89,17 @@ fn bare_line(line: &[u8], is_first: bool) -> &[u8]
     }
 }
 
-/// What the line of this number says.
+/// What the words of the line of this number say.
 fn happening_on(
     alloc: Global,
     number: u64,
-    line: &[u8],
+    words: &[&[u8]],
 ) -> Result<Happening, StreamLineFault<Cause>>
-    ensures said { Says happening_view result (line_said line.now) }
+    ensures said { Says happening_view result
+        (words_said (behind_date (map (λ w. w.now) words.now))) }
     ensures line { IfOk result (IsAt number) }
 {
-    if is_comment_line(line) {
-        return Ok(Happening::Nothing);
-    }
-    let words = match words_in(alloc, line) {
-        Ok(words) => words,
-        Err(_) => return Err(StreamLineFault::OutOfMemory),
-    };
-    let words = cut_date(words.as_slice());
+    let words = cut_date(words);
     if words.is_empty() {
         return Ok(Happening::Nothing);
     }
@@ -142,7 +139,57 @@ impl Log {
         }
     }
 
-    /// Puts what the line of this number says after the others.
+    /// Puts the date of the line of this number after the others, where it has one.
+    fn add_date(&mut self, line: u64, date: Vec<u8>) -> Result<(), AllocError>
+        ensures { OnOk result (log_view self.new
+            ≡ with_date (log_view self.old) line date.items) }
+    {
+        if date.as_slice().is_empty() {
+            return Ok(());
+        }
+        self.dates.push(DatedLine { line, date })?;
+        Ok(())
+    }
+
+    /// Puts the date of these words, which are those of the line of this number, after the others.
+    fn add_date_of(
+        &mut self,
+        alloc: Global,
+        line: u64,
+        words: &[&[u8]],
+    ) -> Result<(), StreamLineFault<Cause>>
+        ensures added { OnOk result (log_view self.new
+            ≡ with_date (log_view self.old) line (date_text (map (λ w. w.now) words.now))) }
+        ensures memory { IfErr result (λ fault. fault ≡ StreamLineFault.OutOfMemory) }
+    {
+        let Ok(date) = date_of(alloc, words) else {
+            return Err(StreamLineFault::OutOfMemory);
+        };
+        match self.add_date(line, date) {
+            Ok(()) => Ok(()),
+            Err(_) => Err(StreamLineFault::OutOfMemory),
+        }
+    }
+
+    /// Puts what the words of the line of this number say after the others.
+    fn add_words(
+        &mut self,
+        alloc: Global,
+        number: u64,
+        words: &[&[u8]],
+    ) -> Result<(), StreamLineFault<Cause>>
+        ensures added { OnOk result (log_view self.new ≡ with_said (log_view self.old) number
+            (words_said (behind_date (map (λ w. w.now) words.now)))) }
+        ensures memory { IfErr result (λ fault. fault ≡ StreamLineFault.OutOfMemory) }
+    {
+        match happening_on(alloc, number, words) {
+            Ok(happening) => self.add(number, happening),
+            Err(StreamLineFault::Bad(cause)) => self.add_bad(number, cause),
+            Err(StreamLineFault::OutOfMemory) => Err(StreamLineFault::OutOfMemory),
+        }
+    }
+
+    /// Puts the date of the line of this number, and what it says, after the others.
     fn add_line(
         &mut self,
         alloc: Global,
@@ -150,13 +197,18 @@ impl Log {
         line: &[u8],
     ) -> Result<(), StreamLineFault<Cause>>
         ensures added { OnOk result (log_view self.new
-            ≡ with_said (log_view self.old) number (line_said line.now)) }
+            ≡ with_line (log_view self.old) number line.now) }
         ensures memory { IfErr result (λ fault. fault ≡ StreamLineFault.OutOfMemory) }
     {
-        match happening_on(alloc, number, line) {
-            Ok(happening) => self.add(number, happening),
-            Err(StreamLineFault::Bad(cause)) => self.add_bad(number, cause),
-            Err(StreamLineFault::OutOfMemory) => Err(StreamLineFault::OutOfMemory),
+        if is_comment_line(line) {
+            return Ok(());
+        }
+        let Ok(words) = words_in(alloc, line) else {
+            return Err(StreamLineFault::OutOfMemory);
+        };
+        match self.add_date_of(alloc, number, words.as_slice()) {
+            Ok(()) => self.add_words(alloc, number, words.as_slice()),
+            Err(fault) => Err(fault),
         }
     }
 }
@@ -209,8 +261,8 @@ impl Write for Nowhere {
 ///
 /// A line is `fired NODE TIME NAME PAYLOAD`, `event NODE TIME NAME PAYLOAD`, `query NODE TIME ID` or `restarted NODE`, by
 /// words between spaces, or a line of a trace of `serf-replay`. A comment (`#`) and a line without words say nothing.
-/// A date and a time of day before the other words, a carriage return at a line's end and a byte order mark of UTF-8
-/// at the log's start say nothing. A line may have 16,777,216 bytes. A line that is not sound is kept in `bad`, with its
+/// A date and a time of day before the other words are kept in `dates`. A carriage return at a line's end and a byte
+/// order mark of UTF-8 at the log's start say nothing. A line may have 16,777,216 bytes. A line that is not sound is kept in `bad`, with its
 /// cause, and says nothing else.
 ///
 /// It is `ReadFault` where a read fails, `LineTooLong` with the number of the first longer line, and `OutOfMemory`.
@@ -230,6 +282,7 @@ pub fn read_log<R: Read>(alloc: Global, reader: &mut R) -> Result<Log, StreamFau
             events: Vec::new(alloc),
             queries: Vec::new(alloc),
             bad: Vec::new(alloc),
+            dates: Vec::new(alloc),
             lines: 0,
         },
     };

@@ -10,13 +10,13 @@ ghost use Rattle.serf_judge.specs.Nodes.{texts_of};
 use crate::again::firsts;
 use crate::entry::EventEntry;
 use crate::fired::{ContentKey, content_key};
-use crate::key::{EventKey, key_of};
-use crate::nodes::event_receivers;
+use crate::key::{HandedOut, Key};
+use crate::nodes::receivers;
 use std::alloc::{AllocError, Global};
 use std::collections::HashSet;
 
 /// An event that some node was never handed.
-#[derive(Debug, Drop)]
+#[derive(Drop)]
 pub struct MissedEvent<'a> {
     pub time: u64,
     pub name: &'a [u8],
@@ -26,7 +26,7 @@ pub struct MissedEvent<'a> {
 }
 
 /// What a log says of the events that some node was never handed.
-#[derive(Debug, Drop)]
+#[derive(Drop)]
 pub struct Missed<'a> {
     /// How many events were handed out. One that came to many nodes, or again, counts once.
     pub events: usize,
@@ -56,26 +56,24 @@ fn contents<'a>(alloc: Global, entries: &'a [EventEntry]) -> Result<Vec<ContentK
 }
 
 /// Notes what each node was handed.
-fn handed_to<'a>(
-    alloc: Global,
-    entries: &'a [EventEntry],
-) -> Result<HashSet<EventKey<'a>>, AllocError>
+fn handed_to<'a>(alloc: Global, entries: &'a [EventEntry]) -> Result<HashSet<Key<'a>>, AllocError>
     ensures { IfOk result (HasHanded entries.entry.now) }
 {
     let mut handed = HashSet::new(alloc);
     for entry in entries {
-        let _ = handed.insert(key_of(entry))?;
+        let _ = handed.insert(entry.handed().key)?;
     }
     Ok(handed)
 }
 
-fn is_missing<'a>(handed: &HashSet<EventKey<'a>>, event: ContentKey<'a>, node: &'a [u8]) -> bool
+fn is_missing<'a>(handed: &HashSet<Key<'a>>, event: ContentKey<'a>, node: &'a [u8]) -> bool
     ensures { (events : List Entry) → HasHanded events handed.now
         → result ≡ not (was_handed events (key_content event.entry) node.now) }
 {
-    let key = EventKey {
+    let key = Key {
         node,
         time: event.time,
+        id: None,
         name: event.name,
         payload: event.payload,
     };
@@ -84,7 +82,7 @@ fn is_missing<'a>(handed: &HashSet<EventKey<'a>>, event: ContentKey<'a>, node: &
 
 /// Puts a node after the others, where it was never handed an event.
 fn keep_missing<'a>(
-    handed: &HashSet<EventKey<'a>>,
+    handed: &HashSet<Key<'a>>,
     missing: &mut Vec<&'a [u8]>,
     event: ContentKey<'a>,
     node: &'a [u8],
@@ -105,7 +103,7 @@ fn keep_missing<'a>(
 /// At most so many of the nodes that were never handed an event.
 fn missing_nodes<'a>(
     alloc: Global,
-    handed: &HashSet<EventKey<'a>>,
+    handed: &HashSet<Key<'a>>,
     nodes: &[&'a [u8]],
     event: ContentKey<'a>,
     most: usize,
@@ -166,7 +164,7 @@ pub fn missed_events<'a>(
         ≡ missed_of most entries.entry.now) }
 {
     let events = contents(alloc, entries)?;
-    let nodes = event_receivers(alloc, entries)?;
+    let nodes = receivers(alloc, entries)?;
     let handed = handed_to(alloc, entries)?;
     let receivers = nodes.as_slice();
     let all = events.as_slice();

@@ -2,36 +2,23 @@
 
 ghost use Rattle.std.specs.Prelude.{◌≡◌, ◌++◌, IfOk, OnOk};
 ghost use Rattle.serf_judge.specs.Again.{firsts_of};
-ghost use Rattle.serf_judge.specs.Nodes.{event_nodes, event_receivers_of, log_nodes_of, query_nodes, query_receivers_of, texts_of};
+ghost use Rattle.serf_judge.specs.Nodes.{log_nodes_of, nodes_in, receivers_of, texts_of};
 ghost use Rattle.std.specs.Str.{bytes_eq};
 
 use crate::again::firsts;
-use crate::entry::{EventEntry, QueryEntry};
+use crate::key::HandedOut;
 use crate::log::Log;
 use std::alloc::{AllocError, Global};
 
-fn add_event_nodes<'a>(
+fn add_nodes<'a, E: HandedOut>(
     nodes: &mut Vec<&'a [u8]>,
-    entries: &'a [EventEntry],
+    entries: &'a [E],
 ) -> Result<(), AllocError>
     ensures { OnOk result (texts_of nodes.new.items
-        ≡ texts_of nodes.old.items ++ event_nodes entries.entry.now) }
+        ≡ texts_of nodes.old.items ++ nodes_in E.seen entries.entry.now) }
 {
     for entry in entries {
-        nodes.push(entry.node.as_slice())?;
-    }
-    Ok(())
-}
-
-fn add_query_nodes<'a>(
-    nodes: &mut Vec<&'a [u8]>,
-    entries: &'a [QueryEntry],
-) -> Result<(), AllocError>
-    ensures { OnOk result (texts_of nodes.new.items
-        ≡ texts_of nodes.old.items ++ query_nodes entries.entry.now) }
-{
-    for entry in entries {
-        nodes.push(entry.node.as_slice())?;
+        nodes.push(entry.handed().key.node)?;
     }
     Ok(())
 }
@@ -44,40 +31,28 @@ pub(crate) fn each_once<'a>(alloc: Global, nodes: &[&'a [u8]]) -> Result<Vec<&'a
     firsts(alloc, nodes)
 }
 
-/// Each node that was handed one of these events, once, in the order in which they come first.
+/// Each node that was handed one of these events, or one of these queries, once, in the order in which they come first.
 ///
 /// Each entry is looked up once by its hash. It is an `AllocError` only where there is no memory for that.
-pub fn event_receivers<'a>(
+pub fn receivers<'a, E: HandedOut>(
     alloc: Global,
-    entries: &'a [EventEntry],
+    entries: &'a [E],
 ) -> Result<Vec<&'a [u8]>, AllocError>
-    ensures { IfOk result (λ nodes. texts_of nodes.items ≡ event_receivers_of entries.entry.now) }
+    ensures { IfOk result (λ nodes. texts_of nodes.items ≡ receivers_of E.seen entries.entry.now) }
 {
     let mut nodes = Vec::new(alloc);
-    add_event_nodes(&mut nodes, entries)?;
-    each_once(alloc, nodes.as_slice())
-}
-
-/// As [`event_receivers`], of queries.
-pub fn query_receivers<'a>(
-    alloc: Global,
-    entries: &'a [QueryEntry],
-) -> Result<Vec<&'a [u8]>, AllocError>
-    ensures { IfOk result (λ nodes. texts_of nodes.items ≡ query_receivers_of entries.entry.now) }
-{
-    let mut nodes = Vec::new(alloc);
-    add_query_nodes(&mut nodes, entries)?;
+    add_nodes(&mut nodes, entries)?;
     each_once(alloc, nodes.as_slice())
 }
 
 /// Each node that a log names, once: as one that was handed an event or a query, or that fired an event. It takes the
-/// time and has the faults of [`event_receivers`].
+/// time and has the faults of [`receivers`].
 pub fn log_nodes<'a>(alloc: Global, log: &'a Log) -> Result<Vec<&'a [u8]>, AllocError>
     ensures { IfOk result (λ nodes. texts_of nodes.items ≡ log_nodes_of log.entry.now) }
 {
     let mut nodes = Vec::new(alloc);
-    add_event_nodes(&mut nodes, log.events.as_slice())?;
-    add_query_nodes(&mut nodes, log.queries.as_slice())?;
-    add_event_nodes(&mut nodes, log.fired.as_slice())?;
+    add_nodes(&mut nodes, log.events.as_slice())?;
+    add_nodes(&mut nodes, log.queries.as_slice())?;
+    add_nodes(&mut nodes, log.fired.as_slice())?;
     each_once(alloc, nodes.as_slice())
 }

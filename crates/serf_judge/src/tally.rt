@@ -1,24 +1,19 @@
 //! How many lines each node has, and from when to when.
 
-ghost use Rattle.std.specs.Prelude.{◌≡◌, ◌++◌, ◌∷◌, [], IfOk, List, OnOk, map};
+ghost use Rattle.std.specs.Prelude.{◌≡◌, ℕ, ◌++◌, ◌∷◌, [], IfOk, List, OnOk, map};
 ghost use Rattle.serf_judge.specs.Nodes.{texts_of};
-ghost use Rattle.serf_judge.specs.Tallies.{Handing, lines_to, nodes_of, tallies_of, tally_of, told_of};
-ghost use Rattle.serf_judge.specs.Tallied.{AreTallied, handing_of};
+ghost use Rattle.serf_judge.specs.Identity.{Identity, handed_seen};
+ghost use Rattle.serf_judge.specs.Tallies.{lines_to, nodes_of, repeats_among, tallies_of, tally_of, told_of};
+ghost use Rattle.serf_judge.specs.Tallied.{AreTallied};
 
+use crate::again::repeats;
+use crate::key::{Handed, HandedOut, handed_lines};
 use crate::nodes::each_once;
 use std::alloc::{AllocError, Global};
 use std::collections::HashMap;
 
-/// A line that hands something to a node.
-#[derive(Clone, Copy)]
-pub(crate) struct Handed<'a> {
-    pub(crate) node: &'a [u8],
-    pub(crate) time: u64,
-    pub(crate) line: u64,
-}
-
 /// Some lines of one node.
-#[derive(Clone, Copy, Debug, PartialEq, Eq)]
+#[derive(Clone, Copy, PartialEq, Eq)]
 pub struct Tally {
     /// How many they are; it stops at 2^64 - 1.
     pub count: u64,
@@ -30,7 +25,7 @@ pub struct Tally {
 }
 
 /// A node, and some of its lines.
-#[derive(Clone, Copy, Debug)]
+#[derive(Clone, Copy)]
 pub struct NodeTally<'a> {
     pub node: &'a [u8],
     pub tally: Tally,
@@ -51,13 +46,13 @@ fn no_lines() -> Tally
 
 /// These lines and one more.
 fn one_more(tally: Tally, line: Handed<'_>) -> Tally
-    ensures { (own : List Handing) → tally ≡ tally_of own
-        → result ≡ tally_of (own ++ handing_of line.entry ∷ []) }
+    ensures { (own : List (ℕ × Identity)) → tally ≡ tally_of own
+        → result ≡ tally_of (own ++ handed_seen line.entry ∷ []) }
 {
     Tally {
         count: tally.count.saturating_add(1),
-        least_time: tally.least_time.min(line.time),
-        greatest_time: tally.greatest_time.max(line.time),
+        least_time: tally.least_time.min(line.key.time),
+        greatest_time: tally.greatest_time.max(line.key.time),
         first_line: tally.first_line.min(line.line),
         last_line: tally.last_line.max(line.line),
     }
@@ -65,7 +60,7 @@ fn one_more(tally: Tally, line: Handed<'_>) -> Tally
 
 /// What is tallied for a node.
 fn tally_at(table: &HashMap<&[u8], Tally>, node: &[u8]) -> Tally
-    ensures { (lines : List Handing) → AreTallied lines table.now
+    ensures { (lines : List (ℕ × Identity)) → AreTallied lines table.now
         → result ≡ tally_of (lines_to node.now lines) }
 {
     match table.get(&node) {
@@ -76,11 +71,11 @@ fn tally_at(table: &HashMap<&[u8], Tally>, node: &[u8]) -> Tally
 
 /// Tallies one more line.
 fn add_line<'a>(table: &mut HashMap<&'a [u8], Tally>, line: Handed<'a>) -> Result<(), AllocError>
-    ensures { (lines : List Handing) → AreTallied lines table.old
-        → OnOk result (AreTallied (lines ++ handing_of line.entry ∷ []) table.new) }
+    ensures { (lines : List (ℕ × Identity)) → AreTallied lines table.old
+        → OnOk result (AreTallied (lines ++ handed_seen line.entry ∷ []) table.new) }
 {
-    let tally = one_more(tally_at(table, line.node), line);
-    match table.insert(line.node, tally) {
+    let tally = one_more(tally_at(table, line.key.node), line);
+    match table.insert(line.key.node, tally) {
         Ok(_) => Ok(()),
         Err(_) => Err(AllocError),
     }
@@ -88,7 +83,7 @@ fn add_line<'a>(table: &mut HashMap<&'a [u8], Tally>, line: Handed<'a>) -> Resul
 
 /// What each node's lines come to.
 fn table_of<'a>(alloc: Global, lines: &[Handed<'a>]) -> Result<HashMap<&'a [u8], Tally>, AllocError>
-    ensures { IfOk result (AreTallied (map handing_of lines.entry.now)) }
+    ensures { IfOk result (AreTallied (map handed_seen lines.entry.now)) }
 {
     let mut table = HashMap::new(alloc);
     for line in lines {
@@ -100,11 +95,11 @@ fn table_of<'a>(alloc: Global, lines: &[Handed<'a>]) -> Result<HashMap<&'a [u8],
 /// Each node once, in the order in which their lines come first.
 fn nodes_in_order<'a>(alloc: Global, lines: &[Handed<'a>]) -> Result<Vec<&'a [u8]>, AllocError>
     ensures { IfOk result (λ nodes. texts_of nodes.items
-        ≡ nodes_of (map handing_of lines.entry.now)) }
+        ≡ nodes_of (map handed_seen lines.entry.now)) }
 {
     let mut nodes = Vec::new(alloc);
     for line in lines {
-        nodes.push(line.node)?;
+        nodes.push(line.key.node)?;
     }
     each_once(alloc, nodes.as_slice())
 }
@@ -115,7 +110,7 @@ pub(crate) fn tallies<'a>(
     lines: &[Handed<'a>],
 ) -> Result<Vec<NodeTally<'a>>, AllocError>
     ensures { IfOk result (λ told. map told_of told.items
-        ≡ tallies_of (map handing_of lines.entry.now)) }
+        ≡ tallies_of (map handed_seen lines.entry.now)) }
 {
     let nodes = nodes_in_order(alloc, lines)?;
     let table = table_of(alloc, lines)?;
@@ -125,4 +120,21 @@ pub(crate) fn tallies<'a>(
         told.push(NodeTally { node, tally })?;
     }
     Ok(told)
+}
+
+/// Each node that was handed something again, in the order in which that happened first, with the lines that hand it
+/// again what a line before them handed it: how many they are, their least and greatest time, and the first and the
+/// last of them. An event is a time, a name and a payload, and a query a time and an ID.
+///
+/// Each entry is looked up once by its hash. It is an `AllocError` only where there is no memory for that.
+pub fn tally_repeats<'a, E: HandedOut>(
+    alloc: Global,
+    entries: &'a [E],
+) -> Result<Vec<NodeTally<'a>>, AllocError>
+    ensures { IfOk result (λ told. map told_of told.items
+        ≡ tallies_of (repeats_among (map E.seen entries.entry.now))) }
+{
+    let lines = handed_lines(alloc, entries)?;
+    let again = repeats(alloc, lines.as_slice())?;
+    tallies(alloc, again.as_slice())
 }

@@ -1,12 +1,12 @@
 -- What enters at an agent in one life is bounded by its settings, in every run.
-use Rattle.serf_model.proofs.Names.{zero, suc, ◌≡◌, ℕ, ◌+◌, ◌*◌, ◌≤◌, ◌==◌, ◌&&◌, inl, inr, Bool, true, false, cond, List, [], ◌∷◌, ◌++◌, Option, Some, None, refl, sym, ap, subst, ◌∙◌, arith, map, length, set, get_or, ◌%◌, All, slice_get, filter, range_with_len, option_map, cases_Bool, eq-eqb, eqb-true, eqb-false, append-nil, append_assoc, All-tail, All-filter, All-map, fold-append, EventBody, EachAtMost, SlotOf, TimedEntry, count_at, entries_of, greatest_time, held_at, held_count, slot_of, slots_of, SlotLaws, Config, IdealAgent, Past, of_life}
+use Rattle.serf_model.proofs.Names.{zero, suc, ◌≡◌, ℕ, ◌+◌, ◌*◌, ◌≤◌, ◌==◌, ◌&&◌, inl, inr, Bool, true, false, cond, List, [], ◌∷◌, ◌++◌, Option, Some, None, refl, sym, ap, subst, ◌∙◌, arith, map, length, set, get_or, ◌%◌, All, slice_get, filter, range_with_len, option_map, cases_Bool, eq-eqb, eqb-true, eqb-false, append-nil, append_assoc, All-cons, All-nil, All-tail, All-filter, All-map, fold-append, EventBody, EachAtMost, SlotOf, TimedEntry, count_at, entries_of, greatest_time, held_at, held_count, slot_of, slots_of, SlotLaws, Config, IdealAgent, Past, of_life}
 use Rattle.serf_agent.specs.Config.{longest_texts}
 use Rattle.serf_model.specs.Below.{Below}
 use Rattle.serf_model.specs.declared.action.Action.{Action}
 use Rattle.serf_model.specs.declared.action.Act.{Act}
 use Rattle.serf_model.specs.declared.action.Action.TheVariants.{Of}
 use Rattle.serf_model.specs.declared.line.EventLine.{EventLine}
-use Rattle.serf_model.specs.Bounds.{AtMostOfOneTime, EventsBounded, AreEventsBounded, IsBounded, QueriesBounded, events_of_life, is_restarted, lived_on, present_life, queries_of_life, reopens}
+use Rattle.serf_model.specs.Bounds.{AtMostOfOneTime, EventsBounded, AreEventsBounded, AreWindowsBounded, IsBounded, QueriesBounded, WindowsBounded, events_of_life, is_restarted, lived_on, present_life, queries_of_life, reopens}
 use Rattle.serf_model.specs.Cluster.{Applied, Cluster, IdealNode, Run, Stepped, applied, apply, after, first_node, injects, on_agent, opened_first, run_of, start, step, with_handed}
 use Rattle.serf_model.specs.Ready.{IsRepresentable}
 use Rattle.serf_model.specs.Runs.{AreConfigs}
@@ -340,3 +340,39 @@ events-bounded lower event_laws query_laws configs actions ok told = (kept-run l
 
 pub queries-bounded : Below → SlotLaws EventBody → SlotLaws ℕ → (configs : List Config) (actions : List Action) → AreConfigs configs → CanTell configs actions → QueriesBounded configs (run_of configs actions).turns
 queries-bounded lower event_laws query_laws configs actions ok told = (kept-run lower event_laws query_laws configs actions ok told).queries
+
+-- ---- windows, whatever filled them
+
+windows-of : SlotLaws EventBody → SlotLaws ℕ → (configs : List Config) (turns : List Turn) (a : ℕ) (r : Option IdealNode) (m : IdealNode) → IsLivedAt configs turns a r → r ≡ Some m → All IsShort (of_life m.agent.life m.agent.events.history) → AreWindowsBounded m.agent
+windows-of event_laws query_laws configs turns a r m h at short =
+    let i = m.agent in
+    let few_events : AtMostOfOneTime i.config.per_time (of_life i.life i.events.history) = subst (λ (o : Option IdealNode). AtMostOfOneTime (per_time o) (life_events o)) at h.few_events in
+    let few_queries : AtMostOfOneTime i.config.per_time (of_life i.life i.queries.history) = subst (λ (o : Option IdealNode). AtMostOfOneTime (per_time o) (life_queries o)) at h.few_queries in
+    record {
+      events = record { bounded = is-bounded event_laws i.config.event_buffer i.config.per_time (of_life i.life i.events.history) few_events; short = short };
+      queries = is-bounded query_laws i.config.query_buffer i.config.per_time (of_life i.life i.queries.history) few_queries;
+    }
+
+-- what holds of the item at each place holds of all
+from-each : {X : Type 0} (P : X → Type 0) (xs : List X) → ((a : ℕ) (x : X) → slice_get xs a ≡ Some x → P x) → All P xs
+from-each P [] each = All-nil P
+from-each P (x ∷ xs) each = All-cons P x xs (each 0 x refl) (from-each P xs (λ a y at. each (suc a) y at))
+
+pub windows-bounded : Below → SlotLaws EventBody → SlotLaws ℕ → (configs : List Config) (actions : List Action) → AreConfigs configs → CanTell configs actions → WindowsBounded (run_of configs actions)
+windows-bounded lower event_laws query_laws configs actions ok told =
+    let r : Run = run_of configs actions in
+    let k = kept-run lower event_laws query_laws configs actions ok told in
+    from-each (λ m. AreWindowsBounded m.agent) r.cluster.nodes
+    (λ a m at. windows-of event_laws query_laws configs r.turns a (slice_get r.cluster.nodes a) m (k.lived a) at
+    (short-life m.agent.life m.agent.events.history (all-at (λ m. IsRepresentable m.agent) r.cluster.nodes a m k.after.representable at).consistent.sound.short))
+
+pub windows-start : SlotLaws EventBody → SlotLaws ℕ → (configs : List Config) → WindowsBounded (start configs)
+windows-start event_laws query_laws configs =
+    from-each (λ m. AreWindowsBounded m.agent) (start configs).cluster.nodes
+    (λ a m at. windows-of event_laws query_laws configs [] a (slice_get (start configs).cluster.nodes a) m (lived-start configs a) at (short m (slice_get configs a) (sym (first_node-at configs a) ∙ at)))
+  where
+    short : (m : IdealNode) (r : Option Config) → option_map first_node r ≡ Some m → All IsShort (of_life m.agent.life m.agent.events.history)
+    short m None at = absurd (let no : None ≡ Some m = at in cc)
+    short m (Some c) at =
+        let same : first_node c ≡ m = let e : Some (first_node c) ≡ Some m = at in cc in
+        subst (λ (n : IdealNode). All IsShort (of_life n.agent.life n.agent.events.history)) same (subst (λ (h : List (Past EventBody)). All IsShort (of_life 1 h)) (sym (first-events c)) (All-nil IsShort))

@@ -10,7 +10,7 @@ use Rattle.serf_model.specs.Sizes.{HasSizes}
 use Rattle.serf_model.specs.Tails.{CanTell}
 use Rattle.serf_model.proofs.AnswerLaws.{acked-once, replied-once}
 use Rattle.serf_model.proofs.AnswerPromiseLaws.{counting-run, served-run}
-use Rattle.serf_model.proofs.BoundLaws.{events-bounded, queries-bounded}
+use Rattle.serf_model.proofs.BoundLaws.{events-bounded, queries-bounded, windows-bounded, windows-start}
 use Rattle.serf_model.proofs.CountingPromises.{counted-once, counting-start, open-hold}
 use Rattle.serf_model.proofs.HandOutLaws.{entering-run, handing-out, messaging-run}
 use Rattle.serf_model.proofs.PromiseLaws.{promised, query-fired}
@@ -35,6 +35,7 @@ kept lower event_laws query_laws configs actions ok told sized =
       fired_alone = going.fired_alone;
       held_alone = going.held_alone;
       kept = going.kept;
+      queries_kept = going.queries_kept;
       query_once = going.query_once;
       query_later = going.query_later;
       query_handed = going.query_handed;
@@ -55,11 +56,12 @@ kept lower event_laws query_laws configs actions ok told sized =
       replied_once = replied-once configs r.cluster r.turns served;
       events_bounded = events-bounded lower event_laws query_laws configs actions ok told;
       queries_bounded = queries-bounded lower event_laws query_laws configs actions ok told;
+      windows_bounded = windows-bounded lower event_laws query_laws configs actions ok told;
     }
 
 -- of no turns anything holds
-pub kept-start : (configs : List Config) → KeepsPromises configs (start configs)
-kept-start configs = record {
+pub kept-start : SlotLaws EventBody → SlotLaws ℕ → (configs : List Config) → KeepsPromises configs (start configs)
+kept-start event_laws query_laws configs = record {
   once = λ a i j d lt within. absurd (omega arith);
   fired = at_each_nil _;
   later = at_each_nil _;
@@ -67,6 +69,7 @@ kept-start configs = record {
   fired_alone = λ none. at_each_nil _;
   held_alone = λ none. (at_each_nil _, at_each_nil _);
   kept = at_each_nil _;
+  queries_kept = at_each_nil _;
   query_once = λ a i j d lt within. absurd (omega arith);
   query_later = at_each_nil _;
   query_handed = λ a i j d lt within. absurd (omega arith);
@@ -87,4 +90,5 @@ kept-start configs = record {
   replied_once = λ a i j d lt within. absurd (omega arith);
   events_bounded = at_each_nil _;
   queries_bounded = at_each_nil _;
+  windows_bounded = windows-start event_laws query_laws configs;
 }

@@ -32,6 +32,9 @@ pub mod TakesKept
 pub mod ClockShown
 pub mod MergesTake
 pub mod NotMissedLaws
+pub mod QueryActs
+pub mod QueryClock
+pub mod QueriesNotMissed
 pub mod PromiseLaws
 pub mod BoundLaws
 pub mod QueriesEntered

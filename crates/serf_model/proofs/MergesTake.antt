@@ -12,6 +12,7 @@ use Rattle.serf_agent.specs.KeptTexts.{IsTold}
 use Rattle.serf_agent.specs.Lives.{Takes}
 use Rattle.serf_agent.specs.States.{hear}
 use Rattle.serf_agent.specs.Taking.{TakesAt, TakesOrFull}
+use Rattle.serf_agent.specs.TrackOf.{event_track}
 use Rattle.serf_model.specs.Below.{Below}
 use Rattle.serf_model.specs.declared.action.Act.TheVariants as acts
 use Rattle.serf_model.specs.declared.line.Answer.TheVariants as lines
@@ -91,7 +92,7 @@ event-taken i packet t what coalesce None none hears = by (will i (received_as N
     by (Failed durable) hears = absurd (cc hears)
 
 read-takes : Below → (g : Coming) (i : IdealAgent) (number now clock : ℕ) (packet : List ℕ) (handed : List (TimedEntry EventBody)) (r : Result Message WireFault) → IsReady i → i.events.clock ≤ clock → IsYoung g (clock_told clock (acts.Deliver number now) r)
-    → Contains (events_brought r) g.event → IsNew g handed → TakesAt g.event.time g.config handed g.stood i → hears_of (receive_gives packet (planned i (receive_read false i now r)).answer).answer ≡ true
+    → Contains (events_brought r) g.event → IsNew g handed → TakesAt event_track g.event.time g.config handed g.stood i → hears_of (receive_gives packet (planned i (receive_read false i now r)).answer).answer ≡ true
     → Comes g handed (receive_gives packet (planned i (receive_read false i now r)).answer).events
 read-takes lower g i number now clock packet handed (Ok (user_event e)) ready low young there new takes hears =
     let what : EventBody = event_of e.name e.payload in
@@ -111,7 +112,7 @@ read-takes lower g i number now clock packet handed (Ok (foreign kind)) ready lo
 read-takes lower g i number now clock packet handed (Err fault) ready low young there new takes hears = absurd (none-in g.event there)
 
 pub delivers-takes : Below → (g : Coming) (m : IdealNode) (number now clock : ℕ) (packet : List ℕ) (handed : List (TimedEntry EventBody)) → IsReady m.agent → m.agent.events.clock ≤ clock → IsYoung g (clock_told clock (acts.Deliver number now) (decoded packet))
-    → Contains (events_in_packet packet) g.event → IsNew g handed → TakesAt g.event.time g.config handed g.stood m.agent → hears_of (delivers m now (Some packet)).done.answer ≡ true → Comes g handed (delivers m now (Some packet)).done.events
+    → Contains (events_in_packet packet) g.event → IsNew g handed → TakesAt event_track g.event.time g.config handed g.stood m.agent → hears_of (delivers m now (Some packet)).done.answer ≡ true → Comes g handed (delivers m now (Some packet)).done.events
 delivers-takes lower g m number now clock packet handed ready low young there new takes = by m.agent.snapshot.stopped
   where
     by : (b : Bool) → (let call = cond b (answers m.agent (Err receives.Stopped)) (receive_read false m.agent now (decoded packet)) in
@@ -141,11 +142,11 @@ taken-outs i x outcome None none is = by (will i (received_as None i x.time x.ke
 
 -- what the rest of a state's events come to, where the first has this outcome
 abbrev More : Coming → List (TimedEntry EventBody) → IdealAgent → List (TimedEntry EventBody) → Type 0
-More g es i handed = Contains es g.event → IsNew g handed → TakesOrFull g.event.time g.config handed g.stood i → (merges_events es i).failed ≡ false → Comes g handed (merges_events es i).events
+More g es i handed = Contains es g.event → IsNew g handed → TakesOrFull event_track g.event.time g.config handed g.stood i → (merges_events es i).failed ≡ false → Comes g handed (merges_events es i).events
 
 take-next : Below → (g : Coming) (x : TimedEntry EventBody) (es : List (TimedEntry EventBody)) (i : IdealAgent) (handed : List (TimedEntry EventBody)) (clock : ℕ) → IsReady i → IsDurable i → i.snapshot.stopped ≡ false → x.time < 2 ^ 64 - 1 → IsTold x.key
     → i.events.clock ≤ clock → IsYoung g (rising clock (x ∷ es)) → ((outcome : Outcome) → (planned i (receive_one i x)).answer ≡ Ok outcome → More g es (planned i (receive_one i x)).agent (handed ++ map out_in (handed_by (Ok outcome))))
-    → Contains (x ∷ es) g.event → IsNew g handed → TakesAt g.event.time g.config handed g.stood i → (merges_events (x ∷ es) i).failed ≡ false → Comes g handed (merges_events (x ∷ es) i).events
+    → Contains (x ∷ es) g.event → IsNew g handed → TakesAt event_track g.event.time g.config handed g.stood i → (merges_events (x ∷ es) i).failed ≡ false → Comes g handed (merges_events (x ∷ es) i).events
 take-next lower g x es i handed clock ready d runs small told low young more there new takes failed = by (planned i (receive_one i x)).answer refl failed
   where
     j : IdealAgent
@@ -157,7 +158,7 @@ take-next lower g x es i handed clock ready d runs small told low young more the
     call : Call (Result Outcome ReceiveFault)
     call = receive_one i x
 
-    next : TakesOrFull g.event.time g.config (handed ++ map out_in (handed_by (planned i (receive_one i x)).answer)) g.stood (planned i (receive_one i x)).agent
+    next : TakesOrFull event_track g.event.time g.config (handed ++ map out_in (handed_by (planned i (receive_one i x)).answer)) g.stood (planned i (receive_one i x)).agent
     next =
         lower.keeps.taking.stays g.event.time g.config handed g.stood i (Takes x (will i (receive_one i x))) g.on g.some ready.consistent.sound d takes ((runs, small, may-end i (receive_one i x) ready.consistent.observable), told) tt tt
 
@@ -185,7 +186,7 @@ take-next lower g x es i handed clock ready d runs small told low young more the
           | inr found ↦ found
         ] in
         let those : All (λ y. y ≡ x) (map out_in (handed_by (Ok outcome))) = subst (λ (a : Result Outcome ReceiveFault). All (λ y. y ≡ x) (map out_in (handed_by a))) is (received-outs i x (admission i x.time x.key)) in
-        let goes = subst (λ (a : Result Outcome ReceiveFault). TakesOrFull g.event.time g.config (handed ++ map out_in (handed_by a)) g.stood (planned i (receive_one i x)).agent) is next in
+        let goes = subst (λ (a : Result Outcome ReceiveFault). TakesOrFull event_track g.event.time g.config (handed ++ map out_in (handed_by a)) g.stood (planned i (receive_one i x)).agent) is next in
         elim (more outcome is within (λ met. still outcome those differs met) goes failed) [
           | inl found ↦ inl (subst (λ (l : List (TimedEntry EventBody)). Contains l g.event) (sym (all outcome)) (Contains-append_right (map out_in (handed_by (Ok outcome))) (map out_in rest) g.event found))
           | inr full ↦
@@ -227,13 +228,13 @@ unfailed false hears = refl
 
 merged-takes : Below → (g : Coming) (m : IdealNode) (join : Bool) (s : PushPull) (handed : List (TimedEntry EventBody)) (clock : ℕ) → IsReady m.agent → IsDurable m.agent → m.agent.snapshot.stopped ≡ false → IsRangedPushPull s → All (λ e. IsTold e.key) (events_of s.slots)
     → ((join && m.agent.config.ignore_old) ≡ true → s.event_clock ≤ g.event.time) → m.agent.events.clock ≤ clock → IsYoung g (rising (max clock s.event_clock) (events_of s.slots)) → Contains (events_of s.slots) g.event → IsNew g handed
-    → TakesAt g.event.time g.config handed g.stood m.agent
+    → TakesAt event_track g.event.time g.config handed g.stood m.agent
     → (let o = merges_heard m (events_of s.slots) (planned m.agent (hear m.agent s join)) in hears_of o.done.answer ≡ true → Comes g handed o.done.events)
 merged-takes lower g m join s handed clock ready d runs ranged told least low young there new takes hears =
     by (planned m.agent (hear m.agent s join)).answer (goes-heard lower (record { time = g.event.time; config = g.config; handed = handed; stood = g.stood; on = g.on; some = g.some }) m.agent s join ready d runs ranged least takes)
     (durable-heard lower m.agent s join ready d runs ranged) (ready-heard lower m.agent s join ready runs ranged) (λ done says. hears-on m.agent s join done runs says) (heard-low m.agent s join clock low) hears
   where
-    by : (x : Result (Unit {0}) MergeFault) → TakesOrFull g.event.time g.config handed g.stood (planned m.agent (hear m.agent s join)).agent → IsDurable (planned m.agent (hear m.agent s join)).agent → IsReady (planned m.agent (hear m.agent s join)).agent
+    by : (x : Result (Unit {0}) MergeFault) → TakesOrFull event_track g.event.time g.config handed g.stood (planned m.agent (hear m.agent s join)).agent → IsDurable (planned m.agent (hear m.agent s join)).agent → IsReady (planned m.agent (hear m.agent s join)).agent
         → ((done : Unit {0}) → x ≡ Ok done → (planned m.agent (hear m.agent s join)).agent.snapshot.stopped ≡ false) → (planned m.agent (hear m.agent s join)).agent.events.clock ≤ max clock s.event_clock
         → (let o = merges_heard m (events_of s.slots) (record { agent = (planned m.agent (hear m.agent s join)).agent; answer = x }) in hears_of o.done.answer ≡ true → Comes g handed o.done.events)
     by (Ok done) goes heard is_ready on under hears =
@@ -243,7 +244,7 @@ merged-takes lower g m join s handed clock ready d runs ranged told least low yo
 
 pub merge-takes : Below → (g : Coming) (m : IdealNode) (number : ℕ) (join : Bool) (packet : List ℕ) (handed : List (TimedEntry EventBody)) (clock : ℕ) (f : Option MergeFault) (r : Result Message WireFault) → IsReady m.agent → IsDurable m.agent → All (λ e. IsTold e.key) (events_brought r)
     → decoded packet ≡ r → merge_refusal m.agent.snapshot r ≡ f → ((s : PushPull) → r ≡ Ok (push_pull s) → (join && m.agent.config.ignore_old) ≡ true → s.event_clock ≤ g.event.time) → m.agent.events.clock ≤ clock → IsYoung g (clock_told clock (acts.Merge number join) r)
-    → Contains (events_brought r) g.event → IsNew g handed → TakesAt g.event.time g.config handed g.stood m.agent → hears_of (merges_as f m join r).done.answer ≡ true → Comes g handed (merges_as f m join r).done.events
+    → Contains (events_brought r) g.event → IsNew g handed → TakesAt event_track g.event.time g.config handed g.stood m.agent → hears_of (merges_as f m join r).done.answer ≡ true → Comes g handed (merges_as f m join r).done.events
 merge-takes lower g m number join packet handed clock None (Ok (push_pull s)) ready d told is refuses least low young there new takes hears =
     let runs = none-if m.agent.snapshot.stopped merges.Stopped None refuses in
     merged-takes lower g m join s handed clock ready d runs.0 (lower.in_range packet (push_pull s) is) told (least s refl) low young there new takes hears

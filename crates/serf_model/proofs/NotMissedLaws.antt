@@ -5,6 +5,7 @@ use Rattle.serf_agent.specs.KeptLives.{IsDurable}
 use Rattle.serf_agent.specs.KeptTexts.{IsTold}
 use Rattle.serf_agent.specs.Restart.{restarted_by}
 use Rattle.serf_agent.specs.Taking.{TakesAt, TakesOrFull}
+use Rattle.serf_agent.specs.TrackOf.{event_track}
 use Rattle.serf_model.specs.Below.{Below}
 use Rattle.serf_model.specs.declared.action.Action.{Action}
 use Rattle.serf_model.specs.declared.action.Act.{Act}
@@ -14,7 +15,7 @@ use Rattle.serf_model.specs.declared.line.Answer.{Answer}
 use Rattle.serf_model.specs.declared.line.Answer.TheVariants as lines
 use Rattle.serf_model.specs.Cluster.{Applied, IdealNode, Cluster, Run, applied, apply, after, delivers, event_line, first_node, injects, merges_given, on_agent, start, step, with_handed}
 use Rattle.serf_model.specs.HandOuts.{events_given}
-use Rattle.serf_model.specs.NotMissed.{IsToCome, Kept, clock_given, clock_shown, clock_then, event_clock_of, hears_of, is_stopped, least_told, least_told_by, state_clock}
+use Rattle.serf_model.specs.NotMissed.{IsToCome, Kept, events_shown, clock_given, clock_shown, clock_then, event_clock_of, hears_of, is_stopped, least_told, least_told_by, state_clock}
 use Rattle.serf_model.specs.Ready.{IsRepresentable}
 use Rattle.serf_model.specs.Tails.{CanTellAct, tails_to}
 use Rattle.serf_model.specs.Trace.{Turn, actor_of, event_in, events_in_packet, events_to, is_agent, turns_by, given_by}
@@ -42,7 +43,7 @@ pub record IsTaking (configs : List Config) (a : ℕ) (turns : List Turn) (m : I
   -- its clock is no higher than these turns show it
   pub clock : m.agent.events.clock ≤ event_clock_of a turns
   -- where it keeps its events it takes what comes at a time that isn't below what these turns tell of least times
-  pub takes : m.agent.config.keep_events ≡ true → (t : ℕ) → 0 < t → All (LeastAt t m.agent.config) (turns_by a turns) → TakesOrFull t m.agent.config (events_to a turns) (tails_to configs a turns) m.agent
+  pub takes : m.agent.config.keep_events ≡ true → (t : ℕ) → 0 < t → All (LeastAt t m.agent.config) (turns_by a turns) → TakesOrFull event_track t m.agent.config (events_to a turns) (tails_to configs a turns) m.agent
 
 abbrev pub AreTaking : List Config → Cluster → List Turn → Type 0
 AreTaking configs c turns = (a : ℕ) (m : IdealNode) → slice_get c.nodes a ≡ Some m → IsTaking configs a turns m
@@ -61,7 +62,7 @@ taking-other configs a turns turn m other h =
     record {
       clock = subst (λ (ts : List Turn). m.agent.events.clock ≤ fold clock_then 1 ts) (sym same) h.clock;
       takes = λ keeps t some told.
-          goes-wider t m.agent.config (events_to a turns) (tails_to configs a turns) (events_to a (turns ++ turn ∷ [])) (tails_to configs a (turns ++ turn ∷ [])) m.agent (λ e. here-more configs a turns turn e)
+          goes-wider event_track t m.agent.config (events_to a turns) (tails_to configs a turns) (events_to a (turns ++ turn ∷ [])) (tails_to configs a (turns ++ turn ∷ [])) m.agent (λ e. here-more configs a turns turn e)
           (h.takes keeps t some (subst (λ (ts : List Turn). All (LeastAt t m.agent.config) ts) same told));
     }
 
@@ -71,7 +72,7 @@ taking-acts : Below → (configs : List Config) (c : Cluster) (turns : List Turn
 taking-acts lower configs c turns b act m h tells at says taking = record {
   clock = subst (λ (n : ℕ). (apply m c.sent act).node.agent.events.clock ≤ n) (sym (ap (fold clock_then 1) mine ∙ fold_push clock_then 1 (turns_by b turns) turn)) (clock-apply m c.sent b (event_clock_of b turns) act taking.clock);
   takes = λ keeps t some told.
-      subst (λ (config : Config). TakesOrFull t config (events_to b (turns ++ turn ∷ [])) (tails_to configs b (turns ++ turn ∷ [])) (apply m c.sent act).node.agent) (sym same)
+      subst (λ (config : Config). TakesOrFull event_track t config (events_to b (turns ++ turn ∷ [])) (tails_to configs b (turns ++ turn ∷ [])) (apply m c.sent act).node.agent) (sym same)
       (goes (ap (λ (c : Config). c.keep_events) (sym same) ∙ keeps) t some (subst (λ (config : Config). All (LeastAt t config) (turns_by b (turns ++ turn ∷ []))) same told));
 }
   where
@@ -88,7 +89,7 @@ taking-acts lower configs c turns b act m h tells at says taking = record {
     same = (keeps-apply lower m c.sent b act representable).config
 
     goes : m.agent.config.keep_events ≡ true → (t : ℕ) → 0 < t → All (LeastAt t m.agent.config) (turns_by b (turns ++ turn ∷ []))
-        → TakesOrFull t m.agent.config (events_to b (turns ++ turn ∷ [])) (tails_to configs b (turns ++ turn ∷ [])) (apply m c.sent act).node.agent
+        → TakesOrFull event_track t m.agent.config (events_to b (turns ++ turn ∷ [])) (tails_to configs b (turns ++ turn ∷ [])) (apply m c.sent act).node.agent
     goes keeps t some told =
         let all : All (LeastAt t m.agent.config) (turns_by b turns ++ turn ∷ []) = subst (λ (ts : List Turn). All (LeastAt t m.agent.config) ts) mine told in
         let first : All (LeastAt t m.agent.config) (turns_by b turns) = told-first (LeastAt t m.agent.config) (turns_by b turns) turn all in
@@ -97,7 +98,7 @@ taking-acts lower configs c turns b act m h tells at says taking = record {
         let more : Says (WasHere configs b (turns ++ turn ∷ [])) m.agent = says-weaker (WasHere configs b turns) (WasHere configs b (turns ++ turn ∷ [])) m.agent (here-more configs b turns turn) says in
         goes-apply lower g m c.sent b act representable (tells-at configs c turns b act m h tells at) refl last (more.durable keeps) (outs-here configs b turns turn (apply m c.sent act).done.events refl)
         (tail-here configs b turns turn refl (tailed-is configs b m.agent.config turn refl (settings-at configs c turns b m h at) keeps))
-        (goes-wider t m.agent.config (events_to b turns) (tails_to configs b turns) (events_to b (turns ++ turn ∷ [])) (tails_to configs b (turns ++ turn ∷ [])) m.agent (λ e. here-more configs b turns turn e) (taking.takes keeps t some first))
+        (goes-wider event_track t m.agent.config (events_to b turns) (tails_to configs b turns) (events_to b (turns ++ turn ∷ [])) (tails_to configs b (turns ++ turn ∷ [])) m.agent (λ e. here-more configs b turns turn e) (taking.takes keeps t some first))
 
 taking-applied : Below → (configs : List Config) (c : Cluster) (turns : List Turn) (b : ℕ) (act : Act) (m : IdealNode) → IsAfter configs c turns → CanTellIt configs (Of b act) → slice_get c.nodes b ≡ Some m → IsHere configs c turns → AreTaking configs c turns
     → (let s = applied c b act (apply m c.sent act) in AreTaking configs s.cluster (turns ++ s.turn ∷ []))
@@ -156,7 +157,7 @@ hears-runs lines.Merged hears = refl
 hears-runs _ hears = absurd (cc hears)
 
 delivered-takes : Below → (g : Coming) (m : IdealNode) (b number now clock : ℕ) (handed : List (TimedEntry EventBody)) (given : Option (List ℕ)) → IsReady m.agent → m.agent.events.clock ≤ clock
-    → IsYoung g (clock_shown clock (Of b (acts.Deliver number now)) given (delivers m now given).done.answer) → Contains (events_given given) g.event → IsNew g handed → TakesAt g.event.time g.config handed g.stood m.agent
+    → IsYoung g (clock_shown clock (Of b (acts.Deliver number now)) given (delivers m now given).done.answer) → Contains (events_given given) g.event → IsNew g handed → TakesAt event_track g.event.time g.config handed g.stood m.agent
     → hears_of (delivers m now given).done.answer ≡ true → Comes g handed (delivers m now given).done.events
 delivered-takes lower g m b number now clock handed None ready low young there new takes hears = absurd (none-in g.event there)
 delivered-takes lower g m b number now clock handed (Some packet) ready low young there new takes hears =
@@ -165,7 +166,7 @@ delivered-takes lower g m b number now clock handed (Some packet) ready low youn
 
 merged-takes : Below → (g : Coming) (m : IdealNode) (b number : ℕ) (join : Bool) (clock : ℕ) (handed : List (TimedEntry EventBody)) (given : Option (List ℕ)) → IsReady m.agent → IsDurable m.agent → ((packet : List ℕ) → given ≡ Some packet → All (λ e. IsTold e.key) (events_in_packet packet))
     → m.agent.events.clock ≤ clock → IsYoung g (clock_shown clock (Of b (acts.Merge number join)) given (merges_given m join given).done.answer)
-    → cond (is_stopped (merges_given m join given).done.answer) 0 (least_told_by m.agent.config (Of b (acts.Merge number join)) given) ≤ g.event.time → Contains (events_given given) g.event → IsNew g handed → TakesAt g.event.time g.config handed g.stood m.agent
+    → cond (is_stopped (merges_given m join given).done.answer) 0 (least_told_by m.agent.config (Of b (acts.Merge number join)) given) ≤ g.event.time → Contains (events_given given) g.event → IsNew g handed → TakesAt event_track g.event.time g.config handed g.stood m.agent
     → hears_of (merges_given m join given).done.answer ≡ true → Comes g handed (merges_given m join given).done.events
 merged-takes lower g m b number join clock handed None ready d told low young least there new takes hears = absurd (none-in g.event there)
 merged-takes lower g m b number join clock handed (Some packet) ready d told low young least there new takes hears =
@@ -178,7 +179,7 @@ merged-takes lower g m b number join clock handed (Some packet) ready d told low
 
 acts-take : Below → (g : Coming) (m : IdealNode) (sent : List (List ℕ)) (b clock : ℕ) (act : Act) (handed : List (TimedEntry EventBody)) → IsRepresentable m.agent → CanTellAct m.agent.config act (given_by sent act) → m.agent.config.keep_events ≡ true → m.agent.events.clock ≤ clock
     → IsYoung g (clock_shown clock (Of b act) (given_by sent act) (apply m sent act).done.answer) → cond (is_stopped (apply m sent act).done.answer) 0 (least_told_by m.agent.config (Of b act) (given_by sent act)) ≤ g.event.time
-    → Contains (events_given (given_by sent act)) g.event → IsNew g handed → TakesAt g.event.time g.config handed g.stood m.agent → hears_of (apply m sent act).done.answer ≡ true → Comes g handed (apply m sent act).done.events
+    → Contains (events_given (given_by sent act)) g.event → IsNew g handed → TakesAt event_track g.event.time g.config handed g.stood m.agent → hears_of (apply m sent act).done.answer ≡ true → Comes g handed (apply m sent act).done.events
 acts-take lower g m sent b clock (acts.Deliver number now) handed representable tells keeps low young least there new takes hears =
     delivered-takes lower g m b number now clock handed (slice_get sent number) (ready m.agent representable) low young there new takes hears
 acts-take lower g m sent b clock (acts.Merge number join) handed representable tells keeps low young least there new takes hears =
@@ -197,7 +198,7 @@ IsTaken configs c a before turn e = Contains (map event_in turn.line.events) e �
 
 -- what an agent has to take is handed to it, or no more of its time is taken
 taken : Below → (configs : List Config) (c : Cluster) (turns : List Turn) (b : ℕ) (act : Act) (m : IdealNode) (e : TimedEntry EventBody) → IsRepresentable m.agent → CanTellAct m.agent.config act (given_by c.sent act) → IsTaking configs b turns m → m.agent.config.keep_events ≡ true
-    → hears_of (apply m c.sent act).done.answer ≡ true → Contains (events_given (given_by c.sent act)) e → IsToCome configs b m.agent.config turns (applied c b act (apply m c.sent act)).turn e → IsTaken configs m.agent.config b turns (applied c b act (apply m c.sent act)).turn e
+    → hears_of (apply m c.sent act).done.answer ≡ true → Contains (events_given (given_by c.sent act)) e → IsToCome events_shown configs b m.agent.config turns (applied c b act (apply m c.sent act)).turn e → IsTaken configs m.agent.config b turns (applied c b act (apply m c.sent act)).turn e
 taken lower configs c turns b act m e representable tells taking keeps hears there come = by (taking.takes keeps e.time come.some (told-first (LeastAt e.time m.agent.config) (turns_by b turns) turn told))
   where
     turn : Turn
@@ -225,7 +226,7 @@ taken lower configs c turns b act m e representable tells taking keeps hears the
     comes (inl found) = inl (subst (λ (l : List (TimedEntry EventBody)). Contains l e) (sym (lines-out b outs)) found)
     comes (inr full) = inr (subst (λ (l : List (TimedEntry EventBody)). IsFull m.agent.config.per_time e.time l (tails_to configs b turns)) (sym handed) full)
 
-    by : TakesOrFull e.time m.agent.config (events_to b turns) (tails_to configs b turns) m.agent → IsTaken configs m.agent.config b turns turn e
+    by : TakesOrFull event_track e.time m.agent.config (events_to b turns) (tails_to configs b turns) m.agent → IsTaken configs m.agent.config b turns turn e
     by (inl takes) =
         comes (acts-take lower g m c.sent b (event_clock_of b turns) act (events_to b turns) representable tells keeps taking.clock (omega (arith, come.young, clock)) (told-last (LeastAt e.time m.agent.config) (turns_by b turns) turn told)
         there come.new takes hears)
@@ -233,7 +234,7 @@ taken lower configs c turns b act m e representable tells taking keeps hears the
 
 abbrev KeptAt : List Config → List Turn → Turn → Type 0
 KeptAt configs before turn =
-    (a : ℕ) (c : Config) (e : TimedEntry EventBody) → slice_get configs a ≡ Some c → c.keep_events ≡ true → actor_of turn.action ≡ Some a → hears_of turn.line.answer ≡ true → Contains (events_given turn.given) e → IsToCome configs a c before turn e
+    (a : ℕ) (c : Config) (e : TimedEntry EventBody) → slice_get configs a ≡ Some c → c.keep_events ≡ true → actor_of turn.action ≡ Some a → hears_of turn.line.answer ≡ true → Contains (events_given turn.given) e → IsToCome events_shown configs a c before turn e
     → IsTaken configs c a before turn e
 
 kept-acts : Below → (configs : List Config) (c : Cluster) (turns : List Turn) (b : ℕ) (act : Act) (m : IdealNode) → IsAfter configs c turns → CanTellIt configs (Of b act) → slice_get c.nodes b ≡ Some m → AreTaking configs c turns → KeptAt configs turns (applied c b act (apply m c.sent act)).turn
@@ -242,8 +243,8 @@ kept-acts lower configs c turns b act m h tells at taking a config e is keeps ac
     let one : b ≡ a = cc actor in
     let own : slice_get configs b ≡ Some config = ap (slice_get configs) one ∙ is in
     let same : m.agent.config ≡ config = (let both : Some m.agent.config ≡ Some config = sym (settings-at configs c turns b m h at) ∙ own in cc both) in
-    subst (λ (j : ℕ). IsToCome configs j config turns turn e → IsTaken configs config j turns turn e) one
-    (subst (λ (x : Config). x.keep_events ≡ true → IsToCome configs b x turns turn e → IsTaken configs x b turns turn e) same
+    subst (λ (j : ℕ). IsToCome events_shown configs j config turns turn e → IsTaken configs config j turns turn e) one
+    (subst (λ (x : Config). x.keep_events ≡ true → IsToCome events_shown configs b x turns turn e → IsTaken configs x b turns turn e) same
     (λ on to_come. taken lower configs c turns b act m e (all-at (λ m. IsRepresentable m.agent) c.nodes b m h.representable at) (tells-at configs c turns b act m h tells at) (taking b m at) on hears there to_come) keeps) come
 
 pub kept-step : Below → (configs : List Config) (r : Run) (action : Action) → CanTellIt configs action → IsAfter configs r.cluster r.turns → AreTaking configs r.cluster r.turns → Kept configs r.turns → Kept configs (after r action).turns

@@ -3,7 +3,7 @@ use Rattle.serf_model.proofs.Names.{◌≡◌, List, ◌++◌, refl, ap, Config}
 use Rattle.serf_model.specs.Below.{Below}
 use Rattle.serf_model.specs.declared.action.Action.{Action}
 use Rattle.serf_model.specs.Cluster.{Run, after, start, run_of, trace_of}
-use Rattle.serf_model.specs.NotMissed.{Kept}
+use Rattle.serf_model.specs.NotMissed.{Kept, QueriesKept}
 use Rattle.serf_model.specs.Promises.{Once, OnlyFired, OnlyFiredOrTailed, Later, Held, HeldOrTailed, SeenWasHandedOrTailed, QueryOnce, QueryLater, QueryHandedOnce, QueryFired}
 use Rattle.serf_model.specs.Runs.{AreConfigs}
 use Rattle.serf_model.specs.Tails.{CanTell, NoneKeeps}
@@ -15,6 +15,8 @@ use Rattle.serf_model.proofs.OnceLaws.{once, query-once, later-step, query-later
 use Rattle.serf_model.proofs.FiredLaws.{IsFired, carries-alone, fired-alone, fired-step, fired-start}
 use Rattle.serf_model.proofs.SeenLaws.{IsHere, here-start, here-step, seen-alone, seen-step, seen-start}
 use Rattle.serf_model.proofs.NotMissedLaws.{AreTaking, kept-step, missed-start, taking-start, taking-step}
+use Rattle.serf_model.proofs.PerAgent.{Each}
+use Rattle.serf_model.proofs.QueriesNotMissed.{IsAsking, asking-start, asking-step, queries-start, queries-step}
 use Rattle.serf_model.proofs.HandedLaws.{IsHanded, handed-step, handed-start}
 use Rattle.serf_model.proofs.QueryOrigins.{IsAsked, asked-step, asked-start}
 use Rattle.serf_model.proofs.TraceLaws.{IsRead, sent-step, read-step, read-start, reads, actions-of}
@@ -30,6 +32,8 @@ record IsGoing (configs : List Config) (r : Run) : Type 0 where
   handed : IsHanded r.turns
   taking : AreTaking configs r.cluster r.turns
   kept : Kept configs r.turns
+  asking : Each (λ a ts m. IsAsking ts m) r.cluster r.turns
+  queries_kept : QueriesKept configs r.turns
 
 going-step : Below → (configs : List Config) (r : Run) (action : Action) → CanTellIt configs action → IsGoing configs r → IsGoing configs (after r action)
 going-step lower configs r action tells h = record {
@@ -42,6 +46,8 @@ going-step lower configs r action tells h = record {
   handed = handed-step lower configs r action tells h.after h.handed;
   taking = taking-step lower configs r action tells h.after h.here h.taking;
   kept = kept-step lower configs r action tells h.after h.taking h.kept;
+  asking = asking-step lower configs r action tells h.after h.asking;
+  queries_kept = queries-step lower configs r action h.after h.asking h.queries_kept;
 }
 
 going-start : Below → (configs : List Config) → AreConfigs configs → IsGoing configs (start configs)
@@ -55,6 +61,8 @@ going-start lower configs ok = record {
   handed = handed-start;
   taking = taking-start lower configs;
   kept = missed-start configs;
+  asking = asking-start lower configs;
+  queries_kept = queries-start configs;
 }
 
 going-run : Below → (configs : List Config) (actions : List Action) → AreConfigs configs → CanTell configs actions → IsGoing configs (run_of configs actions)
@@ -72,6 +80,7 @@ pub record IsPromised (configs : List Config) (turns : List Turn) : Type 0 where
   pub query_later : QueryLater turns
   pub query_handed : QueryHandedOnce turns
   pub kept : Kept configs turns
+  pub queries_kept : QueriesKept configs turns
 
 pub promised : Below → (configs : List Config) (actions : List Action) → AreConfigs configs → CanTell configs actions → IsPromised configs (run_of configs actions).turns
 promised lower configs actions ok told =
@@ -88,6 +97,7 @@ promised lower configs actions ok told =
       query_later = h.query_later;
       query_handed = λ a. (h.handed a).once;
       kept = h.kept;
+      queries_kept = h.queries_kept;
     }
 
 -- this needs nothing of the settings

@@ -14,6 +14,7 @@ use Rattle.serf_agent.specs.Queries.{fire_query}
 use Rattle.serf_agent.specs.Receive.{receive}
 use Rattle.serf_agent.specs.States.{compact, hear, heard_by, save, told_least}
 use Rattle.serf_agent.specs.Taking.{TakesAt, TakesOrFull}
+use Rattle.serf_agent.specs.TrackOf.{TrackOf, event_track}
 use Rattle.serf_model.specs.Below.{Below}
 use Rattle.serf_model.specs.declared.action.Act.{Act}
 use Rattle.serf_model.specs.declared.action.Act.TheVariants as acts
@@ -36,30 +37,32 @@ use Rattle.serf_model.proofs.SaysKept.{Outs, given-handed, outs-first, outs-then
 -- ---- what is met
 
 -- all that was met is met
-abbrev pub Wider : List (TimedEntry EventBody) → List (TimedEntry EventBody) → List (TimedEntry EventBody) → List (TimedEntry EventBody) → Type 0
-Wider handed stood handed_more stood_more = (e : TimedEntry EventBody) → IsMet handed stood e → IsMet handed_more stood_more e
+abbrev pub Wider : {K : Type 0} → List (TimedEntry K) → List (TimedEntry K) → List (TimedEntry K) → List (TimedEntry K) → Type 0
+Wider {K} handed stood handed_more stood_more = (e : TimedEntry K) → IsMet handed stood e → IsMet handed_more stood_more e
 
-has-met-wider : (k t : ℕ) (handed stood handed_more stood_more : List (TimedEntry EventBody)) → Wider handed stood handed_more stood_more → HasMet k t handed stood → HasMet k t handed_more stood_more
-has-met-wider k t handed stood handed_more stood_more wider h = record {
-  events = h.events;
+has-met-wider : {K : Type 0} (k t : ℕ) (handed stood handed_more stood_more : List (TimedEntry K)) → Wider handed stood handed_more stood_more → HasMet k t handed stood → HasMet k t handed_more stood_more
+has-met-wider {K} k t handed stood handed_more stood_more wider h = record {
+  entries = h.entries;
   many = h.many;
   distinct = h.distinct;
-  met = All-weaker (λ (e : TimedEntry EventBody). (e.time ≡ t) × IsMet handed stood e) (λ (e : TimedEntry EventBody). (e.time ≡ t) × IsMet handed_more stood_more e) (λ e m. (m.0, wider e m.1)) h.events h.met;
+  met = All-weaker (λ (e : TimedEntry K). (e.time ≡ t) × IsMet handed stood e) (λ (e : TimedEntry K). (e.time ≡ t) × IsMet handed_more stood_more e) (λ e m. (m.0, wider e m.1)) h.entries h.met;
 }
 
-pub full-wider : (k t : ℕ) (handed stood handed_more stood_more : List (TimedEntry EventBody)) → Wider handed stood handed_more stood_more → IsFull k t handed stood → IsFull k t handed_more stood_more
+pub full-wider : {K : Type 0} (k t : ℕ) (handed stood handed_more stood_more : List (TimedEntry K)) → Wider handed stood handed_more stood_more → IsFull k t handed stood → IsFull k t handed_more stood_more
 full-wider k t handed stood handed_more stood_more wider (inl h) = inl (has-met-wider k t handed stood handed_more stood_more wider h)
 full-wider k t handed stood handed_more stood_more wider (inr h) = inr (h.0, h.1, has-met-wider (k + 1) h.0 handed stood handed_more stood_more wider h.2)
 
-pub goes-wider : (t : ℕ) (config : Config) (handed stood handed_more stood_more : List (TimedEntry EventBody)) (i : IdealAgent) → Wider handed stood handed_more stood_more → TakesOrFull t config handed stood i → TakesOrFull t config handed_more stood_more i
-goes-wider t config handed stood handed_more stood_more i wider (inl s) = inl (record {
+pub goes-wider : {K : Type 0} (which : TrackOf K) (t : ℕ) (config : Config) (handed stood handed_more stood_more : List (TimedEntry K)) (i : IdealAgent) → Wider handed stood handed_more stood_more → TakesOrFull which t config handed stood i → TakesOrFull which t config handed_more stood_more i
+goes-wider {K} which t config handed stood handed_more stood_more i wider (inl s) = inl (record {
   settings = s.settings;
-  last = s.last;
-  known = All-weaker (λ (p : Past EventBody). IsMet handed stood p.entry) (λ (p : Past EventBody). IsMet handed_more stood_more p.entry) (λ p m. wider p.entry m) i.events.history s.known;
-  minimum = s.minimum;
-  least = s.least;
+  opens = record {
+    last = s.opens.last;
+    known = All-weaker (λ (p : Past K). IsMet handed stood p.entry) (λ (p : Past K). IsMet handed_more stood_more p.entry) (λ p m. wider p.entry m) (which.track i).history s.opens.known;
+    minimum = s.opens.minimum;
+    least = s.opens.least;
+  };
 })
-goes-wider t config handed stood handed_more stood_more i wider (inr full) = inr (full-wider config.per_time t handed stood handed_more stood_more wider full)
+goes-wider which t config handed stood handed_more stood_more i wider (inr full) = inr (full-wider config.per_time t handed stood handed_more stood_more wider full)
 
 -- ---- one time, and all that is met in the end
 
@@ -75,7 +78,7 @@ abbrev pub Met : Aim → TimedEntry EventBody → Type 0
 Met g e = IsMet g.handed g.stood e
 
 abbrev pub Goes : Aim → IdealAgent → Type 0
-Goes g i = TakesOrFull g.time g.config g.handed g.stood i
+Goes g i = TakesOrFull event_track g.time g.config g.handed g.stood i
 
 -- what a life's act adds is among what is met in the end
 met-all : (g : Aim) (handed stood : List (TimedEntry EventBody)) → All (Met g) handed → All (Met g) stood → Wider (g.handed ++ handed) (g.stood ++ stood) g.handed g.stood
@@ -88,12 +91,12 @@ met-handed : (g : Aim) (handed : List (TimedEntry EventBody)) → All (Met g) ha
 met-handed g handed first e (inl h) = met-all g handed [] first (All-nil (Met g)) e (inl h)
 met-handed g handed first e (inr h) = inr h
 
-narrow : (g : Aim) (handed : List (TimedEntry EventBody)) (i : IdealAgent) → All (Met g) handed → TakesOrFull g.time g.config (g.handed ++ handed) g.stood i → Goes g i
-narrow g handed i first goes = goes-wider g.time g.config (g.handed ++ handed) g.stood g.handed g.stood i (met-handed g handed first) goes
+narrow : (g : Aim) (handed : List (TimedEntry EventBody)) (i : IdealAgent) → All (Met g) handed → TakesOrFull event_track g.time g.config (g.handed ++ handed) g.stood i → Goes g i
+narrow g handed i first goes = goes-wider event_track g.time g.config (g.handed ++ handed) g.stood g.handed g.stood i (met-handed g handed first) goes
 
 -- ---- deliveries, and what is fired
 
-goes-delivers : Below → (g : Aim) (m : IdealNode) (now : ℕ) (given : Option (List ℕ)) → IsRepresentable m.agent → IsDurable m.agent → ((packet : List ℕ) → given ≡ Some packet → All (λ e. IsTold e.key) (events_in_packet packet)) → Outs (Met g) (delivers m now given).done.events → TakesAt g.time g.config g.handed g.stood m.agent
+goes-delivers : Below → (g : Aim) (m : IdealNode) (now : ℕ) (given : Option (List ℕ)) → IsRepresentable m.agent → IsDurable m.agent → ((packet : List ℕ) → given ≡ Some packet → All (λ e. IsTold e.key) (events_in_packet packet)) → Outs (Met g) (delivers m now given).done.events → TakesAt event_track g.time g.config g.handed g.stood m.agent
     → Goes g (delivers m now given).node.agent
 goes-delivers lower g m now None r d told outs takes = inl takes
 goes-delivers lower g m now (Some packet) r d told outs takes =
@@ -119,7 +122,7 @@ goes-received lower g i e r d runs small told outs (inl takes) =
     (lower.keeps.taking.stays g.time g.config g.handed g.stood i act g.on g.some r.consistent.sound d takes ((runs, small, may-end i call r.consistent.observable), told) tt tt)
 
 -- and one that hears of another's state
-pub goes-heard : Below → (g : Aim) (i : IdealAgent) (s : PushPull) (join : Bool) → IsReady i → IsDurable i → i.snapshot.stopped ≡ false → IsRangedPushPull s → ((join && i.config.ignore_old) ≡ true → s.event_clock ≤ g.time) → TakesAt g.time g.config g.handed g.stood i
+pub goes-heard : Below → (g : Aim) (i : IdealAgent) (s : PushPull) (join : Bool) → IsReady i → IsDurable i → i.snapshot.stopped ≡ false → IsRangedPushPull s → ((join && i.config.ignore_old) ≡ true → s.event_clock ≤ g.time) → TakesAt event_track g.time g.config g.handed g.stood i
     → Goes g (planned i (hear i s join)).agent
 goes-heard lower g i s join r d runs ranged told takes =
     let call : Call (Result (Unit {0}) MergeFault) = hear i s join in
@@ -147,7 +150,7 @@ goes-merges lower g (e ∷ es) i r d runs times told goes outs =
     (runs-on i e.time e.key false (admission i e.time e.key) outcome runs is) times.1 (All-tail (λ (x : TimedEntry EventBody). IsTold x.key) e es told) goes more) outs
 
 goes-merged : Below → (g : Aim) (m : IdealNode) (join : Bool) (s : PushPull) → IsReady m.agent → IsDurable m.agent → m.agent.snapshot.stopped ≡ false → IsRangedPushPull s → All (λ e. IsTold e.key) (events_of s.slots)
-    → ((join && m.agent.config.ignore_old) ≡ true → s.event_clock ≤ g.time) → TakesAt g.time g.config g.handed g.stood m.agent
+    → ((join && m.agent.config.ignore_old) ≡ true → s.event_clock ≤ g.time) → TakesAt event_track g.time g.config g.handed g.stood m.agent
     → (let o = merges_heard m (events_of s.slots) (planned m.agent (hear m.agent s join)) in Outs (Met g) o.done.events → Goes g o.node.agent)
 goes-merged lower g m join s r d runs ranged told least takes outs =
     by (planned m.agent (hear m.agent s join)).answer (goes-heard lower g m.agent s join r d runs ranged least takes) (durable-heard lower m.agent s join r d runs ranged) (ready-heard lower m.agent s join r runs ranged)
@@ -181,7 +184,7 @@ if-told true x t told on = told
 if-told false x t told on = absurd (cc on)
 
 goes-merge : Below → (g : Aim) (m : IdealNode) (join : Bool) (packet : List ℕ) (f : Option MergeFault) (r : Result Message WireFault) → IsReady m.agent → IsDurable m.agent → All (λ e. IsTold e.key) (events_brought r) → decoded packet ≡ r → merge_refusal m.agent.snapshot r ≡ f
-    → cond (is_stopped (merges_as f m join r).done.answer) 0 (cond (join && m.agent.config.ignore_old) (state_clock r) 0) ≤ g.time → TakesAt g.time g.config g.handed g.stood m.agent → Outs (Met g) (merges_as f m join r).done.events
+    → cond (is_stopped (merges_as f m join r).done.answer) 0 (cond (join && m.agent.config.ignore_old) (state_clock r) 0) ≤ g.time → TakesAt event_track g.time g.config g.handed g.stood m.agent → Outs (Met g) (merges_as f m join r).done.events
     → Goes g (merges_as f m join r).node.agent
 goes-merge lower g m join packet None (Ok (push_pull s)) r d told is refuses least takes outs =
     let runs = none-if m.agent.snapshot.stopped merges.Stopped None refuses in
@@ -191,7 +194,7 @@ goes-merge lower g m join packet (Some fault) r i d told is refuses least takes 
 goes-merge lower g m join packet None _ r d told is refuses least takes outs = inl takes
 
 goes-merges_given : Below → (g : Aim) (m : IdealNode) (number : ℕ) (join : Bool) (given : Option (List ℕ)) → IsReady m.agent → IsDurable m.agent → ((packet : List ℕ) → given ≡ Some packet → All (λ e. IsTold e.key) (events_in_packet packet))
-    → cond (is_stopped (merges_given m join given).done.answer) 0 (least_told_by m.agent.config (Of 0 (acts.Merge number join)) given) ≤ g.time → TakesAt g.time g.config g.handed g.stood m.agent → Outs (Met g) (merges_given m join given).done.events
+    → cond (is_stopped (merges_given m join given).done.answer) 0 (least_told_by m.agent.config (Of 0 (acts.Merge number join)) given) ≤ g.time → TakesAt event_track g.time g.config g.handed g.stood m.agent → Outs (Met g) (merges_given m join given).done.events
     → Goes g (merges_given m join given).node.agent
 goes-merges_given lower g m number join None r d told least takes outs = inl takes
 goes-merges_given lower g m number join (Some packet) r d told least takes outs = goes-merge lower g m join packet (merge_refusal m.agent.snapshot (decoded packet)) (decoded packet) r d (told packet refl) refl refl least takes outs
@@ -207,12 +210,12 @@ goes-responds g m number now payload (Some (Some h)) goes = by (respond_fault h 
     by (Some fault) = goes
     by None = goes
 
-goes-planned : (g : Aim) (i : IdealAgent) (change : FailurePlan → FailurePlan) → TakesAt g.time g.config g.handed g.stood i → Goes g (with_plan change i)
-goes-planned g i change s = inl (record { settings = s.settings; last = s.last; known = s.known; minimum = s.minimum; least = λ durable at. s.least durable at })
+goes-planned : (g : Aim) (i : IdealAgent) (change : FailurePlan → FailurePlan) → TakesAt event_track g.time g.config g.handed g.stood i → Goes g (with_plan change i)
+goes-planned g i change s = inl (record { settings = s.settings; opens = record { last = s.opens.last; known = s.opens.known; minimum = s.opens.minimum; least = λ durable at. s.opens.least durable at } })
 
 -- ---- openings
 
-goes-reopened : Below → (g : Aim) (m : IdealNode) (tail : List ℕ) → IsRepresentable m.agent → IsDurable m.agent → least_in kinds.Event tail ≤ g.time → DurableSays (Met g) m.agent.snapshot → All (Met g) (kept_events whatever tail) → TakesAt g.time g.config g.handed g.stood m.agent
+goes-reopened : Below → (g : Aim) (m : IdealNode) (tail : List ℕ) → IsRepresentable m.agent → IsDurable m.agent → least_in kinds.Event tail ≤ g.time → DurableSays (Met g) m.agent.snapshot → All (Met g) (kept_events whatever tail) → TakesAt event_track g.time g.config g.handed g.stood m.agent
     → Goes g (apply m [] (acts.Restart tail)).node.agent
 goes-reopened lower g m tail r d least says tailed takes = by m.agent.snapshot.durable refl r.consistent.observable.durable
   where
@@ -226,7 +229,7 @@ goes-reopened lower g m tail r d least says tailed takes = by m.agent.snapshot.d
         let same : text_after m.agent tail ≡ durable ++ tail = ap (λ (k : Option (List ℕ)). unwrap_or k [] ++ tail) is in
         let act : LifeAct = Opens m.agent.config (text_after m.agent tail) (fresh_device (text_after m.agent tail)) in
         let more : All (Met g) (kept_events whatever (text_after m.agent tail)) = says-after lower (Met g) m.agent tail r.consistent.observable.durable says tailed in
-        goes-wider g.time g.config (g.handed ++ []) (g.stood ++ kept_events whatever (text_after m.agent tail)) g.handed g.stood (apply m [] (acts.Restart tail)).node.agent (met-all g [] (kept_events whatever (text_after m.agent tail)) (All-nil (Met g)) more)
+        goes-wider event_track g.time g.config (g.handed ++ []) (g.stood ++ kept_events whatever (text_after m.agent tail)) g.handed g.stood (apply m [] (acts.Restart tail)).node.agent (met-all g [] (kept_events whatever (text_after m.agent tail)) (All-nil (Met g)) more)
         (lower.keeps.taking.stays g.time g.config g.handed g.stood m.agent act g.on g.some r.consistent.sound d takes (r.consistent.sound.config, record { durable = durable; tail = tail; is = is; whole = same }) takes.settings
         (λ other at. joined durable other is at same))
       where

@@ -1,5 +1,5 @@
 -- What a packet of bytes carries can be told in lines.
-use Rattle.serf_model.proofs.Names.{◌≡◌, ℕ, List, [], ◌∷◌, ◌++◌, Result, Ok, Err, refl, map, All, AllByRecursion, All-nil, All-cons, All-append, All-map, WireFault, EventBody, decoded, Message, user_event, query, query_response, push_pull, foreign, event_of, TimedEntry, SlotContent, empty, held, events_of, events_of_slot}
+use Rattle.serf_model.proofs.Names.{◌≡◌, ℕ, List, [], ◌∷◌, Result, Ok, Err, refl, All, AllByRecursion, All-nil, All-cons, All-append, WireFault, EventBody, decoded, Message, user_event, query, query_response, push_pull, foreign, event_of, TimedEntry, SlotContent, empty, held, events_of, events_of_slot}
 use Rattle.serf_wire.specs.Bytes.{AreBytes, EventsHaveBytes, HasBytes, SlotHasBytes}
 use Rattle.serf_wire.specs.Laws.{DecodesBytes}
 use Rattle.serf_agent.specs.KeptTexts.{IsTold}

@@ -1,6 +1,6 @@
 -- For each promise a small list of turns that breaks it, and the proof that the promise refuses this list. A definition
 -- that is changed so that it promises nothing doesn't pass here.
-use Rattle.serf_model.proofs.Names.{◌≡◌, ◌≢◌, ℕ, ◌<◌, ◌≤◌, ◌+◌, inl, inr, Bool, true, false, List, [], ◌∷◌, ◌++◌, Option, Some, None, Ok, refl, sym, ap, subst, ◌∙◌, arith, cond, observed, length, map, pos, All, All-cons, All-nil, AllPairs, Contains, not, slice_get, slice_index_or, option_to_list, WireFault, EventBody, decoded, Message, PushPull, Query, QueryResponse, UserEvent, push_pull, query, query_response, user_event, events_of, event_of, TimedEntry, Config, OpenQuery, QueryParams, deadline_of, is_ack, query_at}
+use Rattle.serf_model.proofs.Names.{◌≡◌, ◌≢◌, ℕ, ◌<◌, ◌≤◌, ◌+◌, inl, inr, Bool, true, false, List, [], ◌∷◌, ◌++◌, Option, Some, None, Ok, refl, sym, ap, subst, ◌∙◌, arith, cond, observed, length, map, pos, All, All-cons, All-nil, AllPairs, Contains, not, slice_get, slice_index_or, option_to_list, WireFault, EventBody, decoded, Message, PushPull, Query, QueryResponse, UserEvent, push_pull, query, query_response, user_event, events_of, event_of, TimedEntry, count_at, eq-eqb, of_life, Config, OpenQuery, QueryParams, deadline_of, is_ack, query_at}
 use Rattle.std.specs.Prelude.{Result, filter}
 use Rattle.serf_agent.specs.declared.outcome.Reason.TheVariants as reasons
 use Rattle.serf_agent.specs.Events.{texts_len}
@@ -13,10 +13,10 @@ use Rattle.serf_model.specs.declared.line.Answer.TheVariants as answers
 use Rattle.serf_model.specs.declared.line.EventLine.{EventLine}
 use Rattle.serf_model.specs.declared.line.HandedLine.{HandedLine}
 use Rattle.serf_model.specs.AnswerPromises.{AckedOnce, AnswersMade, CountedInTime, CountedOnce, CountedSent, HoldsCounted, HoldsSent, IsAwaited, IsMade, IsSentTo, OpenQueriesHold, OpenQueriesSent, RepliedOnce, acked, answer_brought, injected, life_of, query_answered, replied, reply_deadline}
-use Rattle.serf_model.specs.Bounds.{EventsBounded, QueriesBounded}
+use Rattle.serf_model.specs.Bounds.{EventsBounded, QueriesBounded, WindowsBounded}
 use Rattle.serf_model.specs.Cluster.{IdealNode}
 use Rattle.serf_model.specs.HandOuts.{HandsOutEntered, HandsOutGiven, MessagesFired, NewIsHanded, OnlyToActor, messages_fired, query_message}
-use Rattle.serf_model.specs.NotMissed.{IsToCome, Kept, clock_told, least_told}
+use Rattle.serf_model.specs.NotMissed.{IsToCome, Kept, QueriesKept, clock_told, events_shown, least_told, queries_shown, query_clock_told, query_least_told}
 use Rattle.serf_model.specs.Promises.{Held, HeldOrTailed, Later, Once, OnlyFired, OnlyFiredOrTailed, WasFiredOrTailed, QueryFired, QueryHandedOnce, QueryLater, QueryOnce, WasFired}
 use Rattle.serf_model.specs.Queried.{QueryOnlyFired, WasQueried}
 use Rattle.serf_model.specs.Tails.{actor_keeps, keeps, tail_events, tailed_by, tailed_in, tails_to}
@@ -149,10 +149,10 @@ seen_tailed-refuses configs tail packet e reads h =
     ]
 
 -- where nothing was handed out and no tail says anything, nothing was met
-unmet : (stood : List (TimedEntry EventBody)) (k t : ℕ) → 0 < k → ((e : TimedEntry EventBody) → Contains stood e → ⊥) → HasMet k t [] stood → ⊥
-unmet stood k t some none h = by h.events h.many h.met
+unmet : {K : Type 0} (stood : List (TimedEntry K)) (k t : ℕ) → 0 < k → ((e : TimedEntry K) → Contains stood e → ⊥) → HasMet k t [] stood → ⊥
+unmet {K} stood k t some none h = by h.entries h.many h.met
   where
-    by : (es : List (TimedEntry EventBody)) → k ≤ length es → All (λ e. (e.time ≡ t) × IsMet [] stood e) es → ⊥
+    by : (es : List (TimedEntry K)) → k ≤ length es → All (λ e. (e.time ≡ t) × IsMet [] stood e) es → ⊥
     by [] many met = absurd (omega (arith, some, many))
     by (x ∷ xs) many met = elim ((met 0 x (omega arith)).1) [
       | inl handed ↦ in-none x handed
@@ -186,7 +186,7 @@ kept-refuses configs c packet e at on few reads some short young h =
     unmet-by (inl handed) = in-none entry handed
     unmet-by (inr tailed) = none entry tailed
 
-    come : IsToCome configs 0 c (restart ∷ []) ignored entry
+    come : IsToCome events_shown configs 0 c (restart ∷ []) ignored entry
     come = record {
       some = some;
       short = short;
@@ -209,12 +209,45 @@ kept-refuses_state configs c packet m e at on few reads carries some short young
     unmet-by (inl handed) = in-none e handed
     unmet-by (inr tailed) = in-none e tailed
 
-    come : IsToCome configs 0 c [] (merging packet) e
+    come : IsToCome events_shown configs 0 c [] (merging packet) e
     come = record {
       some = some;
       short = short;
       young = subst (λ r. clock_told 1 (acts.Merge 0 false) r ≤ e.time + c.event_buffer) (sym reads) young;
       told = All-cons (λ (t : Turn). least_told c t ≤ e.time) (merging packet) [] (omega arith) (All-nil (λ (t : Turn). least_told c t ≤ e.time));
+      new = λ met. unmet-by met;
+    }
+
+-- an agent that keeps its events was opened again, and ignores a query that is new to it and within its window
+queries_kept-refuses : (configs : List Config) (c : Config) (packet : List ℕ) (q : Query) → slice_get configs 0 ≡ Some c → c.keep_events ≡ true → 0 < c.per_time → decoded packet ≡ Ok (query q) → 0 < q.time → observed 5 q.time ≤ q.time + c.query_buffer
+    → QueriesKept configs (turn (Of 0 (acts.Restart [])) (answers.Restarted 1 1 5) [] None ∷ delivery 0 packet (answers.Ignored reasons.BelowMinimum) None ∷ []) → ⊥
+queries_kept-refuses configs c packet q at on few reads some young h =
+    let there : Contains (query_brought (decoded packet)) entry = subst (λ r. Contains (query_brought r) entry) (sym reads) (0, omega arith, refl) in
+    elim (h (restart ∷ []) ignored [] refl 0 c entry at on refl refl there come) [
+      | inl found ↦ in-none entry found
+      | inr (inl full) ↦ unmet [] c.per_time q.time few in-none full
+      | inr (inr later) ↦ unmet [] (c.per_time + 1) later.0 (omega arith) in-none later.2
+    ]
+  where
+    restart : Turn
+    restart = turn (Of 0 (acts.Restart [])) (answers.Restarted 1 1 5) [] None
+
+    ignored : Turn
+    ignored = delivery 0 packet (answers.Ignored reasons.BelowMinimum) None
+
+    entry : TimedEntry ℕ
+    entry = record { time = q.time; key = q.id }
+
+    unmet-by : IsMet [] [] entry → ⊥
+    unmet-by (inl entered) = in-none entry entered
+    unmet-by (inr tailed) = in-none entry tailed
+
+    come : IsToCome queries_shown configs 0 c (restart ∷ []) ignored entry
+    come = record {
+      some = some;
+      short = tt;
+      young = subst (λ r. query_clock_told 5 (acts.Deliver 0 0) r ≤ q.time + c.query_buffer) (sym reads) young;
+      told = All-cons (λ (t : Turn). query_least_told t ≤ q.time) restart (ignored ∷ []) (omega (arith, some)) (All-cons (λ (t : Turn). query_least_told t ≤ q.time) ignored [] (omega arith) (All-nil (λ (t : Turn). query_least_told t ≤ q.time)));
       new = λ met. unmet-by met;
     }
 
@@ -399,6 +432,14 @@ queries-refuses : (c : Config) (params : QueryParams) → c.per_time ≡ 1 → Q
 queries-refuses c params one h =
     let most : 2 ≤ c.per_time = (h (firing params 7 1 ∷ []) (firing params 8 1) [] refl 0 c refl).of_one_time 1 in
     absurd (omega arith)
+
+-- an agent that takes one event of one time took two back at a restart: its window has both, though nothing was handed out
+windows-refuse : (m : IdealNode) (e : TimedEntry EventBody) → m.agent.config.per_time ≡ 1 → of_life m.agent.life m.agent.events.history ≡ e ∷ e ∷ [] → WindowsBounded (record { cluster = record { nodes = m ∷ []; sent = [] }; turns = [] }) → ⊥
+windows-refuse m e one took h =
+    let bounded = h 0 m (omega arith) in
+    let most : count_at (e ∷ e ∷ []) e.time ≤ m.agent.config.per_time = subst (λ (es : List (TimedEntry EventBody)). count_at es e.time ≤ m.agent.config.per_time) took (bounded.events.bounded.of_one_time e.time) in
+    let two : count_at (e ∷ e ∷ []) e.time ≡ 2 = rw (eq-eqb e.time e.time refl) refl in
+    absurd (omega (arith, most, two))
 
 -- an open query that was never fired
 open-refuses : (m : IdealNode) (q : ℕ × OpenQuery) → m.agent.asked ≡ q ∷ [] → OpenQueriesHold (record { cluster = record { nodes = m ∷ []; sent = [] }; turns = [] }) → ⊥

@@ -10,7 +10,7 @@ use Rattle.serf_wire.specs.Spells.{Spells}
 use Rattle.serf_snap.specs.declared.kind.ClockKind.{ClockKind}
 use Rattle.serf_snap.specs.declared.kept.Wanted.{Wanted}
 use Rattle.serf_snap.specs.Clocks.{clock_line, compacted_text, is_whole, last_clock, sealed}
-use Rattle.serf_snap.specs.EventLines.{event_line, events_in, if_event_wanted, kept_clock_line, least_in, least_line, query_line}
+use Rattle.serf_snap.specs.EventLines.{event_line, events_in, if_event_wanted, kept_clock_line, least_in, least_line, queries_in, query_line}
 use Rattle.serf_snap.specs.KeptNotes.{kept_compaction_of}
 use Rattle.serf_snap.specs.Notes.{SnapshotView}
 use Rattle.serf_snap.specs.TimedEvent.{timed_event}
@@ -21,7 +21,9 @@ use Rattle.serf_agent.specs.Keeping.{KeepingLaws}
 use Rattle.serf_agent.specs.KeptLives.{BeginsDurable, StaysDurable}
 use Rattle.serf_agent.specs.KeptTexts.{KeptEventLaws, KeptQueryLaws}
 use Rattle.serf_agent.specs.Laws.{AdmitsNew, ShortPackets, StaysSound}
+use Rattle.serf_agent.specs.Said.{SaidLaws}
 use Rattle.serf_agent.specs.Taking.{TakingLaws}
+use Rattle.serf_agent.specs.TrackOf.{event_track, query_track}
 
 -- Which events a text says: those of its parts, where the first is whole, and of its lines only those of events.
 pub record SaysEvents : Type 0 where
@@ -59,7 +61,11 @@ pub record KeepsEvents : Type 0 where
   pub events : KeepingLaws EventBody same_texts
   pub queries : KeepingLaws ℕ same_id
   -- what is new and within the window they take
-  pub taking : TakingLaws
+  pub taking : TakingLaws event_track
+  pub query_taking : TakingLaws query_track
+  -- and which queries a text says
+  pub said : SaidLaws
+  pub asked_joined : (w : Wanted) (front tail : List ℕ) → is_whole front ≡ true → queries_in w (front ++ tail) ≡ queries_in w front ++ queries_in w tail
   -- the least times of a text
   pub least : (k : ClockKind) (text : List ℕ) → (1 ≤ least_in k text) × (least_in k text ≤ greatest_clock)
   pub least_joined : (k : ClockKind) (front tail : List ℕ) → is_whole front ≡ true → least_in k (front ++ tail) ≡ max (least_in k front) (least_in k tail)

@@ -5,6 +5,9 @@ use Rattle.serf_wire.specs.declared.texts.EventBody.{EventBody}
 use Rattle.serf_window.specs.Window.{TimedEntry, count_at, held_count, slots_of}
 use Rattle.serf_agent.specs.declared.config.Config.{Config}
 use Rattle.serf_agent.specs.Config.{longest_texts}
+use Rattle.serf_agent.specs.Ideal.{IdealAgent}
+use Rattle.serf_agent.specs.Tracks.{of_life}
+use Rattle.serf_model.specs.Cluster.{Run}
 use Rattle.serf_model.specs.declared.line.Answer.{Answer}
 use Rattle.serf_model.specs.declared.line.Answer.TheVariants as answers
 use Rattle.serf_model.specs.Trace.{Turn, AtEach, actor_of, is_agent, events_to, queries_at}
@@ -61,3 +64,14 @@ EventsBounded configs turns =
 abbrev pub QueriesBounded : List Config → List Turn → Type 0
 QueriesBounded configs turns =
     AtEach (λ before turn. (a : ℕ) (c : Config) → slice_get configs a ≡ Some c → IsBounded c.query_buffer c.per_time (queries_of_life a (before ++ turn ∷ []))) turns
+
+-- An agent's windows, whatever filled them: what a restart took back of the text counts as what entered since. In its present life at most
+-- as many events have one time as its settings say, its window of so many slots holds at most so many for each slot, and each is short.
+-- And so with queries.
+pub record AreWindowsBounded (i : IdealAgent) : Type 0 where
+  pub events : AreEventsBounded i.config.event_buffer i.config.per_time (of_life i.life i.events.history)
+  pub queries : IsBounded i.config.query_buffer i.config.per_time (of_life i.life i.queries.history)
+
+-- so are those of each agent, when the run is done
+abbrev pub WindowsBounded : Run → Type 0
+WindowsBounded r = All (λ m. AreWindowsBounded m.agent) r.cluster.nodes

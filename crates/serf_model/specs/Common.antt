@@ -1,5 +1,5 @@
 -- Which turns rest on a rule of this project's own (docs/DECISIONS.md).
-use Rattle.std.specs.Prelude.{◌==◌, ◌&&◌, Bool, true, false, length}
+use Rattle.std.specs.Prelude.{◌==◌, ◌&&◌, Bool, true, false, not, length}
 use Rattle.serf_agent.specs.declared.outcome.Reason.{Reason}
 use Rattle.serf_agent.specs.declared.outcome.Reason.TheVariants as reasons
 use Rattle.serf_model.specs.declared.action.Act.TheVariants as acts
@@ -35,11 +35,13 @@ is_common_answer answers.Broken = false
 is_common_answer answers.Compacted = false
 is_common_answer _ = true
 
--- what becomes of a torn tail is own
-abbrev pub has_no_tail : Action → Bool
-has_no_tail (actions.Of agent (acts.Restart tail)) = length tail == 0
-has_no_tail _ = true
+-- What becomes of a torn tail is own. So is what a restart takes back of an agent that keeps its events: up to its first
+-- restart the setting shows nowhere, and from there on all may rest on it.
+abbrev pub restarts_commonly : Bool → Action → Bool
+restarts_commonly keeps (actions.Of agent (acts.Restart tail)) = not keeps && length tail == 0
+restarts_commonly keeps _ = true
 
--- the turn rests on no rule of this project's own
-abbrev pub is_common : Turn → Bool
-is_common t = is_common_answer t.line.answer && has_no_tail t.action
+-- The turn rests on no rule of this project's own, where the agent that acts keeps its events or doesn't, and all turns before
+-- it are common.
+abbrev pub is_common : Bool → Turn → Bool
+is_common keeps t = is_common_answer t.line.answer && restarts_commonly keeps t.action

@@ -2,10 +2,10 @@
 use Rattle.std.specs.Prelude.{List}
 use Rattle.serf_agent.specs.declared.config.Config.{Config}
 use Rattle.serf_model.specs.AnswerPromises.{AckedOnce, AnswersMade, CountedInTime, CountedOnce, CountedSent, OpenQueriesHold, OpenQueriesSent, RepliedOnce}
-use Rattle.serf_model.specs.Bounds.{EventsBounded, QueriesBounded}
+use Rattle.serf_model.specs.Bounds.{EventsBounded, QueriesBounded, WindowsBounded}
 use Rattle.serf_model.specs.Cluster.{Run}
 use Rattle.serf_model.specs.HandOuts.{HandsOutEntered, HandsOutGiven, MessagesFired, NewIsHanded, OnlyToActor}
-use Rattle.serf_model.specs.NotMissed.{Kept}
+use Rattle.serf_model.specs.NotMissed.{Kept, QueriesKept}
 use Rattle.serf_model.specs.Promises.{Held, HeldOrTailed, Later, Once, OnlyFired, OnlyFiredOrTailed, QueryFired, QueryHandedOnce, QueryLater, QueryOnce}
 use Rattle.serf_model.specs.Queried.{QueryOnlyFired}
 use Rattle.serf_model.specs.Tails.{NoneKeeps}
@@ -20,8 +20,9 @@ pub record KeepsPromises (configs : List Config) (r : Run) : Type 0 where
   -- and where no agent keeps its events, no tail brings any
   pub fired_alone : NoneKeeps configs → OnlyFired r.turns
   pub held_alone : NoneKeeps configs → Held r.turns
-  -- and what agents that keep their events don't miss
+  -- and what agents that keep their events don't miss, of events and of queries
   pub kept : Kept configs r.turns
+  pub queries_kept : QueriesKept configs r.turns
   -- queries
   pub query_once : QueryOnce r.turns
   pub query_later : QueryLater r.turns
@@ -46,3 +47,4 @@ pub record KeepsPromises (configs : List Config) (r : Run) : Type 0 where
   -- how much each agent's windows hold
   pub events_bounded : EventsBounded configs r.turns
   pub queries_bounded : QueriesBounded configs r.turns
+  pub windows_bounded : WindowsBounded r

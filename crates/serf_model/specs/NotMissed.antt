@@ -1,12 +1,12 @@
--- What an agent that keeps its events over a restart doesn't miss: an event comes that is new to it and within its window. Then the
--- agent takes it, in whatever life it comes. So a restart refuses nothing that the window would have taken.
+-- What an agent that keeps its events over a restart doesn't miss: an event or a query comes that is new to it and within its window.
+-- Then the agent takes it, in whatever life it comes. So a restart refuses nothing that the window would have taken.
 use Rattle.std.specs.Prelude.{◌≡◌, ◌⊎◌, ◌&&◌, ◌+◌, ◌<◌, ◌≤◌, ◌++◌, ◌∷◌, ℕ, max, Bool, true, false, if◌then◌else◌, List, [], map, Option, Some, Result, Ok, All, Contains, slice_get}
-use Rattle.std.specs.List.{fold}
+use Rattle.std.specs.List.{flat_map, fold}
 use Rattle.serf_lamport.specs.Clock.{observed}
 use Rattle.serf_wire.specs.declared.fault.WireFault.{WireFault}
 use Rattle.serf_wire.specs.declared.texts.EventBody.{EventBody}
 use Rattle.serf_wire.specs.Decoded.{decoded}
-use Rattle.serf_wire.specs.Message.{Message, push_pull, user_event}
+use Rattle.serf_wire.specs.Message.{Message, push_pull, query, user_event}
 use Rattle.serf_window.specs.Window.{TimedEntry}
 use Rattle.serf_snap.specs.declared.kind.ClockKind.TheVariants as kinds
 use Rattle.serf_snap.specs.EventLines.{least_in}
@@ -14,6 +14,7 @@ use Rattle.serf_agent.specs.declared.config.Config.{Config}
 use Rattle.serf_agent.specs.Config.{longest_texts}
 use Rattle.serf_agent.specs.Events.{texts_len}
 use Rattle.serf_agent.specs.Kept.{IsFull, IsMet}
+use Rattle.serf_agent.specs.KeptTexts.{kept_queries, whatever}
 use Rattle.serf_agent.specs.States.{events_of}
 use Rattle.serf_model.specs.declared.action.Act.{Act}
 use Rattle.serf_model.specs.declared.action.Act.TheVariants as acts
@@ -24,7 +25,7 @@ use Rattle.serf_model.specs.declared.line.Answer.TheVariants as answers
 use Rattle.serf_model.specs.declared.line.Refusal.TheVariants as refusals
 use Rattle.serf_model.specs.HandOuts.{events_given}
 use Rattle.serf_model.specs.Tails.{tails_to}
-use Rattle.serf_model.specs.Trace.{Turn, AtEach, actor_of, event_in, events_to, turns_by}
+use Rattle.serf_model.specs.Trace.{Turn, AtEach, actor_of, entered_by, event_in, events_to, queries_at, query_given, turns_by}
 
 -- Clocks, as turns show them
 
@@ -52,6 +53,27 @@ clock_then clock turn = clock_shown clock turn.action turn.given turn.line.answe
 abbrev pub event_clock_of : ℕ → List Turn → ℕ
 event_clock_of a turns = fold clock_then 1 (turns_by a turns)
 
+-- and so its query clock: a query is delivered, or a state is merged
+abbrev pub query_clock_told : ℕ → Act → Result Message WireFault → ℕ
+query_clock_told clock (acts.Deliver number now) (Ok (query q)) = observed clock q.time
+query_clock_told clock (acts.Merge number join) (Ok (push_pull m)) = max clock m.query_clock
+query_clock_told clock _ _ = clock
+
+abbrev pub query_clock_given : ℕ → Action → Option (List ℕ) → ℕ
+query_clock_given clock (actions.Of agent act) (Some packet) = query_clock_told clock act (decoded packet)
+query_clock_given clock _ _ = clock
+
+abbrev pub query_clock_shown : ℕ → Action → Option (List ℕ) → Answer → ℕ
+query_clock_shown clock action given (answers.Restarted member_clock event_clock query_clock) = query_clock
+query_clock_shown clock action given (answers.Queried t) = observed clock t
+query_clock_shown clock action given _ = query_clock_given clock action given
+
+abbrev pub query_clock_then : ℕ → Turn → ℕ
+query_clock_then clock turn = query_clock_shown clock turn.action turn.given turn.line.answer
+
+abbrev pub query_clock_of : ℕ → List Turn → ℕ
+query_clock_of a turns = fold query_clock_then 1 (turns_by a turns)
+
 -- Least times, as turns tell them
 
 -- the event clock that a state says
@@ -65,6 +87,11 @@ least_told_by c (actions.Of agent (acts.Restart tail)) given = least_in kinds.Ev
 least_told_by c (actions.Of agent (acts.Merge number join)) (Some packet) = if join && c.ignore_old then state_clock (decoded packet) else 0
 least_told_by c _ _ = 0
 
+-- and of queries the tail of a restart
+abbrev pub least_by_tail : Action → ℕ
+least_by_tail (actions.Of agent (acts.Restart tail)) = least_in kinds.Query tail
+least_by_tail _ = 0
+
 -- an agent whose sink has failed merges nothing
 abbrev pub is_stopped : Answer → Bool
 is_stopped (answers.Refused refusals.Stopped) = true
@@ -73,7 +100,36 @@ is_stopped _ = false
 abbrev pub least_told : Config → Turn → ℕ
 least_told c turn = if is_stopped turn.line.answer then 0 else least_told_by c turn.action turn.given
 
--- The promise
+-- of queries: by the tail of a restart alone, since no join sets one
+abbrev pub query_least_told : Turn → ℕ
+query_least_told turn = least_by_tail turn.action
+
+-- What tails say of queries
+
+abbrev pub queries_tailed_by : Action → List (TimedEntry ℕ)
+queries_tailed_by (actions.Of agent (acts.Restart tail)) = kept_queries whatever tail
+queries_tailed_by _ = []
+
+-- the queries whose lines stand in the tails of an agent's restarts
+abbrev pub query_tails_to : ℕ → List Turn → List (TimedEntry ℕ)
+query_tails_to a turns = flat_map (λ t. queries_tailed_by t.action) (turns_by a turns)
+
+-- Events, and queries, by the parts with which the promise is said of both
+
+pub record Showing (K : Type 0) : Type 1 where
+  -- the clock of an agent behind turns, and what a turn tells it of least times
+  pub clock_of : ℕ → List Turn → ℕ
+  pub least : Config → Turn → ℕ
+  -- how far its window reaches, and what isn't too long for it
+  pub slots : Config → ℕ
+  pub Short : K → Type 0
+  -- what a packet brings, and an answer to it: what it brings is taken, or is ignored
+  pub given : Option (List ℕ) → List (TimedEntry K)
+  pub hears : Answer → Bool
+  -- what a turn gives its agent that is new; all that was given to an agent so; and what its tails say
+  pub taken : Turn → List (TimedEntry K)
+  pub entered : ℕ → List Turn → List (TimedEntry K)
+  pub tailed : List Config → ℕ → List Turn → List (TimedEntry K)
 
 -- an answer to what a packet brings: its event is new, or is ignored, or its state was merged
 abbrev pub hears_of : Answer → Bool
@@ -82,23 +138,64 @@ hears_of (answers.Ignored reason) = true
 hears_of answers.Merged = true
 hears_of _ = false
 
--- An event that a turn brings is one that its agent, of these settings, has to take.
-pub record IsToCome (configs : List Config) (a : ℕ) (c : Config) (before : List Turn) (turn : Turn) (e : TimedEntry EventBody) : Type 0 where
-  -- it is an event that an agent may have fired: 0 is no event's time, and its texts aren't too long
-  pub some : 0 < e.time
-  pub short : texts_len e.key ≤ longest_texts
-  -- it is within the window, once the agent has heard of all that the turn brings
-  pub young : event_clock_of a (before ++ turn ∷ []) ≤ e.time + c.event_buffer
-  -- it isn't below a least time that the agent was told
-  pub told : All (λ turn. least_told c turn ≤ e.time) (turns_by a (before ++ turn ∷ []))
-  -- it was never handed to the agent, and stands in no tail that the agent was opened on
-  pub new : IsMet (events_to a before) (tails_to configs a before) e → ⊥
+abbrev pub events_shown : Showing EventBody
+events_shown = record {
+  clock_of = event_clock_of;
+  least = least_told;
+  slots = λ c. c.event_buffer;
+  Short = λ what. texts_len what ≤ longest_texts;
+  given = events_given;
+  hears = hears_of;
+  taken = λ turn. map event_in turn.line.events;
+  entered = events_to;
+  tailed = tails_to;
+}
 
--- An agent whose settings keep events hears of a packet's event, or of a state's events, and its sink doesn't fail. An event of these
--- that it has to take is handed out in this turn; or no more events of its time are taken, since as many as the settings allow, or more
--- of a later time, were handed to the agent or stood in its tails.
+-- its query is new, or is ignored
+abbrev pub hears_query : Answer → Bool
+hears_query answers.Query = true
+hears_query (answers.Ignored reason) = true
+hears_query _ = false
+
+-- a query enters also where its filters exclude the node, and then isn't handed out
+abbrev pub queries_shown : Showing ℕ
+queries_shown = record {
+  clock_of = query_clock_of;
+  least = λ c turn. query_least_told turn;
+  slots = λ c. c.query_buffer;
+  Short = λ id. Unit {0};
+  given = query_given;
+  hears = hears_query;
+  taken = λ turn. entered_by turn.action turn.given turn.line.answer;
+  entered = queries_at;
+  tailed = λ configs a turns. query_tails_to a turns;
+}
+
+-- The promise
+
+-- What a turn brings is such that its agent, of these settings, has to take it.
+pub record IsToCome {K : Type 0} (shown : Showing K) (configs : List Config) (a : ℕ) (c : Config) (before : List Turn) (turn : Turn) (e : TimedEntry K) : Type 0 where
+  -- it is what an agent may have fired: 0 is no time, and it isn't too long
+  pub some : 0 < e.time
+  pub short : shown.Short e.key
+  -- it is within the window, once the agent has heard of all that the turn brings
+  pub young : shown.clock_of a (before ++ turn ∷ []) ≤ e.time + shown.slots c
+  -- it isn't below a least time that the agent was told
+  pub told : All (λ turn. shown.least c turn ≤ e.time) (turns_by a (before ++ turn ∷ []))
+  -- it was never given to the agent, and stands in no tail that the agent was opened on
+  pub new : IsMet (shown.entered a before) (shown.tailed configs a before) e → ⊥
+
+-- An agent whose settings keep events hears of what a packet brings, and its sink doesn't fail. What of it the agent has to take is
+-- taken in this turn; or no more of its time are taken, since as many as the settings allow, or more of a later time, were given to
+-- the agent or stood in its tails.
+abbrev pub KeptOf : {K : Type 0} → Showing K → List Config → List Turn → Type 0
+KeptOf {K} shown configs turns =
+    AtEach (λ before turn. (a : ℕ) (c : Config) (e : TimedEntry K) → slice_get configs a ≡ Some c → c.keep_events ≡ true → actor_of turn.action ≡ Some a → shown.hears turn.line.answer ≡ true
+    → Contains (shown.given turn.given) e → IsToCome shown configs a c before turn e
+    → Contains (shown.taken turn) e ⊎ IsFull c.per_time e.time (shown.entered a (before ++ turn ∷ [])) (shown.tailed configs a before)) turns
+
 abbrev pub Kept : List Config → List Turn → Type 0
-Kept configs turns =
-    AtEach (λ before turn. (a : ℕ) (c : Config) (e : TimedEntry EventBody) → slice_get configs a ≡ Some c → c.keep_events ≡ true → actor_of turn.action ≡ Some a → hears_of turn.line.answer ≡ true
-    → Contains (events_given turn.given) e → IsToCome configs a c before turn e
-    → Contains (map event_in turn.line.events) e ⊎ IsFull c.per_time e.time (events_to a (before ++ turn ∷ [])) (tails_to configs a before)) turns
+Kept = KeptOf events_shown
+
+abbrev pub QueriesKept : List Config → List Turn → Type 0
+QueriesKept = KeptOf queries_shown

@@ -10,7 +10,7 @@ use serf_wire::Bytes;
 use std::alloc::{AllocError, Global};
 
 /// A call of an agent's sink that can be made to fail.
-#[derive(Clone, Copy, Debug, PartialEq, Eq)]
+#[derive(Clone, Copy, PartialEq, Eq)]
 pub enum SinkCall {
     /// A line is appended.
     Append,
@@ -23,7 +23,6 @@ pub enum SinkCall {
 }
 
 /// What is done in a cluster. Agents are numbered from 0 in the order of their settings.
-#[derive(Debug)]
 pub enum Action {
     /// Bytes are sent that no agent made.
     Inject { bytes: Bytes },
@@ -43,7 +42,6 @@ impl Drop for Action {
 
 /// What an agent does. Packets are numbered from 0 in the order in which they were sent, and the queries that were
 /// handed to an agent from 0 in each of its lives. Moments are nanoseconds.
-#[derive(Debug)]
 pub enum Act {
     /// It fires a user event.
     Fire {

@@ -8,7 +8,7 @@ use std::marker::Model;
 /// A value in a place of its own.
 ///
 /// Contracts see the value.
-#[derive(Debug, Drop)]
+#[derive(Drop)]
 pub struct Boxed<T> {
     place: Box<T>,
 }

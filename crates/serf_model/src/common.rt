@@ -1,11 +1,13 @@
 //! Which turns rest on no rule of this project's own.
 
 ghost use Rattle.std.specs.Prelude.{◌≡◌, ◌&&◌};
-ghost use Rattle.serf_model.specs.Common.{has_no_tail, is_common_answer, is_common_reason, is_common_refusal};
+ghost use Rattle.serf_model.specs.Common.{is_common_answer, is_common_reason, is_common_refusal, restarts_commonly};
+ghost use Rattle.serf_model.specs.Tails.{actor_keeps};
+ghost use Rattle.serf_model.specs.Trace.{actor_of};
 
 use crate::action::{Act, Action};
 use crate::line::{Answer, Line, Refusal};
-use serf_agent::Reason;
+use serf_agent::{Config, Reason};
 
 fn is_common_ignoring(reason: Reason) -> bool
     ensures { result ≡ is_common_reason reason }
@@ -38,21 +40,35 @@ fn is_common_answering(answer: Answer) -> bool
     }
 }
 
-fn is_without_tail(action: &Action) -> bool
-    ensures { result ≡ has_no_tail action.now }
+fn is_restarting_commonly(keeps: bool, action: &Action) -> bool
+    ensures { result ≡ restarts_commonly keeps action.now }
 {
     match action {
         Action::Of {
             act: Act::Restart { tail },
             ..
-        } => tail.as_slice().is_empty(),
+        } => !keeps && tail.as_slice().is_empty(),
         _ => true,
     }
 }
 
-/// Whether the turn of an action and its line rests on no rule of this project's own. Takes no memory.
-pub fn is_common_turn(action: &Action, line: &Line) -> bool
-    ensures { result ≡ (is_common_answer line.now.answer && has_no_tail action.now) }
+/// Whether the turn of an action and its line rests on no rule of this project's own, where the turns before it don't
+/// either. `keeps` says whether the agent that acts keeps its events over a restart. Takes no memory.
+pub fn is_common_turn(keeps: bool, action: &Action, line: &Line) -> bool
+    ensures { result ≡ (is_common_answer line.now.answer && restarts_commonly keeps action.now) }
 {
-    is_common_answering(line.answer) && is_without_tail(action)
+    is_common_answering(line.answer) && is_restarting_commonly(keeps, action)
+}
+
+/// Whether the agent that acts keeps its events over a restart, by these settings. No agent injects. Takes no memory.
+pub fn actor_keeps(configs: &[Config], action: &Action) -> bool
+    ensures { result ≡ actor_keeps configs.now (actor_of action.now) }
+{
+    match action.actor() {
+        Some(agent) => match configs.get(agent as usize) {
+            Some(config) => config.keep_events,
+            None => false,
+        },
+        None => false,
+    }
 }

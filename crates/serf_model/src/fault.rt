@@ -17,7 +17,7 @@ pub enum NewFault {
 }
 
 /// Why a run isn't whole: the first that holds.
-#[derive(Debug, Drop)]
+#[derive(Drop)]
 pub enum RunFault {
     /// The agent of this number has the name of an earlier one. It is the first such agent. Nothing was done.
     NameTwice(u64),

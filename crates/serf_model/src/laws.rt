@@ -14,11 +14,11 @@ ghost use Rattle.serf_model.specs.declared.action.Action.{Action};
 ghost use Rattle.serf_model.specs.Alone.{IsAlone};
 ghost use Rattle.serf_model.specs.AnswerPromises.{AckedOnce, AnswersMade, CountedInTime, CountedOnce, CountedSent, OpenQueriesHold, RepliedOnce};
 ghost use Rattle.serf_model.specs.Below.{Below};
-ghost use Rattle.serf_model.specs.Bounds.{EventsBounded, QueriesBounded};
+ghost use Rattle.serf_model.specs.Bounds.{EventsBounded, QueriesBounded, WindowsBounded};
 ghost use Rattle.serf_model.specs.Cluster.{IdealNode, apply, delivers, merges_given, run_of, start, text_after, trace_of};
 ghost use Rattle.serf_model.specs.HandOuts.{HandsOutEntered, HandsOutGiven, MessagesFired, NewIsHanded, OnlyToActor};
 ghost use Rattle.serf_model.specs.Kept.{KeepsPromises};
-ghost use Rattle.serf_model.specs.NotMissed.{Kept};
+ghost use Rattle.serf_model.specs.NotMissed.{Kept, QueriesKept};
 ghost use Rattle.serf_model.specs.Merging.{MergesRepresentable};
 ghost use Rattle.serf_model.specs.Promises.{Held, HeldOrTailed, Later, Once, OnlyFired, OnlyFiredOrTailed, QueryFired, QueryHandedOnce, QueryLater, QueryOnce};
 ghost use Rattle.serf_model.specs.Queried.{QueryOnlyFired};
@@ -30,7 +30,8 @@ ghost use Rattle.serf_model.specs.Trace.{events_in_packet, given_by, turns_by, t
 
 use serf_agent::{keeping_laws, kept_life_promises, kept_text_laws, short_packets, sound_steps};
 use serf_snap::{
-    event_line_laws, kept_note_laws, least_time_laws, read_laws, said_laws, text_laws,
+    event_line_laws, kept_note_laws, least_time_laws, read_laws, said_laws, said_query_laws,
+    text_laws,
 };
 use serf_window::slot_laws;
 use serf_wire::{canonical_packets, decoded_ranges, decoded_texts, exact_decoding};
@@ -51,6 +52,7 @@ fn laws_below()
     least_time_laws();
     read_laws();
     said_laws();
+    said_query_laws();
     kept_text_laws();
     keeping_laws();
     kept_life_promises();
@@ -85,6 +87,8 @@ pub fn run_promises()
     // What agents that keep their events don't miss.
     ensures kept { (configs : List Config) (actions : List Action) → AreConfigs configs
         → CanTell configs actions → Kept configs (run_of configs actions).turns }
+    ensures queries_kept { (configs : List Config) (actions : List Action) → AreConfigs configs
+        → CanTell configs actions → QueriesKept configs (run_of configs actions).turns }
     ensures query_once { (configs : List Config) (actions : List Action) → AreConfigs configs
         → CanTell configs actions → QueryOnce (run_of configs actions).turns }
     ensures query_later { (configs : List Config) (actions : List Action) → AreConfigs configs
@@ -132,6 +136,9 @@ pub fn run_promises()
         → CanTell configs actions → EventsBounded configs (run_of configs actions).turns }
     ensures queries_bounded { (configs : List Config) (actions : List Action) → AreConfigs configs
         → CanTell configs actions → QueriesBounded configs (run_of configs actions).turns }
+    ensures windows_bounded { (configs : List Config) (actions : List Action)
+        → AreConfigs configs → CanTell configs actions
+        → WindowsBounded (run_of configs actions) }
 
     // After it the agents' open queries hold what was counted.
     ensures open_queries { (configs : List Config) (actions : List Action) → AreConfigs configs

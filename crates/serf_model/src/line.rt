@@ -9,7 +9,7 @@ use serf_lamport::Time;
 use serf_wire::{Bytes, WireFault};
 
 /// Why an action is refused: the first that holds. `NoAgent`, `NoMessage` and `NoQuery` come first, in this order.
-#[derive(Clone, Copy, Debug, PartialEq, Eq)]
+#[derive(Clone, Copy, PartialEq, Eq)]
 pub enum Refusal {
     /// No agent has this number.
     NoAgent,
@@ -40,7 +40,7 @@ pub enum Refusal {
 }
 
 /// What an action is answered.
-#[derive(Clone, Copy, Debug, PartialEq, Eq)]
+#[derive(Clone, Copy, PartialEq, Eq)]
 pub enum Answer {
     /// An event was fired at this time.
     Fired(Time),
@@ -87,7 +87,7 @@ pub enum Answer {
 }
 
 /// An event that was handed out to the agent of this number.
-#[derive(Debug, Drop)]
+#[derive(Drop)]
 pub struct EventLine {
     pub agent: u64,
     pub time: Time,
@@ -97,7 +97,7 @@ pub struct EventLine {
 }
 
 /// A query that was handed out to the agent of this number.
-#[derive(Debug, Drop)]
+#[derive(Drop)]
 pub struct HandedLine {
     pub agent: u64,
     /// How many queries were handed to this agent before, in this life.
@@ -109,7 +109,6 @@ pub struct HandedLine {
 }
 
 /// What came of one action.
-#[derive(Debug)]
 pub struct Line {
     pub answer: Answer,
     /// The numbers of the packets that were sent, in order.

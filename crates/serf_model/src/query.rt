@@ -7,7 +7,7 @@ use serf_wire::Bytes;
 use std::alloc::{AllocError, Global};
 
 /// A query before it is fired.
-#[derive(Debug, Drop)]
+#[derive(Drop)]
 pub struct NewQuery {
     /// When it is fired, in nanoseconds.
     pub moment: u64,

@@ -4,7 +4,7 @@ use crate::lists::Lines;
 use serf_agent::BytesList;
 
 /// What a run gives: a line for each action, and all packets that were sent, numbered from 0.
-#[derive(Debug, Drop)]
+#[derive(Drop)]
 pub struct Trace {
     pub lines: Lines,
     pub sent: BytesList,

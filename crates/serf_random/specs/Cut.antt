@@ -27,7 +27,7 @@ MayAdd false action old new before after = AddsNothing old new before after
 
 -- each turn of the run of these actions is common, and after a first text stand their lines, which can say them
 pub record AreKept (configs : List Config) (first text : List ℕ) (actions : List Action) : Type 0 where
-  pub common : All IsCommon (run_of configs actions).turns
+  pub common : All (IsCommon configs) (run_of configs actions).turns
   pub sayable : All IsSayable actions
   pub text_is : text ≡ first ++ flat_map action_text actions
   pub short : IsShort first → IsShort text

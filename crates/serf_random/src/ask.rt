@@ -5,7 +5,7 @@ ghost use Rattle.serf_random.specs.Draft.{HasNumbers};
 use crate::kind::Kind;
 
 /// The version of the generator. Another one may make other schedules of the same seed.
-pub const VERSION: u64 = 3;
+pub const VERSION: u64 = 4;
 
 /// The most agents of a random schedule, where its kind is not [`Kind::Rounds`].
 pub const MAX_AGENTS: u64 = 64;
@@ -22,7 +22,7 @@ pub const MAX_ROUNDS: u64 = 10_000;
 /// What a random schedule is asked for.
 ///
 /// The last three count for schedules of rounds alone ([`Kind::Rounds`]).
-#[derive(Clone, Copy, Debug, PartialEq, Eq)]
+#[derive(Clone, Copy, PartialEq, Eq)]
 pub struct Ask {
     /// The seed of its numbers.
     pub seed: u64,

@@ -13,7 +13,7 @@ use crate::cut::add_common;
 use crate::make::{Made, random_schedule};
 use crate::rounds::in_rounds;
 use serf_agent::Config;
-use serf_schedule::{Schedule, comments_skipped, know_read_back};
+use serf_schedule::{Schedule, Watch, comments_skipped, know_read_back};
 use serf_text::MAX_SCHEDULE_BYTES;
 use serf_world::{Roster, RosterFault};
 use std::alloc::{AllocError, Global};
@@ -41,8 +41,12 @@ fn without_kept(alloc: Global, agents: Roster) -> Result<Roster, AllocError> {
 /// whose turns aren't common ([`serf_model::is_common_turn`]), and at last all from the first such on. The text begins
 /// with a comment that says what was asked for and whose rules are kept, and stands for just this schedule, so that it
 /// is never refused. It has at most so many actions as were asked for, and at most 16,777,216 bytes. `AllocError` comes
-/// where memory runs out.
-pub fn common_schedule(alloc: Global, ask: &Ask) -> Result<Made, AllocError>
+/// where memory runs out. The watch is told of each action of [`random_schedule`].
+pub fn common_schedule<T: Watch>(
+    alloc: Global,
+    ask: &Ask,
+    watch: &mut T,
+) -> Result<Made, AllocError>
     // Each turn of its run is common.
     ensures common { IfOk result (λ made. AreCommon (parsed_of made.schedule)) }
     ensures reads_back { IfOk result (λ made. schedule_of made.text.items
@@ -52,14 +56,14 @@ pub fn common_schedule(alloc: Global, ask: &Ask) -> Result<Made, AllocError>
     ensures few { IfOk result (λ made. length made.schedule.actions.items ≤ ask.now.actions) }
     ensures short { IfOk result (λ made. length made.text.items ≤ MAX_SCHEDULE_BYTES) }
 {
-    let made = random_schedule(alloc, ask)?;
+    let made = random_schedule(alloc, ask, watch)?;
     let Made { schedule, .. } = made;
     let Schedule { agents, actions } = schedule;
     let mut text = Vec::new(alloc);
     put_comment(&mut text, ask, true)?;
     let agents = add_agents(alloc, &mut text, without_kept(alloc, agents)?)?;
     let left = in_rounds(alloc, &agents, actions)?;
-    let kept = add_common(alloc, agents.try_clone(alloc)?, left, &mut text)?;
+    let kept = add_common(alloc, &agents, left, &mut text)?;
     let schedule = Schedule {
         agents,
         actions: kept,

@@ -5,6 +5,7 @@ ghost use Rattle.serf_random.specs.Draft.{AddsActions};
 
 use crate::draft::add_action;
 use serf_model::{Action, Line};
+use serf_schedule::Watch;
 use serf_world::{Roster, World};
 use std::alloc::{AllocError, Global};
 
@@ -37,23 +38,25 @@ fn add_next<C: Course>(
 }
 
 /// Follows a course in a cluster of these agents, and appends the lines of what was done: so many actions, or fewer where
-/// the course ends or the text would be too long.
-pub(crate) fn add_course<C: Course>(
+/// the course ends or the text would be too long. The watch is told of each.
+pub(crate) fn add_course<C: Course, T: Watch>(
     alloc: Global,
     course: &mut C,
     agents: Roster,
     most: u64,
     text: &mut Vec<u8>,
+    watch: &mut T,
 ) -> Result<Vec<Action>, AllocError>
     ensures { IfOk result (λ actions.
         AddsActions most text.old.items text.new.items [] actions.items) }
 {
     let mut world = World::new(alloc, agents)?;
     let mut actions = Vec::new(alloc);
-    for _action in 0..most {
+    for done in 0..most {
         if !add_next(alloc, course, &mut world, text, &mut actions)? {
             return Ok(actions);
         }
+        watch.acted(done + 1, most);
     }
     Ok(actions)
 }

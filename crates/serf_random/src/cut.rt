@@ -1,10 +1,10 @@
 //! Actions up to the first whose turn isn't common.
 
 ghost use Rattle.std.specs.Prelude.{◌+◌, ◌≤◌, ℕ, IfOk, List, OnOk, length};
-ghost use Rattle.serf_agent.specs.declared.config.Config.{Config};
 ghost use Rattle.serf_random.specs.Cut.{AreKept, GoesOn, IsAlong, MayAdd};
 
-use serf_model::{Action, is_common_turn};
+use serf_agent::Config;
+use serf_model::{Action, actor_keeps, is_common_turn};
 use serf_schedule::{is_sayable, put_action_line};
 use serf_text::MAX_SCHEDULE_BYTES;
 use serf_world::{Roster, World};
@@ -25,25 +25,27 @@ fn add_line(text: &mut Vec<u8>, kept: &mut Vec<Action>, action: Action) -> Resul
     Ok(true)
 }
 
-/// Does an action, and appends it and its line where its turn is common. Says whether it did: another one may follow
-/// then.
+/// Does an action of a cluster of these agents, and appends it and its line where its turn is common. Says whether it
+/// did: another one may follow then.
 fn add_turn(
     alloc: Global,
+    configs: &[Config],
     world: &mut World,
     text: &mut Vec<u8>,
     kept: &mut Vec<Action>,
     action: Action,
 ) -> Result<bool, AllocError>
-    ensures along { (configs : List Config) (first : List ℕ)
-        → IsAlong configs first text.old.items kept.old.items world.old
-        → IfOk result (λ more. GoesOn more configs first text.new.items kept.new.items world.new) }
+    ensures along { (first : List ℕ)
+        → IsAlong configs.now first text.old.items kept.old.items world.old
+        → IfOk result (λ more.
+        GoesOn more configs.now first text.new.items kept.new.items world.new) }
     ensures few { OnOk result (length kept.new.items ≤ length kept.old.items + 1) }
 {
     if !is_sayable(&action) {
         return Ok(false);
     }
     let line = world.step(alloc, &action)?;
-    if !is_common_turn(&action, &line) {
+    if !is_common_turn(actor_keeps(configs, &action), &action, &line) {
         return Ok(false);
     }
     add_line(text, kept, action)
@@ -53,17 +55,25 @@ fn add_turn(
 /// gives them.
 pub(crate) fn add_common(
     alloc: Global,
-    agents: Roster,
+    agents: &Roster,
     actions: Vec<Action>,
     text: &mut Vec<u8>,
 ) -> Result<Vec<Action>, AllocError>
-    ensures kept { IfOk result (λ kept. AreKept agents text.old.items text.new.items kept.items) }
+    ensures kept { IfOk result
+        (λ kept. AreKept agents.now text.old.items text.new.items kept.items) }
     ensures few { IfOk result (λ kept. length kept.items ≤ length actions.items) }
 {
-    let mut world = World::new(alloc, agents)?;
+    let mut world = World::new(alloc, agents.try_clone(alloc)?)?;
     let mut kept = Vec::new(alloc);
     for action in actions {
-        if !add_turn(alloc, &mut world, text, &mut kept, action)? {
+        if !add_turn(
+            alloc,
+            agents.as_slice(),
+            &mut world,
+            text,
+            &mut kept,
+            action,
+        )? {
             return Ok(kept);
         }
     }

@@ -11,7 +11,7 @@ use std::marker::Model;
 /// The numbers of SplitMix64 (Steele, Lea and Flood, "Fast splittable pseudorandom number generators", 2014).
 ///
 /// Contracts see its state, a number of 64 bits.
-#[derive(Debug, Drop)]
+#[derive(Drop)]
 pub struct Dice {
     words: SplitMix64,
 }

@@ -14,24 +14,25 @@ use crate::player::Player;
 use crate::settings::add_agents;
 use crate::walk::Walk;
 use serf_model::Action;
-use serf_schedule::{Schedule, comments_skipped, know_read_back};
+use serf_schedule::{Schedule, Watch, comments_skipped, know_read_back};
 use serf_text::MAX_SCHEDULE_BYTES;
 use serf_world::Roster;
 use std::alloc::{AllocError, Global};
 
 /// A random schedule and its text.
-#[derive(Debug, Drop)]
+#[derive(Drop)]
 pub struct Made {
     pub schedule: Schedule,
     pub text: Vec<u8>,
 }
 
 /// Appends the lines of what is done in a cluster of these agents: so many actions, or fewer.
-fn add_actions(
+fn add_actions<T: Watch>(
     alloc: Global,
     ask: &Ask,
     agents: Roster,
     text: &mut Vec<u8>,
+    watch: &mut T,
 ) -> Result<Vec<Action>, AllocError>
     ensures { IfOk result (λ actions.
         AddsActions ask.now.actions text.old.items text.new.items [] actions.items) }
@@ -39,10 +40,10 @@ fn add_actions(
     let many = agents.as_slice().len() as u64;
     if ask.kind.is_rounds() {
         let mut walk = Walk::new(alloc, ask, many);
-        add_course(alloc, &mut walk, agents, ask.actions, text)
+        add_course(alloc, &mut walk, agents, ask.actions, text, watch)
     } else {
         let mut player = Player::new(ask, many);
-        add_course(alloc, &mut player, agents, ask.actions, text)
+        add_course(alloc, &mut player, agents, ask.actions, text, watch)
     }
 }
 
@@ -51,8 +52,12 @@ fn add_actions(
 /// The text begins with a comment that says what was asked for. It stands for just the settings and the actions that
 /// were made, so that it is never refused. It has at most so many actions as were asked for, and at most 16,777,216
 /// bytes: where the next action's line has no room, it ends. A schedule of rounds ends after its last round too.
-/// `AllocError` comes where memory runs out.
-pub fn random_schedule(alloc: Global, ask: &Ask) -> Result<Made, AllocError>
+/// `AllocError` comes where memory runs out. The watch is told of each action.
+pub fn random_schedule<T: Watch>(
+    alloc: Global,
+    ask: &Ask,
+    watch: &mut T,
+) -> Result<Made, AllocError>
     ensures reads_back { IfOk result (λ made. schedule_of made.text.items
         ≡ Ok (parsed_of made.schedule)) }
     ensures text { IfOk result (λ made. made.text.items ≡ comment_text false ask.now
@@ -63,7 +68,7 @@ pub fn random_schedule(alloc: Global, ask: &Ask) -> Result<Made, AllocError>
     let mut text = Vec::new(alloc);
     put_comment(&mut text, ask, false)?;
     let agents = add_agents(alloc, ask, &mut text)?;
-    let actions = add_actions(alloc, ask, agents.try_clone(alloc)?, &mut text)?;
+    let actions = add_actions(alloc, ask, agents.try_clone(alloc)?, &mut text, watch)?;
     let schedule = Schedule { agents, actions };
     comments_skipped();
     know_numbers(ask);

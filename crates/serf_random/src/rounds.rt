@@ -2,7 +2,8 @@
 
 ghost use Rattle.std.specs.Prelude.{◌+◌, ◌≤◌, IfOk, OnOk, length};
 
-use serf_model::{Action, is_common_turn};
+use serf_agent::Config;
+use serf_model::{Action, actor_keeps, is_common_turn};
 use serf_world::{Roster, World};
 use std::alloc::{AllocError, Global};
 
@@ -10,9 +11,10 @@ use std::alloc::{AllocError, Global};
 /// own then.
 const ROUNDS: u64 = 8;
 
-/// Does an action, and keeps it where its turn is common.
+/// Does an action of a cluster of these agents, and keeps it where its turn is common.
 fn keep_common(
     alloc: Global,
+    configs: &[Config],
     world: &mut World,
     kept: &mut Vec<Action>,
     action: Action,
@@ -20,7 +22,7 @@ fn keep_common(
     ensures few { OnOk result (length kept.new.items ≤ length kept.old.items + 1) }
 {
     let line = world.step(alloc, &action)?;
-    if is_common_turn(&action, &line) {
+    if is_common_turn(actor_keeps(configs, &action), &action, &line) {
         kept.push(action)?;
     }
     Ok(())
@@ -33,7 +35,7 @@ fn round(alloc: Global, agents: &Roster, actions: Vec<Action>) -> Result<Vec<Act
     let mut world = World::new(alloc, agents.try_clone(alloc)?)?;
     let mut kept = Vec::new(alloc);
     for action in actions {
-        keep_common(alloc, &mut world, &mut kept, action)?;
+        keep_common(alloc, agents.as_slice(), &mut world, &mut kept, action)?;
     }
     Ok(kept)
 }

@@ -23,8 +23,9 @@ struct OddLine {
     behind: &'static [u8],
 }
 
-/// Lines with other digits or spaces, with a word more or less, of numbers out of range, and of no kind.
-const ODD_LINES: [OddLine; 22] = [
+/// Lines with other digits or spaces, with `-` for no bytes, with a word more or less, of numbers out of range, and of no
+/// kind.
+const ODD_LINES: [OddLine; 25] = [
     OddLine {
         front: b"#event 0",
         behind: b" 61 7631\n",
@@ -70,6 +71,14 @@ const ODD_LINES: [OddLine; 22] = [
         behind: b" 61 \n",
     },
     OddLine {
+        front: b"#event ",
+        behind: b" 61 -\n",
+    },
+    OddLine {
+        front: b"#event ",
+        behind: b" - 7631\n",
+    },
+    OddLine {
         front: b"#query 0",
         behind: b" 007\n",
     },
@@ -91,6 +100,10 @@ const ODD_LINES: [OddLine; 22] = [
     },
     OddLine {
         front: b"#least event-clock:  ",
+        behind: b"\n",
+    },
+    OddLine {
+        front: b"#least event-clock: 18446744073709551615",
         behind: b"\n",
     },
     OddLine {

@@ -10,7 +10,7 @@ use Rattle.serf_model.specs.declared.line.Line.{Line}
 use Rattle.serf_replay.specs.declared.keys.EventKey.{EventKey}
 use Rattle.serf_schedule.specs.Show.{answer_words}
 use Rattle.serf_replay.specs.Notes.{is_event}
-use Rattle.serf_replay.specs.Summaries.{event_key_eq}
+use Rattle.serf_replay.specs.Summaries.{Event, event_in, event_key_eq, event_of}
 
 bytes : (xs ys : List ℕ) → Decides (pointwise nat_eq xs ys) (xs ≡ ys)
 bytes xs ys = slice_eq-Decides Decides-eqb xs ys (pointwise nat_eq xs ys) refl
@@ -29,6 +29,11 @@ key-finds key q e time name payload =
     ap (λ (t : ℕ). nat_eq t q.time && (bytes_eq e.name q.name.items && bytes_eq e.payload q.payload.items)) (sym time)
     ∙ ap (λ (t : List ℕ). nat_eq key.time q.time && (bytes_eq t q.name.items && bytes_eq e.payload q.payload.items)) (sym name)
     ∙ ap (λ (t : List ℕ). nat_eq key.time q.time && (bytes_eq key.name.items q.name.items && bytes_eq t q.payload.items)) (sym payload)
+
+pub event-found : (key : EventKey) (e : EventLine) → key.time ≡ e.time → key.name.items ≡ e.name → key.payload.items ≡ e.payload → event_of key ≡ event_in e
+event-found key e time name payload =
+    ap (λ (t : ℕ). let x : Event = (t, key.name.items, key.payload.items) in x) time
+    ∙ ap (λ (t : List ℕ). let x : Event = (e.time, t, key.payload.items) in x) name ∙ ap (λ (t : List ℕ). let x : Event = (e.time, e.name, t) in x) payload
 
 pub same-agent : (a b : ℕ) → nat_eq a b ≡ true → (e : EventLine) → nat_eq e.agent a ≡ nat_eq e.agent b
 same-agent a b h e = ap (λ (n : ℕ). nat_eq e.agent n) ((Decides-eqb a b).0 h)

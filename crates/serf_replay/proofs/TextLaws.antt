@@ -11,10 +11,9 @@ use Rattle.serf_model.specs.Tails.{CanTell}
 use Rattle.serf_model.specs.Trace.{turns_of}
 use Rattle.serf_text.specs.declared.cause.Cause.{Cause}
 use Rattle.serf_text.specs.declared.stream_fault.StreamFault.{StreamFault}
-use Rattle.serf_text.specs.declared.stream_fault.StreamFault.TheVariants as faults
 use Rattle.serf_text.specs.Gives.{BadLine}
 use Rattle.serf_text.specs.Lines.{lines_of}
-use Rattle.serf_text.specs.Streams.{IsCauseBy, StopsAt, WritesUpTo}
+use Rattle.serf_text.specs.Streams.{StopsAt}
 use Rattle.serf_schedule.specs.Laws.{SchedulesAreSized, SchedulesAreTold}
 use Rattle.serf_schedule.specs.Output.{output_of, text_of}
 use Rattle.serf_schedule.specs.Running.{HasRun, HasStreamed, is_refused_by}
@@ -23,7 +22,7 @@ use Rattle.serf_schedule.specs.TraceText.{tells_trace}
 use Rattle.serf_schedule.specs.declared.run.Run.{Run}
 use Rattle.serf_replay.specs.Laws.{SchedulesTraceRuns}
 use Rattle.serf_replay.specs.Output.{TracesRun}
-use Rattle.serf_replay.specs.Stopped.{IsHalted, IsHaltedAt, IsHaltedBy}
+use Rattle.serf_replay.specs.Stopped.{IsHalted, IsHaltedAt}
 use Rattle.serf_replay.specs.Turns.{run_in}
 
 pub traces-run : SchedulesAreSized → SchedulesAreTold → ((configs : List Config) (done left : List Action) → AreConfigs configs → turns_of (done ++ left) (trace_of (run_of configs done)) ≡ (run_of configs done).turns)
@@ -57,13 +56,6 @@ bad-output bytes lines more line number cause cut counted why =
     ap (λ l. text_of (schedule_in l)) cut ∙ ap text_of (why more)
     ∙ ap (λ n. let bad : BadLine = record { line = n; cause = cause } in let err : Result (List ℕ) BadLine = Err bad in err) (sym counted)
 
-halted-by : (fault : StreamFault Cause) (bytes : List ℕ) (lines left : List (List ℕ)) → lines_of bytes ≡ lines ++ left → IsCauseBy is_refused_by fault lines left → IsHaltedBy fault bytes lines left
-halted-by faults.ReadFault bytes lines left cut h = h
-halted-by (faults.BadLine number cause) bytes lines left cut h = (h.3, ap schedule_in (cut ∙ ap (λ (l : List (List ℕ)). lines ++ l) h.2) ∙ h.4 h.1)
-halted-by (faults.LineTooLong number) bytes lines left cut h = h
-halted-by faults.OutOfMemory bytes lines left cut h = tt
-halted-by faults.WriteFault bytes lines left cut h = tt
-
 pub halted : {A T : Type 0} (streams : A → Type 0) (fault : StreamFault Cause) (bytes : List ℕ) (first now : Option (List ℕ)) → StopsAt {J = Run T} (HasStreamed streams Traces) is_refused_by fault (lines_of bytes) first now → IsHalted fault bytes first now
 halted streams fault bytes first now s =
     let h : HasRun (Traces s.tells.0) s.job s.lines s.text = s.tells.2 in
@@ -73,8 +65,10 @@ halted streams fault bytes first now s =
       cut = s.cut;
       schedule = h.said;
       reads = h.reads;
-      written = subst (WritesUpTo fault first now) h.tells s.written;
-      cause = halted-by fault bytes s.lines s.left s.cut s.cause;
+      text = s.text;
+      tells = h.tells;
+      written = s.written;
+      cause = s.cause;
     }
 
 pub halted-at : {A T : Type 0} (streams : A → Type 0) (told : A → T → List Config → List Action → List ℕ → Type 0) (fault : StreamFault Cause) (bytes : List ℕ) (first now : Option (List ℕ)) → StopsAt (HasStreamed streams told) is_refused_by fault (lines_of bytes) first now → IsHaltedAt fault bytes
@@ -86,5 +80,5 @@ halted-at streams told fault bytes first now s =
       cut = s.cut;
       schedule = h.said;
       reads = h.reads;
-      cause = halted-by fault bytes s.lines s.left s.cut s.cause;
+      cause = s.cause;
     }

@@ -1,35 +1,18 @@
 -- How a schedule that is done line by line stops before its end.
-use Rattle.std.specs.Prelude.{◌≡◌, ℕ, ◌+◌, ◌++◌, ◌<◌, List, ◌∷◌, length, Option, Ok, Err}
+use Rattle.std.specs.Prelude.{◌≡◌, ℕ, ◌++◌, List, Option, Ok}
 use Rattle.serf_text.specs.declared.cause.Cause.{Cause}
-use Rattle.serf_schedule.specs.Line.{Parsed}
-use Rattle.serf_schedule.specs.Schedule.{schedule_in, schedule_of}
-use Rattle.serf_replay.specs.Turns.{run_text}
 use Rattle.serf_text.specs.declared.stream_fault.StreamFault.{StreamFault}
-use Rattle.serf_text.specs.declared.stream_fault.StreamFault.TheVariants.{ReadFault, BadLine, LineTooLong, OutOfMemory, WriteFault}
-use Rattle.serf_text.specs.Lines.{lines_of, longest_line, number_behind}
-use Rattle.serf_text.specs.Streams.{WritesUpTo}
+use Rattle.serf_text.specs.Lines.{lines_of}
+use Rattle.serf_text.specs.Streams.{IsCauseBy}
+use Rattle.serf_schedule.specs.Halted.{Halts}
+use Rattle.serf_schedule.specs.Line.{Parsed}
+use Rattle.serf_schedule.specs.Running.{is_refused_by}
+use Rattle.serf_schedule.specs.Schedule.{schedule_in}
+use Rattle.serf_replay.specs.Turns.{run_text}
 
--- What a fault says of the lines that were done, and of those that were not.
-abbrev pub IsHaltedBy : StreamFault Cause → List ℕ → List (List ℕ) → List (List ℕ) → Type 0
--- each line that is over was done
-IsHaltedBy ReadFault bytes lines left = length left ≡ 1
--- the whole is refused for the same line and cause
-IsHaltedBy (BadLine number cause) bytes lines left = (number ≡ number_behind lines) × (schedule_of bytes ≡ Err (record { line = length lines + 1; cause = cause }))
-IsHaltedBy (LineTooLong number) bytes lines left =
-    (line : List ℕ) × (more : List (List ℕ)) × (left ≡ line ∷ more) × (number ≡ number_behind lines) × (longest_line < length line)
-IsHaltedBy OutOfMemory bytes lines left = Unit {0}
-IsHaltedBy WriteFault bytes lines left = Unit {0}
-
--- Of the lines in these bytes some were done. They are a schedule, and what was written is the text of its run's trace:
--- all of it, or a prefix where a write failed.
-pub record IsHalted (fault : StreamFault Cause) (bytes : List ℕ) (first now : Option (List ℕ)) : Type 0 where
-  pub lines : List (List ℕ)
-  pub left : List (List ℕ)
-  pub cut : lines_of bytes ≡ lines ++ left
-  pub schedule : Parsed
-  pub reads : schedule_in lines ≡ Ok schedule
-  pub written : WritesUpTo fault first now (run_text schedule)
-  pub cause : IsHaltedBy fault bytes lines left
+-- what was written is the text of the trace of the lines that were done
+abbrev pub IsHalted : StreamFault Cause → List ℕ → Option (List ℕ) → Option (List ℕ) → Type 0
+IsHalted fault bytes first now = Halts (λ said text. text ≡ run_text said) fault bytes first now
 
 -- Of the lines in these bytes some were done, and they are a schedule; nothing was written.
 pub record IsHaltedAt (fault : StreamFault Cause) (bytes : List ℕ) : Type 0 where
@@ -38,4 +21,4 @@ pub record IsHaltedAt (fault : StreamFault Cause) (bytes : List ℕ) : Type 0 wh
   pub cut : lines_of bytes ≡ lines ++ left
   pub schedule : Parsed
   pub reads : schedule_in lines ≡ Ok schedule
-  pub cause : IsHaltedBy fault bytes lines left
+  pub cause : IsCauseBy is_refused_by fault lines left

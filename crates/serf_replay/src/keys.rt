@@ -6,7 +6,7 @@ use serf_model::EventLine;
 use std::alloc::{AllocError, Global};
 
 /// An event: a time, a name and a payload.
-#[derive(Debug, Drop, PartialEq, Eq, Hash)]
+#[derive(Drop, PartialEq, Eq, Hash)]
 pub struct EventKey {
     pub time: u64,
     pub name: Vec<u8>,

@@ -20,7 +20,7 @@ pub use keys::EventKey;
 pub use laws::traced_schedules;
 pub use serf_schedule::{
     Command, Lone, ReplayFault, Run, Schedule, ScheduleFault, TraceText, Unwatched, Verb, Watch,
-    answer_words, command_in, lines_grow, lines_stay, parse_schedule, put_action, put_answer,
+    answer_words, command_in, lines_stay, parse_schedule, put_action, put_answer,
     read_schedule_line, show_trace, sink_call, sized_schedules, told_schedules,
 };
 pub use serf_text::{

@@ -33,8 +33,9 @@ pub fn summarize<T: Watch>(
     let teller = Summary::new(alloc);
     let mut watched = Watched { teller, watch, all };
     tell_schedule(alloc, schedule, &mut watched)?;
-    let Watched { teller, .. } = watched;
-    Ok(teller.with_size(size))
+    let Watched { mut teller, .. } = watched;
+    teller.size = size;
+    Ok(teller)
 }
 
 /// The summary of the run of a schedule that is read line by line. Each line is read, done, counted and dropped.
@@ -59,8 +60,9 @@ pub fn summarize_lines<R: Read>(
     match tell_lines(alloc, reader, &mut io::sink(), &mut run) {
         Ok(()) => {
             let size = run.agents();
-            let summary = mem::replace(&mut run.teller, Summary::new(alloc));
-            Ok(summary.with_size(size))
+            let mut summary = mem::replace(&mut run.teller, Summary::new(alloc));
+            summary.size = size;
+            Ok(summary)
         }
         Err(fault) => Err(fault),
     }

@@ -87,27 +87,6 @@ impl Summary {
         }
     }
 
-    /// The same of a cluster that has so many agents. Takes no memory.
-    pub(crate) fn with_size(self, size: u64) -> Summary
-        ensures size { result.size ≡ size }
-        ensures same { (lines : List Shown) → IsSummary self lines → IsSummary result lines }
-    {
-        let Summary {
-            actions,
-            answers,
-            agents,
-            events,
-            ..
-        } = self;
-        Summary {
-            size,
-            actions,
-            answers,
-            agents,
-            events,
-        }
-    }
-
     /// Takes the line of the next action in.
     pub(crate) fn add(&mut self, alloc: Global, line: &Line) -> Result<(), AllocError>
         ensures { (lines : List Shown) → IsSummary self.old lines

@@ -3,34 +3,38 @@
 
 mod agents;
 mod commands;
-mod ending;
-mod input;
+mod fault;
+mod io;
 mod options;
+mod parts;
 mod progress;
-mod standard_output;
 
 use commands::run;
-use ending::{COMMAND_LINE, DEVICE};
-use std::io::{self, IsTerminal};
+use fault::{Fault, command_line};
+use io::Io;
+use std::cell::Cell;
+use std::io::{ErrorKind, IsTerminal};
 use std::process::ExitCode;
 
-fn main(rt: HostRuntime) -> ExitCode {
-    let words = match std::env::args(&rt) {
-        Ok(args) => args.collect::<Vec<String>>(rt.alloc()),
-        Err(error) => {
-            if error.kind() == io::ErrorKind::OutOfMemory {
-                let _ = eprintln!(&rt; "no memory");
-                return ExitCode::from(DEVICE);
-            }
-            let _ = eprintln!(&rt; "error: an argument is not text");
-            return ExitCode::from(COMMAND_LINE);
-        }
-    };
-    match words {
-        Ok(words) => ExitCode::from(run(&rt, &rt, rt.stderr().is_terminal(), &words)),
-        Err(_) => {
-            let _ = eprintln!(&rt; "no memory");
-            ExitCode::from(DEVICE)
-        }
+/// The words of the command line, of which the first is the program's name.
+fn words_of(io: Io) -> Result<Vec<String>, Fault<'static>> {
+    match std::env::args(io.rt) {
+        Ok(args) => Ok(args.collect::<Vec<String>>(io.alloc())?),
+        Err(error) if error.kind() == ErrorKind::OutOfMemory => Err(Fault::NoMemory),
+        Err(_) => Err(command_line("an argument is not text")),
     }
+}
+
+fn main(rt: HostRuntime) -> ExitCode {
+    let cause = Cell::new(None);
+    let io = Io {
+        rt: &rt,
+        is_terminal: rt.stderr().is_terminal(),
+        cause: &cause,
+    };
+    let status = match words_of(io) {
+        Ok(words) => run(io, &words),
+        Err(fault) => fault.tell(io, None),
+    };
+    ExitCode::from(status.code())
 }

@@ -1,8 +1,60 @@
-//! The words of a command line: what each command takes, and what is said where an option has a bad word.
+//! The words of a command line: what each command takes, as rows, and what is said where an option has a bad word.
 
-use crate::ending::COMMAND_LINE;
-use clap::{Arg, ArgAction, Command, value_parser};
+use crate::fault::Fault;
+use clap::builder::ValueParser;
+use clap::{Arg, ArgAction, Command};
 use std::alloc::{AllocError, Global};
+
+/// What a command takes: an option, or a word in its place.
+#[derive(Clone, Copy)]
+pub(crate) struct Row {
+    /// The option, without its hyphens, or how help calls the word.
+    pub(crate) name: &'static str,
+    pub(crate) takes: Takes,
+    pub(crate) help: &'static str,
+}
+
+/// Which words an option takes, and how help calls them, or which a place does.
+#[derive(Clone, Copy)]
+pub(crate) enum Takes {
+    /// A word in its place.
+    Place,
+    /// A word in its place, without which the command is refused.
+    Needed,
+    /// A number in its place, without which the command is refused.
+    NeededNumber,
+    /// Any number of words in their places.
+    Places,
+    /// An option without a word.
+    Flag,
+    /// An option with a word.
+    Word(&'static str),
+    /// An option with a word, which may be given many times.
+    Words(&'static str),
+    /// An option with a number from the one to the other.
+    Number(&'static str, u64, u64),
+}
+
+/// A command, with what it takes in the order of its help.
+#[derive(Clone, Copy)]
+pub(crate) struct CommandRow {
+    pub(crate) name: &'static str,
+    pub(crate) about: &'static str,
+    pub(crate) example: &'static str,
+    pub(crate) rows: &'static [Row],
+}
+
+/// The rows of a command, a line each: a name, what it takes, and its help.
+macro_rules! rows {
+    ($($name:literal $takes:expr => $help:expr;)*) => {
+        &[$($crate::options::Row { name: $name, takes: $takes, help: $help }),*]
+    };
+}
+
+pub(crate) use rows;
+
+/// The help of a schedule that is given in its place.
+pub(crate) const SCHEDULE: &str = "The schedule; standard input where it is left out or `-`";
 
 /// The words that name a kind of random schedules.
 pub(crate) const KINDS: &str =
@@ -12,119 +64,54 @@ pub(crate) const KINDS: &str =
 pub(crate) const KINDS_OR_ALL: &str =
     "mixed (where left out), tiny, merges, restarts, devices, injections, queries, limits, exhaustion, per-time, compactions, gossip, spellings, kept, rounds or all";
 
-/// A word that is given in its place.
-pub(crate) fn place<'a>(alloc: Global, name: &'a str, help: &'a str) -> Arg<'a> {
-    Arg::new(alloc, name).help(help).action(ArgAction::Set)
-}
-
-/// Words that are given in their places, any number of them.
-pub(crate) fn places<'a>(alloc: Global, name: &'a str, help: &'a str) -> Arg<'a> {
-    place(alloc, name, help).action(ArgAction::Append)
-}
-
-/// An option that takes one word.
-pub(crate) fn option<'a>(alloc: Global, name: &'a str, help: &'a str) -> Arg<'a> {
-    option_of(alloc, name, value_of(name), help)
-}
-
-/// An option that takes one word, which help calls by this name.
-pub(crate) fn option_of<'a>(
-    alloc: Global,
-    name: &'a str,
-    value: &'a str,
-    help: &'a str,
-) -> Arg<'a> {
-    place(alloc, name, help).long(name).value_name(value)
-}
-
-/// An option that takes a number.
-pub(crate) fn number<'a>(alloc: Global, name: &'a str, help: &'a str) -> Arg<'a> {
-    option(alloc, name, help).value_parser(value_parser!(u64))
-}
-
-/// An option that takes a number, which help calls by this name.
-pub(crate) fn number_of<'a>(
-    alloc: Global,
-    name: &'a str,
-    value: &'a str,
-    help: &'a str,
-) -> Arg<'a> {
-    number(alloc, name, help).value_name(value)
-}
-
-/// An option that takes one word, may be given many times, and is called by this name in help.
-pub(crate) fn many_of<'a>(alloc: Global, name: &'a str, value: &'a str, help: &'a str) -> Arg<'a> {
-    option_of(alloc, name, value, help).action(ArgAction::Append)
-}
-
-/// An option that takes no word.
-pub(crate) fn flag<'a>(alloc: Global, name: &'a str, help: &'a str) -> Arg<'a> {
-    Arg::new(alloc, name)
-        .help(help)
-        .long(name)
-        .action(ArgAction::SetTrue)
-}
-
-/// What help calls the word after an option.
-fn value_of<'a>(option: &str) -> &'a str {
-    match option {
-        "agent" => "AGENT",
-        "kind" => "KIND",
-        "random" => "A-B",
-        "rules" => "RULES",
-        _ => "N",
+/// What clap has for a row.
+fn arg_of<'a>(alloc: Global, row: &Row) -> Arg<'a> {
+    let Row { name, takes, help } = *row;
+    let arg = Arg::new(alloc, name).help(help);
+    match takes {
+        Takes::Place => arg.action(ArgAction::Set),
+        Takes::Needed => arg.action(ArgAction::Set).required(true),
+        Takes::NeededNumber => arg
+            .action(ArgAction::Set)
+            .required(true)
+            .value_parser(ValueParser::Unsigned(0, u64::MAX)),
+        Takes::Places => arg.action(ArgAction::Append),
+        Takes::Flag => arg.long(name).action(ArgAction::SetTrue),
+        Takes::Word(value) => arg.action(ArgAction::Set).long(name).value_name(value),
+        Takes::Words(value) => arg.action(ArgAction::Append).long(name).value_name(value),
+        Takes::Number(value, least, most) => arg
+            .action(ArgAction::Set)
+            .long(name)
+            .value_name(value)
+            .value_parser(ValueParser::Unsigned(least, most)),
     }
 }
 
-/// A command that takes no word yet.
-pub(crate) fn bare_command<'a>(
-    alloc: Global,
-    name: &'a str,
-    about: &'a str,
-    example: &'a str,
-) -> Command<'a> {
-    Command::new(alloc, name).about(about).after_help(example)
+/// What clap has for a command.
+fn command_of<'a>(alloc: Global, row: &CommandRow) -> Result<Command<'a>, AllocError> {
+    let mut command = Command::new(alloc, row.name)
+        .about(row.about)
+        .after_help(row.example);
+    for option in row.rows {
+        command = command.arg(arg_of(alloc, option))?;
+    }
+    Ok(command)
 }
 
-/// A command, with this argument too.
-pub(crate) fn with<'a>(
-    command: Result<Command<'a>, AllocError>,
-    arg: Arg<'a>,
+/// A program, with these commands too. Help shows them in this order.
+pub(crate) fn with_commands<'a>(
+    alloc: Global,
+    program: Command<'a>,
+    rows: &[CommandRow],
 ) -> Result<Command<'a>, AllocError> {
-    command?.arg(arg)
-}
-
-/// What may stand after an option.
-fn words_for(option: &str) -> &'static str {
-    match option {
-        "agent" => "the number of an agent, counted from 0, where a schedule is given",
-        "agents" => "at most 64, or 10,000 where --kind is rounds",
-        "as" => "svg or mermaid",
-        "go-on" => "a number, where --random is given and --shrink isn't",
-        "fanout" => "1 to 16, where --kind is rounds",
-        "kind" => KINDS,
-        "loss" => "0 to 99, where --kind is rounds",
-        "random" => "seeds as A-B, from the less to the greater",
-        "rounds" => "1 to 10000, where --kind is rounds",
-        "rules" => "serf or own",
-        "save" => "a file, where --shrink is given too",
-        _ => "a number",
+    let mut program = program;
+    for row in rows {
+        program = program.subcommand(command_of(alloc, row)?)?;
     }
+    Ok(program)
 }
 
-/// Says that the word of an option is none of these, which it may have.
-pub(crate) fn bad_word(rt: &impl Eprint, name: &str, words: &str) -> u8 {
-    let _ = eprintln!(rt; "error: a bad word for --{name}: here may stand {words}");
-    COMMAND_LINE
-}
-
-/// Says why words don't stand together.
-pub(crate) fn bad_words(rt: &impl Eprint, why: &str) -> u8 {
-    let _ = eprintln!(rt; "error: {why}");
-    COMMAND_LINE
-}
-
-/// Says that the word of an option is none that it may have, and which it may.
-pub(crate) fn bad_option(rt: &impl Eprint, name: &str) -> u8 {
-    bad_word(rt, name, words_for(name))
+/// The word of an option is none of these, which it may have.
+pub(crate) fn bad_word<'a>(name: &'a str, words: &'a str) -> Fault<'a> {
+    Fault::CommandLine("a bad word for --", name, ": here may stand ", words, "")
 }

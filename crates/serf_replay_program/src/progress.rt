@@ -1,7 +1,8 @@
 //! How far a long run is, on a terminal.
 
+use crate::io::Io;
 use serf_schedule::Watch;
-use std::time::{Clock, Duration, Instant};
+use std::time::{Duration, Instant};
 
 /// A run shows a line each time that so many seconds are over, and a shorter run none.
 const PERIOD_SECONDS: u64 = 1;
@@ -13,8 +14,8 @@ const ACTIONS: u64 = 1024;
 ///
 /// Where the clock can't be read or the terminal takes nothing, nothing more is shown, and the run goes on.
 #[derive(Drop)]
-pub struct Progress<'a, R> {
-    rt: &'a R,
+pub(crate) struct Progress<'a> {
+    io: Io<'a>,
     /// When a line was shown, or the run began; `None` where nothing is to be shown.
     since: Option<Instant>,
     /// What is counted, as the line says it.
@@ -27,61 +28,69 @@ pub struct Progress<'a, R> {
     before: u64,
 }
 
-impl<'a, R: Clock + Eprint> Progress<'a, R> {
+impl<'a> Progress<'a> {
     /// The progress of a run of actions that begins now.
-    pub fn new(rt: &'a R, is_terminal: bool) -> Progress<'a, R> {
-        Progress::of(rt, is_terminal, "actions", ACTIONS)
+    pub(crate) fn of_actions(io: Io<'a>) -> Progress<'a> {
+        Progress::of(io, "actions", ACTIONS, "")
     }
 
     /// The progress of a hunt through seeds that begins now, over schedules of this kind where it is to be said.
-    pub fn of_seeds(rt: &'a R, is_terminal: bool, kind: &'static str) -> Progress<'a, R> {
-        let progress = Progress::of(rt, is_terminal, "seeds", 1);
-        Progress { kind, ..progress }
-    }
-
-    /// What is reported from here on comes after so many that were done.
-    pub fn goes_on_behind(&mut self, before: u64) {
-        self.before = before;
+    pub(crate) fn of_seeds(io: Io<'a>, kind: &'static str) -> Progress<'a> {
+        Progress::of(io, "seeds", 1, kind)
     }
 
     /// The progress of trials of fewer calls that begin now.
-    pub fn of_calls(rt: &'a R, is_terminal: bool) -> Progress<'a, R> {
-        Progress::of(rt, is_terminal, "calls are left out", 1)
+    pub(crate) fn of_calls(io: Io<'a>) -> Progress<'a> {
+        Progress::of(io, "calls are left out", 1, "")
     }
 
-    fn of(rt: &'a R, is_terminal: bool, things: &'static str, step: u64) -> Progress<'a, R> {
-        let since = if is_terminal {
-            Instant::now(rt).ok()
+    /// The progress of what is read, in bytes, from now on.
+    pub(crate) fn of_bytes(io: Io<'a>) -> Progress<'a> {
+        Progress::of(io, "bytes are read", 1, "")
+    }
+
+    /// What is reported from here on comes after so many that were done.
+    pub(crate) fn goes_on_behind(&mut self, before: u64) {
+        self.before = before;
+    }
+
+    fn of(io: Io<'a>, things: &'static str, step: u64, kind: &'static str) -> Progress<'a> {
+        let since = if io.is_terminal {
+            Instant::now(io.rt).ok()
         } else {
             None
         };
         Progress {
-            rt,
+            io,
             since,
             things,
             step,
-            kind: "",
+            kind,
             before: 0,
         }
     }
 
-    /// Shows a line where it is time for one, and gives the time since which the next one waits.
+    /// Shows a line where it is time for one, without the number of all where nobody knows it, and gives the time since which the next one waits.
     fn show(&self, since: Instant, done: u64, all: u64) -> Option<Instant> {
-        let now = Instant::now(self.rt).ok()?;
+        let rt = self.io.rt;
+        let now = Instant::now(rt).ok()?;
         if now.duration_since(since) < Duration::from_secs(PERIOD_SECONDS) {
             return Some(since);
         }
-        if !self.kind.is_empty() {
-            let kind = self.kind;
-            eprint!(self.rt; "kind {kind}: ").ok()?;
+        let (kind, things) = (self.kind, self.things);
+        if !kind.is_empty() {
+            eprint!(rt; "kind {kind}: ").ok()?;
         }
-        let things = self.things;
-        eprintln!(self.rt; "{done} of {all} {things}").ok()?;
+        if all == u64::MAX {
+            eprintln!(rt; "{done} {things}").ok()?;
+        } else {
+            eprintln!(rt; "{done} of {all} {things}").ok()?;
+        }
         Some(now)
     }
 }
 
-impl<R: Clock + Eprint> Watch for Progress<'_, R> {
+impl Watch for Progress<'_> {
     fn is_watching(&self) -> bool {
         self.since.is_some()
     }

@@ -1,6 +1,7 @@
 pub mod Command
 pub mod Comments
 pub mod Grown
+pub mod Halted
 pub mod Laws
 pub mod Line
 pub mod Output

@@ -7,7 +7,7 @@ use serf_model::Act;
 use serf_text::is_word;
 
 /// What a line is about.
-#[derive(Clone, Copy, Debug, PartialEq, Eq)]
+#[derive(Clone, Copy, PartialEq, Eq)]
 pub enum Command {
     /// An agent of the cluster.
     Agent,
@@ -20,7 +20,7 @@ pub enum Command {
 }
 
 /// What an agent does, other than a query.
-#[derive(Clone, Copy, Debug, PartialEq, Eq)]
+#[derive(Clone, Copy, PartialEq, Eq)]
 pub enum Verb {
     Deliver,
     Fire,
@@ -34,7 +34,7 @@ pub enum Verb {
 }
 
 /// What an agent does by a word that stands alone: its line has the agent behind it, and nothing else.
-#[derive(Clone, Copy, Debug, PartialEq, Eq)]
+#[derive(Clone, Copy, PartialEq, Eq)]
 pub enum Lone {
     State,
     Save,

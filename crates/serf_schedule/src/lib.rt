@@ -25,7 +25,7 @@ pub use command::{Command, Lone, Verb, command_in, verb_word};
 pub use laws::{
     comments_skipped, lines_grow, lines_stay, sized_schedules, text_reads_back, told_schedules,
 };
-pub use parse::{ScheduleFault, fault_at, parse_schedule, read_line, read_schedule_line, say_line};
+pub use parse::{ScheduleFault, fault_at, parse_schedule, read_schedule_line};
 pub use replay_fault::ReplayFault;
 pub use run::Run;
 pub use sayable::{has_byte_name, is_sayable};

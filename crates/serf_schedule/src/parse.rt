@@ -16,7 +16,7 @@ use crate::command::{Command, Verb, command_in};
 use crate::line::{action, agent, injection, query};
 use crate::schedule::Schedule;
 use serf_model::Action;
-use serf_text::{Cause, LineFault, cut, take_words};
+use serf_text::{Cause, LineFault, cut, cut_words, take_words};
 use serf_world::{Roster, RosterFault};
 use std::alloc::Global;
 use thiserror::Error;
@@ -178,16 +178,14 @@ fn is_comment(line: &[u8]) -> bool
 }
 
 /// What a line says after those of a schedule: its action, or none where it has an agent, which is added to the others,
-/// or says nothing. `is_late` where an action stands before it. There is room for its words that the lines before it used
-/// too: what stands in `words` is forgotten.
+/// or says nothing. `is_late` where an action stands before it.
 #[tactic(auto, unfolding(crate::specs::Line::after_line))]
 #[inline(always)]
-pub fn say_line<'a>(
+pub(crate) fn say_line(
     alloc: Global,
     agents: &mut Roster,
     is_late: bool,
-    words: &mut Vec<&'a [u8]>,
-    line: &'a [u8],
+    line: &[u8],
 ) -> Result<Option<Action>, LineFault>
     ensures said { (before : Parsed) → IsHeld is_late agents.old before
         → Gives (behind is_late before agents.new) result (after_line before line.entry.now) }
@@ -197,39 +195,18 @@ pub fn say_line<'a>(
     if is_comment(line) {
         return Ok(None);
     }
-    let rest = take_words(line, words)?;
-    if words.is_empty() {
+    let (first, count, rest) = cut_words(line);
+    if count == 0 {
         return Ok(None);
     }
-    read_words(alloc, agents, is_late, words, rest)
-}
-
-/// Reads a line after those of a schedule, as [`read_schedule_line`] does, with room for its words.
-#[inline(always)]
-pub fn read_line<'a>(
-    alloc: Global,
-    parsed: &mut Schedule,
-    words: &mut Vec<&'a [u8]>,
-    line: &'a [u8],
-) -> Result<(), LineFault>
-    ensures { Gives (λ _. parsed_of parsed.new) result
-        (after_line (parsed_of parsed.old) line.entry.now) }
-{
-    let is_late = !parsed.actions.is_empty();
-    match say_line(alloc, &mut parsed.agents, is_late, words, line) {
-        Ok(Some(action)) => match parsed.actions.push(action) {
-            Ok(()) => Ok(()),
-            Err(_) => Err(LineFault::OutOfMemory),
-        },
-        Ok(None) => Ok(()),
-        Err(fault) => Err(fault),
-    }
+    read_words(alloc, agents, is_late, &first[..count], rest)
 }
 
 /// Reads a line after those of a schedule: its agent or its action is put after the others.
 ///
 /// Words stand between spaces. A line without words, and one whose first byte is `#`, say nothing. What stands in the
 /// schedule after a fault is not said.
+#[inline(always)]
 pub fn read_schedule_line(
     alloc: Global,
     schedule: &mut Schedule,
@@ -240,8 +217,15 @@ pub fn read_schedule_line(
     // The agents can make a cluster.
     ensures agents { AreConfigs schedule.new.agents }
 {
-    let mut words = Vec::new(alloc);
-    read_line(alloc, schedule, &mut words, line)
+    let is_late = !schedule.actions.is_empty();
+    match say_line(alloc, &mut schedule.agents, is_late, line) {
+        Ok(Some(action)) => match schedule.actions.push(action) {
+            Ok(()) => Ok(()),
+            Err(_) => Err(LineFault::OutOfMemory),
+        },
+        Ok(None) => Ok(()),
+        Err(fault) => Err(fault),
+    }
 }
 
 /// The schedule that a text stands for, or its first bad line.
@@ -262,12 +246,11 @@ pub fn parse_schedule(alloc: Global, text: &[u8]) -> Result<Schedule, ScheduleFa
         agents: Roster::new(alloc),
         actions: Vec::new(alloc),
     };
-    let mut words = Vec::new(alloc);
     let mut number: u64 = 1;
     let mut rest = text;
     'lines: loop {
         let (line, more) = cut(rest, b'\n');
-        if let Err(fault) = read_line(alloc, &mut parsed, &mut words, line) {
+        if let Err(fault) = read_schedule_line(alloc, &mut parsed, line) {
             return Err(fault_at(number, fault));
         }
         match more {

@@ -186,9 +186,8 @@ impl<T: Turns> Run<T> {
             → HasRun (T.told asked) self.old lines told
             → IfErr result (λ fault. IsLineRefused fault lines line.now) }
     {
-        let mut words = Vec::new(alloc);
         let is_late = self.acting.is_some();
-        match say_line(alloc, &mut self.agents, is_late, &mut words, line) {
+        match say_line(alloc, &mut self.agents, is_late, line) {
             Ok(Some(action)) => {
                 let (agents, acting, teller) = (
                     &mut self.agents,

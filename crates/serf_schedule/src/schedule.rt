@@ -6,7 +6,7 @@ use serf_model::Action;
 use serf_world::Roster;
 
 /// The agents and the actions, in order. Both are numbered from 0.
-#[derive(Debug, Drop)]
+#[derive(Drop)]
 pub struct Schedule {
     pub agents: Roster,
     pub actions: Vec<Action>,

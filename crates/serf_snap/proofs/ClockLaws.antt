@@ -1,5 +1,5 @@
 -- What appending does to the lines and to the greatest values of a text.
-use Rattle.serf_snap.proofs.Names.{◌≡◌, ◌≢◌, ℕ, ◌+◌, ◌*◌, ◌-◌, ◌^◌, ◌<◌, ◌≤◌, min, max, inl, inr, take, drop, get_or, Bool, true, false, cond, subst, ◌&&◌, not, eqb, Option, Some, None, List, [], ◌∷◌, ◌++◌, refl, sym, ap, ◌∙◌, arith, rules, append_assoc, length, decimal, nat_lt, is_ascii_digit, all_ascii_digits, pointwise, same_text, other_text, slice_get, nat_eq, cases_Bool, eq-eqb, eqb-true, ltb-true, cases_lt, and_parts, and_from, and_left, and_right, not-true, cond-true, cond-false, ne_eqb, leb-true, lt-ltb, common_steps, take-append-drop, drop-drop, drop_more, take_more, get_or-drop, length-drop, IsNumeralModel, numerals_by_fold, digits_decimal, digits_value-decimal, decimal_nonempty}
+use Rattle.serf_snap.proofs.Names.{◌≡◌, ◌≢◌, ℕ, ◌+◌, ◌*◌, ◌-◌, ◌^◌, ◌<◌, ◌≤◌, min, max, inl, inr, take, drop, get_or, Bool, true, false, cond, ◌&&◌, not, eqb, Option, Some, None, List, [], ◌∷◌, ◌++◌, refl, sym, ap, ◌∙◌, arith, rules, append_assoc, length, decimal, nat_lt, is_ascii_digit, all_ascii_digits, pointwise, same_text, other_text, slice_get, nat_eq, cases_Bool, eq-eqb, eqb-true, ltb-true, cases_lt, and_parts, and_from, and_left, and_right, not-true, cond-true, cond-false, ne_eqb, leb-true, lt-ltb, common_steps, take-append-drop, drop_more, IsNumeralModel, numerals_by_fold, digits_decimal, digits_value-decimal, decimal_nonempty}
 use Rattle.std.specs.Prelude.{nat_le, ◌==◌}
 use Rattle.serf_snap.specs.declared.kind.ClockKind.{ClockKind}
 use Rattle.serf_snap.specs.declared.kind.ClockKind.TheVariants.{Member, Event, Query}
@@ -209,82 +209,10 @@ read_on-top n m top ds h = elim (cases_lt n top) [
   | inr high ↦ let a = read_on-grows n ds in let b = read_on-grows m ds in omega arith
 ]
 
--- the first line, and the rest
-pub last_clock-first : (k : ClockKind) (line rest : List ℕ) → has_no_newline line ≡ true → last_clock k (line ++ 10 ∷ rest) ≡ max (line_value k line) (last_clock k rest)
-last_clock-first k line rest none =
-    ap (last_clock k) (sym (append_assoc line (10 ∷ []) rest))
-    ∙ ap (greatest k) (lines_of-append (line ++ 10 ∷ []) rest (is_whole-push line) ∙ ap (λ (l : List (List ℕ)). l ++ lines_of rest) (lines_of-one line none))
-
-pub last_clock-no_line : (k : ClockKind) (line : List ℕ) → has_no_newline line ≡ true → last_clock k line ≡ 0
-last_clock-no_line k line none = ap (greatest k) (no_lines line none)
-  where
-    no_lines : (l : List ℕ) → has_no_newline l ≡ true → lines_of l ≡ []
-    no_lines [] h = refl
-    no_lines (b ∷ bs) h =
-        let p = and_parts (not (eqb b 10)) (has_no_newline bs) h in
-        cond-false (eqb b 10) _ _ (grind (arith, p.0)) ∙ ap (onto_line b) (no_lines bs p.1)
-
--- one byte more that is no newline
-pub no_newline-push : (xs : List ℕ) (b : ℕ) → has_no_newline xs ≡ true → (b == 10) ≡ false → has_no_newline (xs ++ b ∷ []) ≡ true
-no_newline-push [] b h other = ap (λ t. not t && true) other
-no_newline-push (x ∷ xs) b h other = let p = and_parts (not (eqb x 10)) (has_no_newline xs) h in and_from _ _ p.0 (no_newline-push xs b p.1 other)
-
-rest-at : (text : List ℕ) (from j : ℕ) → from + j < length text → drop from text ≡ take j (drop from text) ++ get_or text (from + j) 0 ∷ drop (from + j + 1) text
-rest-at text from j h = sym (take-append-drop j (drop from text)) ∙ ap (λ (l : List ℕ). take j (drop from text) ++ l) (drop-drop j from text ∙ drop_more text (from + j) 0 h)
-
--- a newline at i ends the line that began at from
-pub last_clock-at : (k : ClockKind) (text : List ℕ) (from i best : ℕ) → from ≤ i → i < length text → get_or text i 0 ≡ 10 → has_no_newline (take (i - from) (drop from text)) ≡ true
-    → max best (last_clock k (drop from text)) ≡ max (max best (line_value k (take (i - from) (drop from text)))) (last_clock k (drop (i + 1) text))
-last_clock-at k text from i best low within is none =
-    let same : from + (i - from) ≡ i = omega arith in
-    let at : drop from text ≡ take (i - from) (drop from text) ++ get_or text i 0 ∷ drop (i + 1) text =
-    subst (λ (n : ℕ). drop from text ≡ take (i - from) (drop from text) ++ get_or text n 0 ∷ drop (n + 1) text) same (rest-at text from (i - from) (omega arith)) in
-    let rest : drop from text ≡ take (i - from) (drop from text) ++ 10 ∷ drop (i + 1) text = at ∙ ap (λ (b : ℕ). take (i - from) (drop from text) ++ b ∷ drop (i + 1) text) is in
-    let first : last_clock k (drop from text) ≡ max (line_value k (take (i - from) (drop from text))) (last_clock k (drop (i + 1) text)) = ap (last_clock k) rest ∙ last_clock-first k (take (i - from) (drop from text)) (drop (i + 1) text) none in
-    omega arith
-
-pub no_newline-at : (text : List ℕ) (from i : ℕ) → from ≤ i → i < length text → (get_or text i 0 == 10) ≡ false → has_no_newline (take (i - from) (drop from text)) ≡ true → has_no_newline (take (i + 1 - from) (drop from text)) ≡ true
-no_newline-at text from i low within other none =
-    let one : i + 1 - from ≡ (i - from) + 1 = omega arith in
-    let same : from + (i - from) ≡ i = omega arith in
-    let inside : i - from < length (drop from text) = omega (arith, length-drop from text) in
-    let byte : get_or (drop from text) (i - from) 0 ≡ get_or text i 0 = get_or-drop from text (i - from) 0 ∙ ap (λ (n : ℕ). get_or text n 0) same in
-    let more : take (i + 1 - from) (drop from text) ≡ take (i - from) (drop from text) ++ get_or text i 0 ∷ [] =
-    ap (λ (n : ℕ). take n (drop from text)) one ∙ take_more (drop from text) (i - from) 0 inside ∙ ap (λ (b : ℕ). take (i - from) (drop from text) ++ b ∷ []) byte in
-    rw more (no_newline-push (take (i - from) (drop from text)) (get_or text i 0) none other)
-
-pub last_clock-end : (k : ClockKind) (text : List ℕ) (from i best : ℕ) → i ≡ length text → has_no_newline (take (i - from) (drop from text)) ≡ true → max best (last_clock k (drop from text)) ≡ best
-last_clock-end k text from i best end none =
-    let all : take (i - from) (drop from text) ≡ drop from text = grind (arith, common_steps) in
-    let zero : last_clock k (drop from text) ≡ 0 = last_clock-no_line k (drop from text) (rw all at none) in
-    omega arith
-
 -- one digit more, at the top or below it
 pub read_on-step : (n m top i : ℕ) (ds : List ℕ) → i < length ds → m ≡ min (min (n * 10) top + (get_or ds i 0 - 48)) top → min (read_on m (drop (i + 1) ds)) top ≡ min (read_on n (drop i ds)) top
 read_on-step n m top i ds within is =
     rw (drop_more ds i 0 within) (read_on-top m (10 * n + (get_or ds i 0 - 48)) top (drop (i + 1) ds) (omega arith))
-
--- how far the clock of a kind is read: the lines before from count, and from there on no line has ended
-pub record Reads (k : ClockKind) (text : List ℕ) (from i best : ℕ) : Type 0 where
-  pub low : from ≤ i
-  pub none : has_no_newline (take (i - from) (drop from text)) ≡ true
-  pub read : max best (last_clock k (drop from text)) ≡ last_clock k text
-
-pub reads-line : (k : ClockKind) (text : List ℕ) (from i best value : ℕ) → Reads k text from i best → i < length text → get_or text i 0 ≡ 10 → value ≡ line_value k (take (i - from) (drop from text)) → Reads k text (i + 1) (i + 1) (max best value)
-reads-line k text from i best value r within is says =
-    let none : take (i + 1 - (i + 1)) (drop (i + 1) text) ≡ [] = grind (arith, common_steps) in
-    record {
-      low = omega arith;
-      none = rw none refl;
-      read = rw says (sym (last_clock-at k text from i best r.low within is r.none) ∙ r.read);
-    }
-
-pub reads-byte : (k : ClockKind) (text : List ℕ) (from i best : ℕ) → Reads k text from i best → i < length text → get_or text i 0 ≢ 10 → Reads k text from (i + 1) best
-reads-byte k text from i best r within other =
-    record { low = let low : from ≤ i = r.low in omega arith; none = no_newline-at text from i r.low within (ne_eqb _ _ other) r.none; read = r.read }
-
-pub reads-end : (k : ClockKind) (text : List ℕ) (from i best : ℕ) → Reads k text from i best → length text ≤ i → i ≤ length text → best ≡ last_clock k text
-reads-end k text from i best r past within = sym (last_clock-end k text from i best (omega arith) r.none) ∙ r.read
 
 pub value-below : (r : Option (List ℕ)) → time_text_value r < 2 ^ 64 - 1
 value-below None = omega arith

@@ -4,7 +4,7 @@ use Rattle.serf_snap.specs.declared.kind.ClockKind.{ClockKind}
 use Rattle.serf_snap.specs.declared.kind.ClockKind.TheVariants.{Member, Event, Query}
 use Rattle.serf_snap.specs.Clocks.{greatest, is_whole, last_clock, line_above_zero, line_value, lines_of}
 use Rattle.serf_snap.specs.EventLines.{event_line, event_text, kept_clock_line, kept_clock_text, least_line, least_text, query_line, query_text}
-use Rattle.serf_snap.specs.KeptNotes.{SaysNoClock, kept_bytes, kept_compaction_of, kept_line_above_zero, kept_noted}
+use Rattle.serf_snap.specs.KeptNotes.{SaysNoClock, compaction_bytes, kept_bytes, kept_compaction_of, kept_line_above_zero, kept_noted, lines_given, text_with}
 use Rattle.serf_snap.specs.Notes.{IsKept, IsSnapshotSound, KeepsEither, KeepsPart, Kept, Failed, SnapshotView, last_line, text_replaced, written}
 use Rattle.serf_snap.proofs.ClockLaws.{greatest-append, has_no_newline, is_whole-above_zero, is_whole-push, last_clock-above_zero, last_clock-below, lines_of-append, lines_of-one}
 use Rattle.serf_snap.proofs.EventLineLaws.{hash_no_clock, no_newline-event, no_newline-query}
@@ -210,3 +210,8 @@ sound-kept_compaction_failed s lines durable sound says either k at = by s.durab
           equal = λ x. absurd (true≢false x);
           whole = λ x. absurd (true≢false x);
         }
+
+-- the parts of a compaction are the text that it is to leave
+pub text-given : (lines : List ℕ) (s : SnapshotView) → compaction_bytes lines s.member_clock s.event_clock s.query_clock ≡ text_with (lines_given lines) s
+text-given [] s = refl
+text-given (b ∷ bs) s = refl

@@ -1,10 +1,13 @@
 -- When a text is worth a compaction, from a length that stays at 2^64 - 1.
-use Rattle.serf_snap.proofs.Names.{◌/◌, le-leb, both_ways, ◌≡◌, ℕ, ◌+◌, ◌-◌, ◌*◌, ◌^◌, ◌<◌, ◌≤◌, ◌&&◌, min, nat_le, nat_lt, true, List, [], ◌++◌, length, length-append, option_map, Option, Some, None, IfSome, arith, ap, decimal, sym, ◌∙◌, ◌∷◌, leb-true, lt-ltb}
+use Rattle.serf_snap.proofs.Names.{Bool, false, not, subst, refl, ◌/◌, le-leb, both_ways, ◌≡◌, ℕ, ◌+◌, ◌-◌, ◌*◌, ◌^◌, ◌<◌, ◌≤◌, ◌&&◌, min, nat_le, nat_lt, true, List, [], ◌++◌, length, length-append, option_map, Option, Some, None, IfSome, arith, ap, decimal, sym, ◌∙◌, ◌∷◌, leb-true, lt-ltb}
 use Rattle.std.specs.Prelude.{codes, suc}
 use Rattle.hex.specs.Hex.{encode_lower, lower_digits}
 use Rattle.hex.proofs.HexLemmas.{length-encode_with}
 use Rattle.serf_snap.specs.Compaction.{IsLengthOf, counted}
+use Rattle.serf_snap.specs.Clocks.{is_empty, line_above_zero}
 use Rattle.serf_snap.specs.EventLines.{event_line}
+use Rattle.serf_snap.specs.KeptNotes.{compaction_bytes, time_above_zero}
+use Rattle.serf_snap.specs.declared.kind.ClockKind.TheVariants.{Member, Event, Query}
 use Rattle.serf_snap.specs.Device.{Device, Observable, IsClean, appended, durable_of, flushed}
 
 half-of : (n kept c : ℕ) → kept ≡ min n (2 ^ 64 - 1) → c ≤ 102 → nat_le c (kept / 2) ≡ nat_le (2 * c) n
@@ -58,3 +61,25 @@ pub event_line-counted : (t : ℕ) (name payload : List ℕ) (n p texts digits a
 event_line-counted t name payload n p texts digits all a b c d e =
     let each : all ≡ min (10 + length (decimal t) + 2 * length name + 2 * length payload) (2 ^ 64 - 1) = omega (arith, a, b, c, d, e) in
     each ∙ ap (λ k. min k (2 ^ 64 - 1)) (sym (event_line-length t name payload))
+
+-- the text of a compaction is counted, by the length of the lines that it keeps
+pub compaction-counted : (lines : List ℕ) (m e q n all : ℕ) (kept : Bool) → n ≡ counted lines → kept ≡ nat_lt 0 n
+    → all ≡ min (n + (length (time_above_zero false Member m) + length (time_above_zero kept Event e) + length (time_above_zero kept Query q))) (2 ^ 64 - 1) → all ≡ counted (compaction_bytes lines m e q)
+compaction-counted lines m e q n all kept counts is sum =
+    let same : kept ≡ not (is_empty lines) = is ∙ ap (λ (k : ℕ). nat_lt 0 k) counts ∙ some lines in
+    let first : List ℕ = line_above_zero Member m in
+    let second : List ℕ = time_above_zero (not (is_empty lines)) Event e in
+    let third : List ℕ = time_above_zero (not (is_empty lines)) Query q in
+    let a = length-append lines first in
+    let b = length-append (lines ++ first) second in
+    let c = length-append ((lines ++ first) ++ second) third in
+    let total = subst (λ (x : Bool). all ≡ min (n + (length first + length (time_above_zero x Event e) + length (time_above_zero x Query q))) (2 ^ 64 - 1)) same sum in
+    omega (arith, counts, a, b, c, total)
+  where
+    some : (ls : List ℕ) → nat_lt 0 (counted ls) ≡ not (is_empty ls)
+    some [] = refl
+    some (x ∷ xs) = lt-ltb 0 (counted (x ∷ xs)) (omega arith)
+
+-- a short text that is to replace one counts no more than it has
+pub worth-short : (limit n kept c long : ℕ) → kept ≡ min n (2 ^ 64 - 1) → c ≡ min long (2 ^ 64 - 1) → c ≤ 102 → limit < kept → nat_le c (kept / 2) ≡ (nat_lt limit n && nat_le (2 * long) n)
+worth-short limit n kept c long is counts short above = let same : c ≡ long = omega arith in rw (← same) (worth-above limit n kept c is short above)

@@ -1,13 +1,13 @@
 -- What a call leaves that writes: it did so, or the sink failed, or there was no memory, or the snapshot was stopped before.
 -- With a plan it fails exactly where the plan says.
-use Rattle.std.specs.Prelude.{◌≡◌, ◌↔◌, ◌⊎◌, ℕ, ◌<◌, ◌≤◌, false, List, Result, Ok, Err, IsErrOf, IsTrue, OnOk}
+use Rattle.std.specs.Prelude.{◌≡◌, ◌↔◌, ◌⊎◌, ℕ, ◌≤◌, false, List, Option, None, Result, Ok, Err, IsErrOf, IsTrue, OnOk}
 use Rattle.std.specs.Option.{option_map}
 use Rattle.serf_snap.specs.declared.kind.ClockKind.{ClockKind}
 use Rattle.serf_snap.specs.declared.snapshot.NoteFault.{NoteFault}
 use Rattle.serf_snap.specs.declared.snapshot.NoteFault.TheVariants.{OutOfMemory, SinkFault, Stopped}
-use Rattle.serf_snap.specs.Clocks.{clock_line}
 use Rattle.serf_snap.specs.Device.{Device, Fails, FailsReplace, HasFailed, IsClean, appended, flushed, replace_called, replace_decremented, replaced, unreplaced}
-use Rattle.serf_snap.specs.Notes.{SnapshotState, Kept, Failed, HasTriedNote, MayReplaceBy, MayWrite, bytes_written, last_line, note_decremented, noted, text_replaced, written}
+use Rattle.serf_snap.specs.Notes.{SnapshotState, Kept, Failed, HasTriedNote, MayReplaceBy, MayWrite, bytes_written, last_line, note_decremented, text_replaced, written}
+use Rattle.serf_snap.specs.KeptNotes.{MayNote, bytes_with, device_noted, noted_with}
 
 -- the device failed when bytes were appended and flushed, each once at most
 pub record FailsLine (old new : Device) (line : List ℕ) : Type 0 where
@@ -36,17 +36,17 @@ pub record WritesBytes (kind : ClockKind) (last : ℕ) (bytes : List ℕ) (old n
   pub clean : OnOk r (IsClean new.device)
   pub calm : OnOk r (new.device.failures ≡ old.device.failures)
 
--- a time is noted: where it is above the last one of its kind its line is written, by one append and one flush, and else nothing is done
-pub record NotesTime (kind : ClockKind) (time : ℕ) (old new : SnapshotState) (r : Result (Unit {0}) NoteFault) : Type 0 where
+-- A time is noted, with a line of its own where it has one: what there is to write is written, by one append and one flush. Without
+-- such a line nothing is done where the last line of the kind says this time or a later one.
+pub record NotesTime (kind : ClockKind) (time : ℕ) (line : Option (List ℕ)) (old new : SnapshotState) (r : Result (Unit {0}) NoteFault) : Type 0 where
   pub stopped : (r ≡ Err Stopped) ↔ IsTrue old.snapshot.stopped
-  pub none : old.snapshot.stopped ≡ false → time ≤ last_line kind old.snapshot → (r ≡ Ok tt) × (new ≡ old)
-  pub ok : OnOk r (new.snapshot ≡ noted kind time old.snapshot Kept)
-  pub ok_allowed : OnOk r (last_line kind old.snapshot < time → MayWrite old.snapshot (clock_line kind time) Kept)
-  pub ok_device : OnOk r (last_line kind old.snapshot < time → new.device ≡ flushed (appended (clock_line kind time) old.device))
+  pub none : line ≡ None → old.snapshot.stopped ≡ false → time ≤ last_line kind old.snapshot → (r ≡ Ok tt) × (new ≡ old)
+  pub ok : OnOk r (new.snapshot ≡ noted_with kind time line old.snapshot Kept)
+  pub ok_allowed : OnOk r (MayNote kind time line old.snapshot Kept)
+  pub ok_device : OnOk r (new.device ≡ device_noted kind time line old.snapshot old.device)
   pub fault : IsErrOf r SinkFault → new.snapshot ≡ written kind time old.snapshot (Failed new.snapshot.durable)
-  pub fault_allowed : IsErrOf r SinkFault → MayWrite old.snapshot (clock_line kind time) (Failed new.snapshot.durable)
-  pub fault_above : IsErrOf r SinkFault → last_line kind old.snapshot < time
-  pub fault_device : IsErrOf r SinkFault → FailsLine old.device new.device (clock_line kind time)
+  pub fault_allowed : IsErrOf r SinkFault → MayNote kind time line old.snapshot (Failed new.snapshot.durable)
+  pub fault_device : IsErrOf r SinkFault → FailsLine old.device new.device (bytes_with kind time line old.snapshot)
   pub fault_cause : IsErrOf r SinkFault → HasFailed old.device.failures new.device.failures
   pub stays : IsErrOf r Stopped → new ≡ old
   pub memory : IsErrOf r OutOfMemory → new ≡ old

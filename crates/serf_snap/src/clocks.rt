@@ -1,9 +1,8 @@
-//! The clocks that a snapshot text has (`snapshot.go`, `replay`).
+//! Clocks, and the clock lines of a text (`snapshot.go`, `replay`).
 
-ghost use Rattle.std.specs.Prelude.{◌≡◌, ◌-◌, ◌^◌, ◌<◌, Some, max, min};
+ghost use Rattle.std.specs.Prelude.{◌≡◌, ◌-◌, ◌^◌, Some, max, min};
 ghost use Rattle.std.specs.Str.{all_ascii_digits};
-ghost use Rattle.serf_lamport.specs.Clock.{greatest_clock};
-ghost use Rattle.serf_snap.specs.Clocks.{behind, is_whole, last_clock, line_value, of_kind, once_set, read_on, time_text_value};
+ghost use Rattle.serf_snap.specs.Clocks.{behind, is_whole, line_value, of_kind, once_set, read_on, time_text_value};
 ghost use Rattle.serf_snap.specs.declared.kind.ClockKind.TheVariants.{Member, Event, Query};
 
 use crate::kind::ClockKind;
@@ -66,7 +65,7 @@ fn time_behind(prefix: &[u8], line: &[u8]) -> u64
 
 impl Clocks {
     /// These clocks after one more line.
-    fn after_line(self, line: &[u8]) -> Clocks
+    pub(crate) fn after_line(self, line: &[u8]) -> Clocks
         ensures member { result.member_clock ≡ max self.member_clock (line_value Member line.now) }
         ensures event { result.event_clock ≡ max self.event_clock (line_value Event line.now) }
         ensures query { result.query_clock ≡ max self.query_clock (line_value Query line.now) }
@@ -83,33 +82,6 @@ impl Clocks {
                 .max(time_behind(ClockKind::Query.prefix(), line)),
         }
     }
-}
-
-/// The greatest value of the clock lines of each kind in a text. Takes no memory.
-///
-/// Any bytes are a text. A line ends with a newline, so bytes after the last one are no line. A clock line is
-/// `clock: N`, `event-clock: N` or `query-clock: N`, where N is one or more digits and below 2^64 - 1; each
-/// other line is skipped.
-pub fn read_clocks(text: &[u8]) -> Clocks
-    ensures member { result.member_clock ≡ last_clock Member text.now }
-    ensures event { result.event_clock ≡ last_clock Event text.now }
-    ensures query { result.query_clock ≡ last_clock Query text.now }
-    ensures times { (result.member_clock < greatest_clock) × (result.event_clock < greatest_clock)
-        × (result.query_clock < greatest_clock) }
-{
-    let mut clocks = Clocks {
-        member_clock: 0,
-        event_clock: 0,
-        query_clock: 0,
-    };
-    let mut from = 0;
-    for (i, byte) in text.iter().enumerate() {
-        if *byte == b'\n' {
-            clocks = clocks.after_line(&text[from..i]);
-            from = i + 1;
-        }
-    }
-    clocks
 }
 
 /// Whether a text is empty or ends in a newline.

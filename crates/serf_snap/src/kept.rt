@@ -2,6 +2,7 @@
 
 ghost use Rattle.std.specs.Prelude.{◌≡◌};
 
+use crate::clocks::Clocks;
 use serf_lamport::Time;
 use std::marker::Model;
 
@@ -87,4 +88,18 @@ pub struct Wanted {
 pub struct LeastTimes {
     pub events: u64,
     pub queries: u64,
+}
+
+/// What the lines of a text say of times: its clocks, and the least times that an agent takes.
+#[derive(Clone, Copy, Debug, PartialEq, Eq)]
+pub struct TextTimes {
+    pub clocks: Clocks,
+    pub least: LeastTimes,
+}
+
+/// The events and the queries that a text keeps.
+#[derive(Debug, Drop)]
+pub struct KeptEntries {
+    pub events: Vec<KeptEvent>,
+    pub queries: Vec<KeptQuery>,
 }

@@ -1,16 +1,15 @@
-//! The lines of an agent that keeps its events, as they are read.
+//! The lines of an agent that keeps its events, as each is read.
 
 ghost use Rattle.std.specs.Prelude.{false, ◌≡◌, ◌<◌, ◌++◌, ◌==◌, IfOk, MatchOption, OnOk, Some, None, max};
 ghost use Rattle.std.specs.List.{slice_split};
 ghost use Rattle.serf_snap.specs.Clocks.{behind, time_text_value};
-ghost use Rattle.serf_snap.specs.EventLines.{above_unkept, begins_with_zero, bytes_of_hex, event_from, event_from_parts, event_of_line, events_in, id_of, if_event_wanted, if_query_wanted, least_in, least_of_line, least_text_value, queries_in, query_from, query_from_parts, query_of_line};
-ghost use Rattle.serf_snap.specs.declared.kind.ClockKind.TheVariants.{Event, Query};
+ghost use Rattle.serf_snap.specs.EventLines.{above_unkept, begins_with_zero, bytes_of_hex, event_from, event_from_parts, event_of_line, id_of, if_event_wanted, if_query_wanted, least_of_line, least_text_value, query_from, query_from_parts, query_of_line};
 
 use crate::clocks::{is_all_digits, number_of, time_of};
 use crate::event_lines::least_prefix_of;
-use crate::kept::{KeptEvent, KeptQuery, LeastTimes, Wanted};
+use crate::kept::{KeptEvent, KeptQuery, Wanted};
 use crate::kind::ClockKind;
-use crate::parts::{cut, first_line};
+use crate::parts::cut;
 use hex::FromHexError;
 use serf_lamport::Time;
 use std::alloc::{AllocError, Global};
@@ -100,7 +99,7 @@ fn event_in(alloc: Global, line: &[u8]) -> Result<Option<KeptEvent>, AllocError>
 }
 
 /// Takes the event of a line, where it is one that is wanted.
-fn take_event(
+pub(crate) fn take_event(
     events: &mut Vec<KeptEvent>,
     alloc: Global,
     line: &[u8],
@@ -117,26 +116,6 @@ fn take_event(
             Ok(())
         }
         None => Ok(()),
-    }
-}
-
-/// The events of a text's lines that are wanted, in order; an `AllocError` where there is no memory for them.
-///
-/// Any bytes are a text. A line ends with a newline, so bytes behind the last one are no line. An event's line is
-/// `#event TIME NAME PAYLOAD`: the time is one or more digits, of a value from 1 to 2^64 - 2; the name and the
-/// payload are in hex, two digits for each byte, and none for no bytes; and there is just one space before each.
-/// Each other line is skipped.
-pub fn read_events(alloc: Global, text: &[u8], wanted: Wanted) -> Result<Vec<KeptEvent>, AllocError>
-    ensures { IfOk result (λ events. events.items ≡ events_in wanted text.now) }
-{
-    let mut events = Vec::new(alloc);
-    let mut left = text;
-    'lines: loop {
-        let Some((line, rest)) = first_line(left) else {
-            return Ok(events);
-        };
-        take_event(&mut events, alloc, line, wanted)?;
-        left = rest;
     }
 }
 
@@ -194,7 +173,11 @@ fn query_in(line: &[u8]) -> Option<KeptQuery>
 }
 
 /// Takes the query of a line, where it is one that is wanted.
-fn take_query(queries: &mut Vec<KeptQuery>, line: &[u8], wanted: Wanted) -> Result<(), AllocError>
+pub(crate) fn take_query(
+    queries: &mut Vec<KeptQuery>,
+    line: &[u8],
+    wanted: Wanted,
+) -> Result<(), AllocError>
     ensures { OnOk result (queries.new.items ≡ queries.old.items
         ++ if_query_wanted wanted (query_of_line line.now)) }
 {
@@ -206,29 +189,6 @@ fn take_query(queries: &mut Vec<KeptQuery>, line: &[u8], wanted: Wanted) -> Resu
             Ok(())
         }
         None => Ok(()),
-    }
-}
-
-/// The queries of a text's lines that are wanted, in order; an `AllocError` where there is no memory for them.
-///
-/// Any bytes are a text, as for [`read_events`]. A query's line is `#query TIME ID`: the time is one or more
-/// digits, of a value from 1 to 2^64 - 2, and the ID of a value below 2^32; and there is just one space before
-/// each. Each other line is skipped.
-pub fn read_queries(
-    alloc: Global,
-    text: &[u8],
-    wanted: Wanted,
-) -> Result<Vec<KeptQuery>, AllocError>
-    ensures { IfOk result (λ queries. queries.items ≡ queries_in wanted text.now) }
-{
-    let mut queries = Vec::new(alloc);
-    let mut left = text;
-    'lines: loop {
-        let Some((line, rest)) = first_line(left) else {
-            return Ok(queries);
-        };
-        take_query(&mut queries, line, wanted)?;
-        left = rest;
     }
 }
 
@@ -267,7 +227,7 @@ fn least_time_of(digits: &[u8]) -> u64
 }
 
 /// The least time that may be taken of a kind after a line, as far as this line says.
-fn least_after(kind: ClockKind, line: &[u8]) -> u64
+pub(crate) fn least_after(kind: ClockKind, line: &[u8]) -> u64
     ensures { result ≡ least_of_line kind line.now }
 {
     let least = match without_prefix(least_prefix_of(kind), line) {
@@ -279,30 +239,4 @@ fn least_after(kind: ClockKind, line: &[u8]) -> u64
         None => 0,
     };
     least.max(above)
-}
-
-/// The least times that an agent takes, by a text. Takes no memory.
-///
-/// Any bytes are a text, as for [`read_events`]. The least time of a kind is the greatest that a line says, and 1
-/// where none says more. The line of a least time, `#least event-clock: N` or `#least query-clock: N`, says N, or
-/// 2^64 - 1 where N is above it. A
-/// clock line without a zero in front of its number says one above it: who wrote it kept no events. Each other line
-/// is skipped.
-pub fn read_least_times(text: &[u8]) -> LeastTimes
-    ensures events { result.events ≡ least_in Event text.now }
-    ensures queries { result.queries ≡ least_in Query text.now }
-{
-    let mut least = LeastTimes {
-        events: 1,
-        queries: 1,
-    };
-    let mut left = text;
-    'lines: loop {
-        let Some((line, rest)) = first_line(left) else {
-            return least;
-        };
-        least.events = least.events.max(least_after(ClockKind::Event, line));
-        least.queries = least.queries.max(least_after(ClockKind::Query, line));
-        left = rest;
-    }
 }

@@ -172,6 +172,25 @@ pub fn said_laws()
         → is_whole (kept_compaction_of lines s) ≡ true }
 {}
 
+/// And which queries a text says, in the same way: of its lines those of queries alone.
+pub fn said_query_laws()
+    ensures joined { (w : Wanted) (front tail : List ℕ) → is_whole front ≡ true
+        → queries_in w (front ++ tail) ≡ queries_in w front ++ queries_in w tail }
+    ensures event { (w : Wanted) (t : ℕ) (name payload : List ℕ)
+        → queries_in w (event_line t name payload) ≡ [] }
+    ensures query { (w : Wanted) (t id : ℕ) → 0 < t → t < greatest_clock → id < 2 ^ 32
+        → queries_in w (query_line t id) ≡ if_query_wanted w (Some (kept_query t id)) }
+    ensures least { (w : Wanted) (k : ClockKind) (t : ℕ) → queries_in w (least_line k t) ≡ [] }
+    ensures clock_line { (w : Wanted) (k : ClockKind) (t : ℕ)
+        → queries_in w (clock_line k t) ≡ [] }
+    ensures kept_clock_line { (w : Wanted) (k : ClockKind) (t : ℕ)
+        → queries_in w (kept_clock_line k t) ≡ [] }
+    ensures compacted { (w : Wanted) (m e q : ℕ) → queries_in w (compacted_text m e q) ≡ [] }
+    ensures kept_compacted { (w : Wanted) (lines : List ℕ) (s : SnapshotView)
+        → is_whole lines ≡ true
+        → queries_in w (kept_compaction_of lines s) ≡ queries_in w lines }
+{}
+
 /// What a snapshot says of its last lines is what its sink keeps, after each note of an agent that keeps its events and
 /// after each of its compactions too, those that fail as well: where the lines that it writes beside its clock lines are
 /// whole and say no clock, as each line of an event, of a query and of a least time.

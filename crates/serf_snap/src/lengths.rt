@@ -1,11 +1,10 @@
 //! How long the texts of a snapshot are, and the lines of what is kept. None of these calls takes memory.
 
-ghost use Rattle.std.specs.Prelude.{◌≡◌, ◌-◌, ◌*◌, ◌++◌, ◌^◌, ◌<◌, ◌≤◌, ◌&&◌, List, ℕ, decimal, false, length, min, nat_le, nat_lt};
-ghost use Rattle.serf_snap.specs.Clocks.{compacted_text, line_above_zero, sealed};
+ghost use Rattle.std.specs.Prelude.{◌≡◌, ◌-◌, ◌*◌, ◌^◌, ◌<◌, ◌≤◌, ◌&&◌, List, ℕ, decimal, false, length, min, nat_le, nat_lt};
+ghost use Rattle.serf_snap.specs.Clocks.{line_above_zero, sealed};
 ghost use Rattle.serf_snap.specs.Compaction.{counted, is_worth_replacing};
 ghost use Rattle.serf_snap.specs.EventLines.{event_line, least_line, query_line};
-ghost use Rattle.serf_snap.specs.KeptNotes.{kept_line_above_zero};
-ghost use Rattle.serf_snap.specs.declared.kind.ClockKind.TheVariants.{Event, Member, Query};
+ghost use Rattle.serf_snap.specs.KeptNotes.{compaction_bytes, kept_line_above_zero, time_above_zero};
 
 use crate::clocks::{Clocks, ends_whole};
 use crate::event_lines::least_prefix_of;
@@ -85,47 +84,39 @@ fn kept_line_length(kind: ClockKind, time: u64) -> u64
     kind.prefix().len() as u64 + digits_of(time) + 2
 }
 
-/// How long the last lines are behind those that a compaction keeps.
-pub(crate) fn kept_clocks_length(last: Clocks) -> u64
-    ensures exact { result ≡ length (line_above_zero Member last.member_clock
-        ++ kept_line_above_zero Event last.event_clock
-        ++ kept_line_above_zero Query last.query_clock) }
-    ensures short { result ≤ 104 }
+/// How long the line of a time is behind lines that are kept, or behind none.
+fn length_behind(kept: bool, kind: ClockKind, time: u64) -> u64
+    ensures exact { result ≡ length (time_above_zero kept kind time) }
+    ensures short { result ≤ 35 }
+    ensures plain { kept ≡ false → result ≤ 34 }
 {
-    line_length(ClockKind::Member, last.member_clock)
-        + kept_line_length(ClockKind::Event, last.event_clock)
-        + kept_line_length(ClockKind::Query, last.query_clock)
+    if kept {
+        return kept_line_length(kind, time);
+    }
+    line_length(kind, time)
 }
 
-/// How long the text of these last lines is.
-fn compacted_length(last: Clocks) -> u64
-    ensures exact { result
-        ≡ length (compacted_text last.member_clock last.event_clock last.query_clock) }
-    ensures short { result ≤ 102 }
-{
-    line_length(ClockKind::Member, last.member_clock)
-        + line_length(ClockKind::Event, last.event_clock)
-        + line_length(ClockKind::Query, last.query_clock)
-}
-
-/// Whether a text of this length, whose last lines these are, is worth a compaction at a limit. A length stays at
+/// How long the text of a compaction is that keeps lines of this length (0: none), with these last lines; at most
 /// 2^64 - 1.
-pub(crate) fn is_worth_compacting(limit: u64, kept: u64, last: Clocks) -> bool
-    ensures exact { (text : List ℕ) → limit < 2 ^ 64 - 1 → kept ≡ min (length text) (2 ^ 64 - 1)
-        → result ≡ (nat_lt limit (length text)
-        && nat_le (2 * length (compacted_text last.member_clock last.event_clock last.query_clock))
-        (length text)) }
-    ensures worth { (text : List ℕ) → kept ≡ counted text → result ≡ is_worth_replacing limit
-        (compacted_text last.member_clock last.event_clock last.query_clock) text }
-    ensures never { limit ≡ 2 ^ 64 - 1 → result ≡ false }
+pub(crate) fn compaction_length(lines_length: u64, last: Clocks) -> u64
+    ensures exact { (lines : List ℕ) → lines_length ≡ counted lines → result ≡ counted
+        (compaction_bytes lines last.member_clock last.event_clock last.query_clock) }
+    ensures short { lines_length ≡ 0 → result ≤ 102 }
 {
-    limit < kept && compacted_length(last) <= kept / 2
+    let kept = 0 < lines_length;
+    let clocks_length = line_length(ClockKind::Member, last.member_clock)
+        + length_behind(kept, ClockKind::Event, last.event_clock)
+        + length_behind(kept, ClockKind::Query, last.query_clock);
+    lines_length.saturating_add(clocks_length)
 }
 
 /// Whether a text of this length is worth being replaced at a limit by one of that length. A length stays at 2^64 - 1.
 pub(crate) fn is_worth_replacing(limit: u64, kept: u64, new_length: u64) -> bool
     ensures exact { (new text : List ℕ) → new_length ≡ counted new → kept ≡ counted text
         → result ≡ is_worth_replacing limit new text }
+    ensures short { (new text : List ℕ) → new_length ≡ counted new → new_length ≤ 102
+        → limit < 2 ^ 64 - 1 → kept ≡ counted text → result
+        ≡ (nat_lt limit (length text) && nat_le (2 * length new) (length text)) }
     ensures never { limit ≡ 2 ^ 64 - 1 → result ≡ false }
 {
     limit < kept && new_length <= kept / 2

@@ -10,7 +10,7 @@
 //! - a sink that failed stops the snapshot, and a compaction is one replace ([`Snapshot::compact`]).
 //!
 //! An agent can keep the events and the queries that it took in, too, each in a line that begins with `#`
-//! ([`put_event_line`], [`Snapshot::note_kept`], [`read_events`]). Serf skips such a line, and so does [`read_clocks`].
+//! ([`put_event_line`], [`Snapshot::note`], [`read_kept`]). Serf skips such a line, and so does [`read_clocks`].
 //!
 //! What a sink does is said by the clauses of [`Sink`] and [`ReplaceSink`], over what it exposes of its bytes:
 //! [`MemSink`] exposes all of them and fails as planned. A store on a file is `FileStore` of `serf_store`.
@@ -21,26 +21,26 @@ mod clocks;
 mod event_lines;
 mod kept;
 mod kept_lines;
-mod kept_notes;
 mod kind;
 mod laws;
 mod lengths;
 mod memory;
 mod parts;
+mod reading;
 mod sink;
 mod snapshot;
 mod wanted;
 
-pub use clocks::{Clocks, read_clocks};
+pub use clocks::Clocks;
 pub use event_lines::{put_event_line, put_kept_clock_line, put_least_line, put_query_line};
-pub use kept::{KeptEvent, KeptQuery, LeastTimes, Wanted};
-pub use kept_lines::{read_events, read_least_times, read_queries};
+pub use kept::{KeptEntries, KeptEvent, KeptQuery, LeastTimes, TextTimes, Wanted};
 pub use kind::ClockKind;
 pub use laws::{
     event_line_laws, kept_note_laws, least_time_laws, plan_laws, query_line_laws, read_laws,
-    said_laws, snapshot_laws, text_laws,
+    said_laws, said_query_laws, snapshot_laws, text_laws,
 };
 pub use lengths::{event_line_length, least_line_length, query_line_length};
 pub use memory::MemSink;
+pub use reading::{read_clocks, read_kept, read_times};
 pub use sink::{ReplaceFault, ReplaceSink, Sink, SinkFault};
 pub use snapshot::{NoteFault, SealFault, Snapshot};

@@ -3,18 +3,20 @@
 ghost use Rattle.std.specs.Prelude.{◌≡◌, ◌<◌, ◌≤◌, ◌-◌, ◌^◌, true, if◌then◌else◌, false, not, is_ok, length, List, ℕ, IfOk, IfErr, IsOk, OnOk, OnErr, IfSome, IsErrOf};
 ghost use Rattle.std.specs.Option.{option_map};
 ghost use Rattle.serf_lamport.specs.Clock.{greatest_clock};
-ghost use Rattle.serf_snap.specs.Clocks.{is_whole, seal_line, sealed};
+ghost use Rattle.serf_snap.specs.Clocks.{is_whole, last_clock, seal_line, sealed};
 ghost use Rattle.serf_snap.specs.Compaction.{counted, is_worth_compacting, is_worth_replacing};
 ghost use Rattle.serf_snap.specs.Device.{Observable, HasText, IsClean, append_failing, appended, flush_failing, flushed, durable_of, replace_failing};
 ghost use Rattle.serf_snap.specs.Ends.{FailsLine, NotesTime, ReplacesText, WritesBytes};
-ghost use Rattle.serf_snap.specs.KeptNotes.{kept_compaction_of};
-ghost use Rattle.serf_snap.specs.Notes.{AreTimes, compaction_of, note_decremented, note_fails, opened, opened_device, with_new_plan};
+ghost use Rattle.serf_snap.specs.KeptNotes.{lines_given, text_with};
+ghost use Rattle.serf_snap.specs.declared.kind.ClockKind.TheVariants.{Event, Member, Query};
+ghost use Rattle.serf_snap.specs.Notes.{AreTimes, note_decremented, note_fails, opened, opened_device, with_new_plan};
 
-use crate::clock_lines::{LONGEST_LINE, line_of, text_of};
-use crate::clocks::{Clocks, ends_whole, read_clocks};
+use crate::clock_lines::{LONGEST_LINE, bytes_of, text_of};
+use crate::clocks::{Clocks, ends_whole};
 use crate::kind::ClockKind;
-use crate::lengths::{is_worth_compacting, is_worth_replacing, kept_clocks_length, sealed_length};
+use crate::lengths::{compaction_length, is_worth_replacing, sealed_length};
 use crate::memory::MemSink;
+use crate::reading::read_clocks;
 use crate::sink::{ReplaceFault, ReplaceSink, Sink, SinkFault};
 use serf_lamport::Time;
 use std::alloc::{AllocError, Global};
@@ -182,43 +184,80 @@ impl<S: Sink> Snapshot<S> {
         ensures memory { IfErr result (λ e. e.1 ≡ SealFault.OutOfMemory
             → S.device e.0 ≡ S.device sink) }
     {
+        Snapshot::open_read(alloc, text, read_clocks(text), sink)
+    }
+
+    /// As `open`, where the clocks of the text were read before ([`read_clocks`]).
+    pub fn open_read(
+        alloc: Global,
+        text: &[u8],
+        clocks: Clocks,
+        sink: S,
+    ) -> Result<Self, (S, SealFault)>
+        requires text { HasText text.now (S.device sink) }
+        requires member { clocks.member_clock ≡ last_clock Member text.now }
+        requires event { clocks.event_clock ≡ last_clock Event text.now }
+        requires query { clocks.query_clock ≡ last_clock Query text.now }
+        requires times { (clocks.member_clock < greatest_clock)
+            × (clocks.event_clock < greatest_clock) × (clocks.query_clock < greatest_clock) }
+        ensures ok { IfOk result (λ s. s.snapshot ≡ opened text.now (S.device sink)) }
+        ensures device { IfOk result (λ s. s.device ≡ opened_device text.now (S.device sink)) }
+        ensures times { IfOk result (λ s. AreTimes s.snapshot) }
+        ensures ok_planned { OnOk result (is_whole text.now ≡ false
+            → IfSome (S.device sink).plan (λ p. note_fails p ≡ false)) }
+        ensures whole { is_whole text.now ≡ true → IsOk result }
+        ensures fault { IfErr result (λ e. e.1 ≡ SealFault.SinkFault
+            → FailsLine (S.device sink) (S.device e.0) seal_line) }
+        ensures fault_planned { IfErr result (λ e. e.1 ≡ SealFault.SinkFault
+            → IfSome (S.device sink).plan (λ p. note_fails p ≡ true)) }
+        ensures memory { IfErr result (λ e. e.1 ≡ SealFault.OutOfMemory
+            → S.device e.0 ≡ S.device sink) }
+    {
         let mut sink = sink;
         if let Err(fault) = seal(alloc, text, &mut sink) {
             return Err((sink, fault));
         }
         Ok(Snapshot {
-            last: read_clocks(text),
+            last: clocks,
             stopped: false,
             kept: sealed_length(text),
             sink,
         })
     }
 
-    /// Writes the line of a time, where it is above the last one of its kind: one append, one flush, and the line
-    /// is durable (`snapshot.go`: `processUserEvent`, which leaves the flush for later, `processQuery` and
-    /// `updateClock`).
+    /// Writes a time, and a line of its own, as `put_event_line`, `put_query_line` or `put_least_line` makes it, or none
+    /// (`own` is empty): in one append and one flush the time's clock line, where the time is above the last one of its
+    /// kind, and then its own line. They are durable then. Beside a line of its own the number of the clock line has a zero
+    /// in front. (`snapshot.go`: `processUserEvent`, which leaves the flush for later, `processQuery` and `updateClock`.)
     ///
-    /// Where the time isn't above the last one, this is Ok, takes no memory and makes no call of the sink.
-    /// Else memory is taken before the sink is touched. After [`NoteFault::SinkFault`] a part of the line may
-    /// be durable, and each later note is [`NoteFault::Stopped`].
-    pub fn note(&mut self, alloc: Global, kind: ClockKind, time: Time) -> Result<(), NoteFault>
-        // The line is durable, or the sink fails; with a plan exactly where it says.
-        ensures { NotesTime kind time self.old self.new result }
+    /// Where there is nothing to write, this is Ok, takes no memory and makes no call of the sink. Else memory is taken
+    /// before the sink is touched. After [`NoteFault::SinkFault`] a part of the bytes may be durable, and each later note is
+    /// [`NoteFault::Stopped`].
+    pub fn note(
+        &mut self,
+        alloc: Global,
+        kind: ClockKind,
+        time: Time,
+        own: &[u8],
+    ) -> Result<(), NoteFault>
+        // The bytes are durable, or the sink fails; with a plan exactly where it says.
+        ensures { NotesTime kind time (lines_given own.now) self.old self.new result }
     {
         if self.stopped {
             return Err(NoteFault::Stopped);
         }
         let value = time.get();
-        if value <= self.last.of(kind) {
+        let last = self.last.of(kind);
+        if value <= last && own.is_empty() {
             return Ok(());
         }
-        let line = line_of(alloc, kind, value)?;
-        self.write(alloc, kind, value, line.as_slice())
+        let bytes = bytes_of(alloc, kind, value, own, last)?;
+        self.write(alloc, kind, last.max(value), bytes.as_slice())
     }
 
     /// Writes bytes with which the last line of a kind becomes this value: one append and one flush. Memory is taken
     /// before the sink is touched.
-    pub(crate) fn write(
+    fn write(
         &mut self,
         alloc: Global,
         kind: ClockKind,
@@ -260,36 +299,25 @@ impl<S: Sink> Snapshot<S> {
         self.stopped
     }
 
-    /// Whether a compaction is worth doing: more than `limit` bytes are kept, and it would take away at least half
-    /// of them. Never on a stopped snapshot, which can't be compacted, and never at a limit of 2^64 - 1.
+    /// Whether a compaction is worth doing that keeps lines of this length together (0: none): more than `limit` bytes are
+    /// kept, and it would take away at least half of them. Never on a stopped snapshot, which can't be compacted, and never
+    /// at a limit of 2^64 - 1. A length stays at 2^64 - 1.
     ///
     /// The bytes are those of the text that it was opened on, of its end where that was torn, and of the lines and the
     /// compactions since: so also over a sink that shows nothing of its bytes. Takes no memory, and the same time
     /// however long the text is. (`snapshot.go`, `appendLine`, which compacts where the file is longer than 128 KiB and
     /// than twice what its nodes are estimated to need.)
-    pub fn should_compact(&self, limit: u64) -> bool
-        ensures exact { self.now.snapshot.stopped ≡ false → limit < 2 ^ 64 - 1
-            → IfSome self.now.snapshot.durable (λ text. result
-            ≡ is_worth_compacting limit self.now.snapshot text) }
-        ensures worth { self.now.snapshot.stopped ≡ false
-            → IfSome self.now.snapshot.durable (λ text. result
-            ≡ is_worth_replacing limit (compaction_of self.now.snapshot) text) }
-        ensures stopped { self.now.snapshot.stopped ≡ true → result ≡ false }
-        ensures never { limit ≡ 2 ^ 64 - 1 → result ≡ false }
-    {
-        !self.stopped && is_worth_compacting(limit, self.kept, self.last)
-    }
-
-    /// As `should_compact`, for a compaction that keeps lines of this length together beside the last clock lines
-    /// (`compact_with`). A length stays at 2^64 - 1. Takes no memory.
-    pub fn should_compact_with(&self, limit: u64, lines_length: u64) -> bool
+    pub fn should_compact(&self, limit: u64, lines_length: u64) -> bool
         ensures exact { (lines : List ℕ) → self.now.snapshot.stopped ≡ false
             → lines_length ≡ counted lines → IfSome self.now.snapshot.durable (λ text. result
-            ≡ is_worth_replacing limit (kept_compaction_of lines self.now.snapshot) text) }
+            ≡ is_worth_replacing limit (text_with (lines_given lines) self.now.snapshot) text) }
+        ensures plain { lines_length ≡ 0 → self.now.snapshot.stopped ≡ false → limit < 2 ^ 64 - 1
+            → IfSome self.now.snapshot.durable (λ text. result
+            ≡ is_worth_compacting limit self.now.snapshot text) }
         ensures stopped { self.now.snapshot.stopped ≡ true → result ≡ false }
         ensures never { limit ≡ 2 ^ 64 - 1 → result ≡ false }
     {
-        let new_length = lines_length.saturating_add(kept_clocks_length(self.last));
+        let new_length = compaction_length(lines_length, self.last);
         !self.stopped && is_worth_replacing(limit, self.kept, new_length)
     }
 
@@ -305,24 +333,27 @@ impl<S: Sink> Snapshot<S> {
 }
 
 impl<S: ReplaceSink> Snapshot<S> {
-    /// Replaces what the sink keeps by the last line of the member, event and query clock, in this order; a
-    /// kind without a line is left out. It is one replace, and never an append or a flush.
+    /// Replaces what the sink keeps by these lines, which are those of the least times and of what is kept, or none; and by
+    /// the last line of the member, event and query clock behind them, in this order; a kind without a line is left out. Behind
+    /// lines that are kept, those of events and of queries have a zero in front of their number. It is one replace, and never
+    /// an append or a flush.
     ///
     /// On a stopped snapshot no call is made. After [`NoteFault::SinkFault`] the old text is durable or the new
     /// one, and the snapshot is stopped. (`snapshot.go`, `compact`, which writes the alive members too.)
-    pub fn compact(&mut self, alloc: Global) -> Result<(), NoteFault>
+    pub fn compact(&mut self, alloc: Global, lines: &[u8]) -> Result<(), NoteFault>
         // The text is replaced, or the sink fails; with a plan exactly where it says.
-        ensures { ReplacesText (compaction_of self.old.snapshot) self.old self.new result }
+        ensures { ReplacesText (text_with (lines_given lines.now) self.old.snapshot)
+            self.old self.new result }
     {
         if self.is_stopped() {
             return Err(NoteFault::Stopped);
         }
-        let text = text_of(alloc, self.clocks())?;
+        let text = text_of(alloc, lines, self.clocks())?;
         self.replace_text(alloc, text.as_slice())
     }
 
     /// Replaces what the sink keeps by this text, which has the same last lines: one replace.
-    pub(crate) fn replace_text(&mut self, alloc: Global, text: &[u8]) -> Result<(), NoteFault>
+    fn replace_text(&mut self, alloc: Global, text: &[u8]) -> Result<(), NoteFault>
         requires runs { self.old.snapshot.stopped ≡ false }
         ensures { ReplacesText text.now self.old self.new result }
     {

@@ -33,6 +33,6 @@ pub use stream_fault::{StreamFault, StreamLineFault};
 pub use whole::tell_text;
 pub use wire_words::{WireWords, put_wire_fault};
 pub use words::{
-    FIXED_WORDS, bytes_at, choice, choice_at, cut, hex_bytes, is_word, number, number_at,
-    number_from_to, take_words, word_at,
+    FIXED_WORDS, bytes_at, choice, choice_at, cut, cut_words, hex_bytes, is_word, number,
+    number_at, number_from_to, take_words, word_at,
 };

@@ -1,6 +1,6 @@
 //! The words of a line, and what they stand for.
 
-ghost use Rattle.std.specs.Prelude.{◌≡◌, ◌<◌, ◌≤◌, ◌+◌, ◌++◌, ◌==◌, ◌∷◌, [], length, map, position, false, All, MatchOption, IfNone, IfOk, OnOk};
+ghost use Rattle.std.specs.Prelude.{◌≡◌, ◌<◌, ◌≤◌, ◌+◌, ◌++◌, ◌==◌, ◌∷◌, [], length, map, position, take, false, All, MatchOption, IfNone, IfOk, OnOk};
 ghost use Rattle.std.specs.List.{slice_split};
 ghost use Rattle.std.specs.Str.{bytes_eq};
 ghost use Rattle.serf_text.specs.Words.{words_of, number_of, between, bytes_of, word_at, choice_of, number_in, number_between, bytes_in, choice_in};
@@ -54,10 +54,40 @@ pub fn cut(text: &[u8], separator: u8) -> (&[u8], Option<&[u8]>)
 /// How many words stand before those of which a line may have any number.
 pub const FIXED_WORDS: usize = 8;
 
-/// Puts the words of a line, in order and at most eight, in place of those that were there. Gives what is left of
-/// the line: the ninth word and all after it, or nothing. Words stand between spaces.
+/// The words of a line, in order and at most eight, at the front of an array, how many they are, and what is left of the
+/// line: the ninth word and all after it, or nothing. Words stand between spaces. Takes no memory.
+#[inline(always)]
+pub fn cut_words(line: &[u8]) -> ([&[u8]; FIXED_WORDS], usize, &[u8])
+    ensures joined { map (λ w. w.now) (take result.1 result.0) ++ words_of result.2.now
+        ≡ words_of line.entry.now }
+    ensures counted { length (take result.1 result.0) ≡ result.1 }
+    ensures few { result.1 ≤ FIXED_WORDS }
+    ensures full { 0 < length result.2.now
+        → (result.1 ≡ FIXED_WORDS) × (0 < length (words_of result.2.now)) }
+{
+    let mut words: [&[u8]; FIXED_WORDS] = [&[]; FIXED_WORDS];
+    let mut count = 0;
+    let mut rest = line;
+    'words: loop {
+        let (word, more) = cut(rest, b' ');
+        if !word.is_empty() {
+            if count == FIXED_WORDS {
+                return (words, count, rest);
+            }
+            words[count] = word;
+            count += 1;
+        }
+        match more {
+            Some(next) => rest = next,
+            None => return (words, count, &[]),
+        }
+    }
+}
+
+/// Puts the words of a line, as [`cut_words`] gives them, in place of those that were there. Gives what is left of the
+/// line.
 ///
-/// Where there is no memory for the words, `words` has some of them.
+/// Where there is no memory for the words, `words` has none of them.
 pub fn take_words<'a>(line: &'a [u8], words: &mut Vec<&'a [u8]>) -> Result<&'a [u8], AllocError>
     ensures joined { IfOk result (λ rest. map (λ w. w.now) words.new.items ++ words_of rest.now
         ≡ words_of line.entry.now) }
@@ -65,21 +95,10 @@ pub fn take_words<'a>(line: &'a [u8], words: &mut Vec<&'a [u8]>) -> Result<&'a [
     ensures full { IfOk result (λ rest. 0 < length rest.now
         → (length words.new.items ≡ FIXED_WORDS) × (0 < length (words_of rest.now))) }
 {
+    let (first, count, rest) = cut_words(line);
     words.clear();
-    let mut rest = line;
-    'words: loop {
-        let (word, more) = cut(rest, b' ');
-        if !word.is_empty() {
-            if words.len() == FIXED_WORDS {
-                return Ok(rest);
-            }
-            words.push(word)?;
-        }
-        match more {
-            Some(next) => rest = next,
-            None => return Ok(&[]),
-        }
-    }
+    words.extend_from_slice(&first[..count])?;
+    Ok(rest)
 }
 
 /// Whether a word is this text. Takes no memory.

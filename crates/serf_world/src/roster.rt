@@ -27,7 +27,6 @@ pub enum RosterFault {
 /// The settings of agents that can make a cluster: in order, each within its bounds, and no two of one name.
 ///
 /// Contracts see the list of them. A name is looked up in a time that does not grow with the number of agents.
-#[derive(Debug)]
 pub struct Roster {
     configs: Vec<Config>,
     names: HashSet<Vec<u8>>,

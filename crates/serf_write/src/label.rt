@@ -3,7 +3,7 @@
 use serf_wire::Bytes;
 
 /// The label of a line, and the numbers of the packets that its line sent: from `first` on, and below `past`.
-#[derive(Debug, Drop)]
+#[derive(Drop)]
 pub struct Label {
     pub name: Bytes,
     pub first: u64,

@@ -14,7 +14,7 @@ use serf_wire::Bytes;
 use std::alloc::{AllocError, Global};
 
 /// A word between spaces, or a text between quotes.
-#[derive(Debug, Drop)]
+#[derive(Drop)]
 pub enum Piece {
     Word(Bytes),
     Text(Bytes),

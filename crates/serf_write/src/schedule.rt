@@ -9,7 +9,7 @@ ghost use Rattle.serf_write.specs.Written.{written_of};
 
 use crate::fault::{Fault, LineFault};
 use crate::writing::Writing;
-use serf_schedule::{Schedule, put_schedule};
+use serf_schedule::{Schedule, Watch, put_schedule};
 use serf_text::cut;
 use std::alloc::{AllocError, Global};
 use thiserror::Error;
@@ -25,7 +25,7 @@ pub enum WriteFault {
 }
 
 /// Reads all lines.
-fn read_lines(alloc: Global, text: &[u8]) -> Result<Writing, WriteFault>
+fn read_lines<T: Watch>(alloc: Global, text: &[u8], watch: &mut T) -> Result<Writing, WriteFault>
     ensures { Reads result (written_of text.now) }
 {
     let mut writing = Writing::new(alloc);
@@ -47,6 +47,8 @@ fn read_lines(alloc: Global, text: &[u8]) -> Result<Writing, WriteFault>
             Some(next) => {
                 rest = next;
                 number += 1;
+                let all = text.len() as u64;
+                watch.acted(all.saturating_sub(rest.len() as u64), all);
             }
             None => {
                 return Ok(writing);
@@ -69,15 +71,15 @@ fn text_of(alloc: Global, schedule: &Schedule) -> Result<Vec<u8>, AllocError>
 /// The schedule that a written text means, as text.
 ///
 /// The text is cut at newlines. Words of a line stand between spaces, and texts between quotes; a word that begins with
-/// `#` begins a comment. `docs/FORMATS.md` says what the lines are.
+/// `#` begins a comment. `docs/SPEC.md` says what the lines are.
 ///
 /// The text that is given parses to just the agents and the actions that are meant ([`serf_schedule::parse_schedule`]).
 /// `BadLine` comes exactly where a line is not sound, and says the first. `OutOfMemory` may come before a bad line that
-/// stands further on.
-pub fn write(alloc: Global, text: &[u8]) -> Result<Vec<u8>, WriteFault>
+/// stands further on. The watch is told how many bytes are read.
+pub fn write<T: Watch>(alloc: Global, text: &[u8], watch: &mut T) -> Result<Vec<u8>, WriteFault>
     ensures exact { Writes result text.now }
 {
-    let writing = read_lines(alloc, text)?;
+    let writing = read_lines(alloc, text, watch)?;
     let schedule = writing.into_schedule();
     match text_of(alloc, &schedule) {
         Ok(out) => Ok(out),

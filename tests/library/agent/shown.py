@@ -174,7 +174,9 @@ def serf(stage, command):
         stage.start(command)
         # what such a handler writes is what `judge` reads
         stage.well("an event for the stock agent", "serf event -coalesce=false deploy v2", "dispatched")
-        stage.count.check("its handler's line", until(lambda: stage.handled("log") == ["event gamma 1 deploy v2"]), stage.handled("log"))
+        # (behind its date)
+        lines = lambda: [line.split(" ", 1)[1] for line in stage.handled("log")]
+        stage.count.check("its handler's line", until(lambda: lines() == ["event gamma 1 deploy v2"]), stage.handled("log"))
         stage.count.check("the handler beside it", until(lambda: "gamma v2" in stage.handled()), stage.handled())
     elif command.text.startswith("serf event "):
         stage.well(command.name(), command.text, "dispatched")

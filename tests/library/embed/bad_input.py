@@ -7,7 +7,7 @@ import os
 import sys
 
 sys.path.insert(0, os.path.join(os.path.dirname(os.path.abspath(__file__)), "..", "..", "..", "bindings", "python"))
-from serf_agent import Agent, AgentError, Answer, Closed, Code, Fault, Kind, Locked, MissingFolder, NotAFile
+from serf_agent import Agent, AgentError, Answer, Closed, Code, DEFAULT_QUERY_TIMEOUT, Fault, Kind, Locked, MissingFolder, NotAFile
 from serf_agent import packet_fault, PacketFault, Reason, Settings
 
 FOLDER = sys.argv[1]
@@ -32,6 +32,16 @@ def refused(name, wanted, call, *words, **more):
     except Exception as error:
         said = type(error)
     check(name, said == wanted, f"{said}, and {wanted} was wanted")
+
+
+def in_words(name, wanted, call, *words, **named):
+    """A call is refused with these words."""
+    try:
+        call(*words, **named)
+        said = None
+    except Exception as error:
+        said = str(error)
+    check(name, said == wanted, f"{said}, and {wanted!r} was wanted")
 
 
 def path(name):
@@ -71,8 +81,11 @@ def events():
 
 def queries():
     with Agent(b"a", path("d")) as one, Agent(b"b", path("e")) as other:
-        refused("no time", Code.NO_TIME, one.query, 1, 7, b"q")
+        refused("no time", Code.NO_TIME, one.query, 1, 7, b"q", timeout=0)
         check("no deadline", one.next_deadline() is None)
+        in_words("a str", "name has to be bytes, and is of the type str", one.query, 1, 7, "q")
+        in_words("a filter of str", "filter has to be bytes, and is of the type str", one.query, 1, 7, b"q", filters=["a"])
+        in_words("a code in words", "no query of this number waits for an answer (NOT_HANDED)", one.respond, 1, 9)
         asked = one.query(1, 7, b"q", b"p", timeout=1000, want_ack=True, addr=b"\x7f\0\0\1", port=7946)
         check(
             "asked",
@@ -93,6 +106,8 @@ def queries():
         refused("twice", Code.NOT_HANDED, other.respond, 6, query.number)
         late = other.receive(6, one.query(6, 8, b"late", timeout=2).packet).query
         refused("too late", Code.PAST_DEADLINE, other.respond, late.deadline + 1, late.number)
+        check("none of its own is closed", other.close_due(late.deadline + 1) == [])
+        refused("forgotten behind its deadline", Code.NOT_HANDED, other.respond, late.deadline + 1, late.number)
         check("the response", one.receive(7, response).kind == Kind.RESPONSE)
         check("again", one.receive(7, response).reason == Reason.RESPONSE_TWICE)
         time = asked.query.time
@@ -104,6 +119,14 @@ def queries():
             closed == [Closed(time, 7, 1001, (b"b",), (Answer(time, 7, b"b", b"r"),))] and one.open_queries() == 0,
             closed,
         )
+        one.query(1002, 9, b"usual")
+        usual = 1002 + DEFAULT_QUERY_TIMEOUT
+        check("the usual time", one.close_due(usual) == [] and [it.id for it in one.close_due(usual + 1)] == [9])
+        unwanted = other.receive(usual + 1, one.query(usual + 1, 10, b"unwanted").packet).query
+        check("forget", other.forget(unwanted.number) is None)
+        refused("forgotten", Code.NOT_HANDED, other.respond, usual + 1, unwanted.number)
+        refused("forgotten twice", Code.NOT_HANDED, other.forget, unwanted.number)
+        refused("a number that is none", TypeError, other.forget, "1")
 
 
 def compactions():

@@ -77,7 +77,7 @@ def take_all(one, other, events, load, whole):
             burst.receive(5, packet)
         burst.fire(b"own")
         burst.fire(b"\0" * 600)
-        burst.query(5, 9, b"load", want_ack=True)
+        burst.query(5, 9, b"load", timeout=0, want_ack=True)
         burst.query(5, 9, b"load", timeout=9, want_ack=True, filters=[b"\0\x91\xa5other"])
         burst.receive(5, events[2])
 

@@ -8,7 +8,7 @@ import sys
 
 sys.path.insert(0, os.path.join(os.path.dirname(os.path.abspath(__file__)), "..", "..", "..", "bindings", "python"))
 from serf_agent import Agent, AgentError, Code, Fault, intent, intent_fault, Join, Kind, Leave, Members, PacketFault
-from serf_agent import query_filters, state_members, TAG_FILTER
+from serf_agent import node_filter, query_filters, state_members, TAG_FILTER, tag_filter
 
 FOLDER = sys.argv[1]
 passed = failed = 0
@@ -117,6 +117,16 @@ VERDICTS = {
 }
 
 
+def made():
+    """Filters as Serf writes them, and as MessagePack's old form has long texts and lists."""
+    check("of names", node_filter(b"b") == NODE and node_filter(b"c") == OTHER and node_filter() == b"\x00\x90")
+    check("of sixteen names", node_filter(*[b"b"] * 16) == b"\x00\xdc\x00\x10" + b"\xa1b" * 16)
+    check("of long names", node_filter(b"x" * 32, b"y" * 65536)[:5] == b"\x00\x92\xda\x00\x20" and node_filter(b"y" * 65536)[2:7] == b"\xdb\x00\x01\x00\x00")
+    check("of a tag", tag_filter(b"a", b"") == TAG)
+    check("of very many names", node_filter(*[b"b"] * 65536)[:6] == b"\x00\xdd\x00\x01\x00\x00")
+    refused("a name of str", TypeError, node_filter, "b")
+
+
 def verdicts():
     with Agent(b"q", os.path.join(FOLDER, "q")) as asks, Agent(b"b", os.path.join(FOLDER, "d")) as agent:
         for filters, wanted in VERDICTS.items():
@@ -143,7 +153,7 @@ def verdicts():
         check(f"no filters in {packet}", query_filters(packet) is None)
 
 
-for part in (intents, members, times, member_times, verdicts):
+for part in (intents, members, times, member_times, made, verdicts):
     part()
 print(f"{passed} passed, {failed} failed")
 sys.exit(1 if failed else 0)

@@ -3,7 +3,7 @@
  * its tries together hand out what one with memory does, and leave its lines. A repeat takes none. All of it once more with an
  * agent that keeps its events, whose opening has some to take back.
  *
- * Linked with malloc and realloc wrapped. Prints `FAILED ..` for each that doesn't hold, and `N passed, M failed`. */
+ * Linked with malloc, realloc and free wrapped: once all agents are closed, all that was taken is given back. Prints `FAILED ..` for each that doesn't hold, and `N passed, M failed`. */
 #include "serf_agent.h"
 
 #include <stdio.h>
@@ -12,11 +12,13 @@
 
 void *__real_malloc(size_t size);
 void *__real_realloc(void *old, size_t size);
+void __real_free(void *old);
 void *__wrap_malloc(size_t size);
 void *__wrap_realloc(void *old, size_t size);
+void __wrap_free(void *old);
 
-/* How many requests are granted from now on (below 0: all), and how many there were. */
-static long granted = -1, requests;
+/* How many requests are granted from now on (below 0: all), how many there were, and how many blocks weren't given back. */
+static long granted = -1, requests, live;
 
 static bool is_refused(void) {
     requests++;
@@ -28,11 +30,20 @@ static bool is_refused(void) {
 }
 
 void *__wrap_malloc(size_t size) {
-    return is_refused() ? NULL : __real_malloc(size);
+    void *new = is_refused() ? NULL : __real_malloc(size);
+    live += new != NULL;
+    return new;
 }
 
 void *__wrap_realloc(void *old, size_t size) {
-    return is_refused() ? NULL : __real_realloc(old, size);
+    void *new = is_refused() ? NULL : __real_realloc(old, size);
+    live += new != NULL && old == NULL;
+    return new;
+}
+
+void __wrap_free(void *old) {
+    live -= old != NULL;
+    __real_free(old);
 }
 
 static int passed, failed;
@@ -70,6 +81,10 @@ static uint32_t query(struct serf_agent *agent) {
 
 static uint32_t respond(struct serf_agent *agent) {
     return serf_agent_respond(agent, 6, 1, (const uint8_t *)"0.12", 4);
+}
+
+static uint32_t forget(struct serf_agent *agent) {
+    return serf_agent_forget_query(agent, 2);
 }
 
 static uint32_t receive_event(struct serf_agent *agent) {
@@ -112,7 +127,8 @@ static const struct {
     {"open", open_one},           {"fire", fire},
     {"receive an event", receive_event}, {"receive a query", receive_query},
     {"merge after a query", merge}, {"respond", respond},
-    {"query", query},             {"save", serf_agent_save_member_clock},
+    {"query", query},             {"forget", forget},
+    {"save", serf_agent_save_member_clock},
     {"merge", merge_more},        {"close_due", close_due},
     {"add_filter", add_filter},   {"query with a filter", query},
     {"add_status", add_status},   {"add_left", add_left},
@@ -286,6 +302,7 @@ int main(void) {
     make_packets();
     try_steps(false);
     try_steps(true);
+    holds("all is given back", live, live == 0);
     printf("%d passed, %d failed\n", passed, failed);
     return failed != 0;
 }

@@ -142,7 +142,24 @@ def let_go():
     try:
         Agent(b"", path("e"))
     except AgentError as error:
-        check("a refused opening", error.code is Code.BAD_CONFIG and opens(b"e") is True, error)
+        said = "name has 0 bytes, and has to have 1 to 128 (BAD_CONFIG)"
+        check("a refused opening", (error.code, str(error)) == (Code.BAD_CONFIG, said) and opens(b"e") is True, error)
+
+
+def bounds():
+    """Each setting at its bounds is taken, and beyond them it is named."""
+    of_counts = dict.fromkeys(("event_buffer", "query_buffer", "responders", "per_time"), (1, 65536))
+    for field, (least, greatest) in {**of_counts, **dict.fromkeys(("event_limit", "query_limit", "response_limit"), (0, 9216))}.items():
+        for value in (least, greatest):
+            Agent(b"bounds", path("bounds"), Settings(**{field: value})).close()
+        for value in {0, greatest + 1, (1 << 64) - 1} - {least}:
+            try:
+                said = Agent(b"bounds", path("bounds"), Settings(**{field: value}))
+            except AgentError as error:
+                said = str(error)
+            check(f"{field} of {value}", said == f"{field} is {value}, and has to be from {least} to {greatest} (BAD_CONFIG)", said)
+    Agent(b"n" * 128, path("longest")).close()
+    refused("a longer name", AgentError, Agent, b"n" * 129, path("longer"))
 
 
 CALLS = {
@@ -312,7 +329,7 @@ def lock_of_a_parent():
         os.kill(child, signal.SIGKILL)
 
 
-for part in (settings, numbers, flags_and_bytes, moments, let_go, forks, fork_in_a_call, folders, stale_members, lock_of_a_parent):
+for part in (settings, numbers, flags_and_bytes, moments, let_go, bounds, forks, fork_in_a_call, folders, stale_members, lock_of_a_parent):
     part()
 print(f"{passed} passed, {failed} failed")
 sys.exit(1 if failed else 0)

@@ -1,4 +1,4 @@
-"""Programs around the lines of hosts that README shows: each fires `deploy v1` at an agent beta, and gives its packet to those
+"""Programs around the lines of hosts that docs/HOST.md shows: each fires `deploy v1` at an agent beta, and gives its packet to those
 lines, whose handler prints what it is handed. The one in Go is a node of a cluster, and is compiled alone."""
 
 import textwrap
@@ -96,6 +96,6 @@ LINES
 
 
 def program(language):
-    """The program around README's lines."""
-    (lines,) = [block for _, block in pages.blocks("README.md") if block.split()[0] == BEGINS[language]]
+    """The program around the page's lines."""
+    (lines,) = [block for _, block in pages.blocks("docs/HOST.md") if block.split()[0] == BEGINS[language]]
     return AROUND[language].replace("LINES\n", lines if language == "python" else textwrap.indent(lines, "    "))

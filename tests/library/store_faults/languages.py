@@ -268,8 +268,8 @@ fn sync_folder("""),
         ("custom_flags(NO_FOLLOW | NO_WAIT)", 'custom_flags(if is("link_replaced") { NO_WAIT } else { NO_FOLLOW | NO_WAIT })'),
         ("if !own.is_file() {", "if !own.is_file() && !is_other(own.file_type()) {"),
         (
-            "file.try_lock()?;\n        match fs::symlink_metadata(path) {",
-            'if !is("lock") {\n            file.try_lock()?;\n        }\n'
+            "lock(&file)?;\n        match fs::symlink_metadata(path) {",
+            'if !is("lock") {\n            lock(&file)?;\n        }\n'
             '        match if is("link_replaced") { fs::metadata(path) } else { fs::symlink_metadata(path) } {',
         ),
         (
@@ -299,8 +299,8 @@ fn sync_folder("""),
         ),
         ("Ok(sync_folder(&store.path)?)", 'Ok(but("folder_ok", sync_folder(&store.path))?)'),
         (
-            "file.try_lock()?;\n        let rights = self.file.metadata()?.permissions().mode() & 0o777;",
-            'if !is("lock_beside") {\n            file.try_lock()?;\n        }\n'
+            "lock(&file)?;\n        let rights = self.file.metadata()?.permissions().mode() & 0o777;",
+            'if !is("lock_beside") {\n            lock(&file)?;\n        }\n'
             '        let rights = if is("rights") { 0o600 } else { self.file.metadata()?.permissions().mode() & 0o777 };',
         ),
         (

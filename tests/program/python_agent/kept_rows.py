@@ -1,15 +1,16 @@
 """Worked rows of agents that keep their events, run on the agent in Python: those of tests/rows whose names begin with `keeps_`.
 
-Beside these, NAME.calls is a dialogue of the pipe: each call, its reply, and a full stop.
+Beside these, dialogues.calls has dialogues of the pipe: behind a line [NAME] each call, its reply, and a full stop.
 """
 
 import os
+import re
 
+import checks
 from serf_agent.pipe import Pipe
 
-HERE = os.path.dirname(os.path.abspath(__file__))
-DIALOGUES = os.path.join(HERE, "rows")
-ROWS = os.path.join(HERE, "..", "..", "rows")
+DIALOGUES = checks.text_of(os.path.dirname(os.path.abspath(__file__)), "dialogues.calls")
+NAME = re.compile(r"^\[(\w+)\]\n", re.M)
 
 # Where the number of a packet stands in an action's words.
 GIVEN = {"deliver": 2, "merge": 2}
@@ -76,7 +77,7 @@ def dialogue(text):
         if line == ".":
             found.append((lines[0], lines[1:]))
             lines = []
-        elif not line.startswith("#"):
+        elif line and not line.startswith("#"):
             lines.append(line)
     return found
 
@@ -91,29 +92,26 @@ def unlike(text):
     return None
 
 
-def text_of(name, ending):
-    """The text of a row's file, or None where it has no such file."""
-    path = os.path.join(DIALOGUES if ending == "calls" else ROWS, f"{name}.{ending}")
-    if not os.path.exists(path):
-        return None
-    with open(path, encoding="ascii") as file:
-        return file.read()
+def dialogues():
+    """The text of each dialogue, by its name."""
+    _, *parts = NAME.split(DIALOGUES)
+    return dict(zip(parts[::2], parts[1::2]))
 
 
 def fault_of(name):
     """What differs in a row, or None."""
-    calls = text_of(name, "calls")
+    calls = dialogues().get(name)
     if calls is not None:
         return unlike(calls) if dialogue(calls) else "there are no calls"
-    trace, whole, facts = trace_of(text_of(name, "schedule")), text_of(name, "trace"), text_of(name, "lines")
-    if whole is not None:
-        return None if trace == whole.splitlines() else f"the trace differs: {trace}"
-    if not facts:
+    schedule, kind, wanted = checks.row_of(name)
+    trace = trace_of(schedule)
+    if kind == "trace":
+        return None if trace == wanted.splitlines() else f"the trace differs: {trace}"
+    if kind != "lines" or not wanted:
         return "there are no facts"
-    missing = [fact for fact in facts.splitlines() if not is_kept(fact, trace)]
+    missing = [fact for fact in wanted.splitlines() if not is_kept(fact, trace)]
     return f"{missing} in {trace}" if missing else None
 
 
 def names():
-    rows = [name for name in os.listdir(ROWS) if name.startswith("keeps_") and name.endswith(".schedule")]
-    return sorted(name.rpartition(".")[0] for name in [*rows, *os.listdir(DIALOGUES)])
+    return sorted([*(name for name in checks.names_in(checks.ROWS) if name.startswith("keeps_")), *dialogues()])

@@ -1,8 +1,7 @@
 // A node of ours for a cluster with Serf's own agents: a program over the package serf that does what is said on standard input, a
 // line each, and answers each by a line that begins with "ok" or "error".
 //
-//	node -name NAME -bind ADDRESS -snapshot FILE -log FILE [-tags K=V,..] [-lost N] [-repeated N] [-late N] [-seed N]
-//	     [-keep] [-states DURATION] [-cut ADDRESS,..]
+//	node -name NAME -bind ADDRESS -snapshot FILE -log FILE [-tags K=V,..] [-keep] [-states DURATION]
 //
 //	join ADDRESS..    joins these
 //	fire NAME TEXT    fires an event: its time
@@ -11,11 +10,10 @@
 //	tags K=V,..       changes the tags
 //	members           each member, as NAME=STATUS
 //	stats             counts
-//	cut [ADDRESS..]   is cut off from these, and from no others
 //	leave             leaves
 //
-// Its log has a line for each event and each query that came, as `serf-replay judge` reads it. Of 100 packets so many are lost,
-// repeated and late, both ways.
+// Its log has a line for each event and each query that came, as `serf-replay judge` reads it. What becomes of packets says the file of
+// KITCHENRUE_FAULTS (../../serf/faults.go).
 package main
 
 import (
@@ -31,13 +29,8 @@ import (
 	"sync"
 	"time"
 
-	"github.com/hashicorp/memberlist"
-
 	"kitchenrue.example/serf"
 )
-
-// port is memberlist's, of every node: each has an address of its own.
-const port = 7946
 
 // wait is how long a command may wait until it is sent, and asked how long a query is open.
 const (
@@ -48,7 +41,6 @@ const (
 // node is the program's node.
 type node struct {
 	*serf.Serf
-	network         *lossy
 	name            string
 	handled         io.Writer
 	acks, responses names
@@ -170,9 +162,6 @@ func (n *node) did(line string) (string, error) {
 		return strings.Join(all, " "), nil
 	case line == "stats":
 		return fmt.Sprint(n.Stats()), nil
-	case len(words) > 0 && words[0] == "cut":
-		n.network.cut(words[1:])
-		return "", nil
 	case line == "leave":
 		return "", n.Leave()
 	}
@@ -189,22 +178,13 @@ func made() *node {
 	flag.BoolVar(&config.KeepEvents, "keep", false, "whether its file keeps events")
 	flag.DurationVar(&list.PushPullInterval, "states", list.PushPullInterval, "how often it exchanges its state with another node")
 	handled, tags := flag.String("log", "", "the log of what came"), flag.String("tags", "", "its tags")
-	cut, seed := flag.String("cut", "", "addresses that it is cut off from at first"), flag.Int64("seed", 1, "of the losses")
-	var of chances
-	flag.IntVar(&of.lost, "lost", 0, "packets of 100 that are lost")
-	flag.IntVar(&of.repeated, "repeated", 0, "packets of 100 that come twice")
-	flag.IntVar(&of.late, "late", 0, "packets of 100 that come late")
 	flag.Parse()
 	log.SetPrefix(config.NodeName + " ")
 	file, err := os.OpenFile(*handled, os.O_CREATE|os.O_APPEND|os.O_WRONLY, 0o600)
 	check(err)
-	network, err := newLossy(&memberlist.NetTransportConfig{BindAddrs: []string{list.BindAddr}, BindPort: port, Logger: log.Default()}, of, *seed)
-	check(err)
-	network.cut(strings.Split(*cut, ","))
-	list.Transport, list.BindPort, list.AdvertiseAddr, list.AdvertisePort = network, port, list.BindAddr, port
 	events := make(chan serf.Event)
 	config.EventCh, config.Tags, config.BroadcastTimeout, config.Logger, config.LogOutput = events, tagsOf(*tags), wait, log.Default(), nil
-	n := &node{name: config.NodeName, handled: file, network: network}
+	n := &node{name: config.NodeName, handled: file}
 	go n.handle(events)
 	n.Serf, err = serf.Create(config)
 	check(err)

@@ -5,7 +5,8 @@
 //
 // A node gets the packets of another node's events, as many in a datagram as memberlist's gossip puts into one. 768 packets are under
 // way at most, so that none is dropped (memberlist queues 1,024), and the node has room for all times, since memberlist takes what came
-// last first. It has its snapshot in FOLDER, and what comes on its channel is counted. It prints seconds, and events a second.
+// last first. It has its snapshot in FOLDER, and what comes on its channel is counted. It prints seconds, and events a second. Where
+// SPEED_PLAIN is set, the node has memberlist's own transport, and no guard.
 package main
 
 import (
@@ -20,6 +21,7 @@ import (
 	"sync/atomic"
 	"time"
 
+	"github.com/hashicorp/memberlist"
 	"github.com/hashicorp/serf/serf"
 )
 
@@ -96,6 +98,11 @@ func node(path string) (made *serf.Serf, handled *atomic.Int64) {
 	config.NodeName, config.EventCh, config.LogOutput, config.SnapshotPath, config.EventBuffer = "node", events, ioutil.Discard, path, buffer
 	list := config.MemberlistConfig
 	list.BindAddr, list.BindPort, list.AdvertisePort, list.LogOutput = "127.0.0.1", 0, 0, ioutil.Discard
+	if os.Getenv("SPEED_PLAIN") != "" {
+		plain, err := memberlist.NewNetTransport(&memberlist.NetTransportConfig{BindAddrs: []string{list.BindAddr}, Logger: log.New(ioutil.Discard, "", 0)})
+		check(err)
+		list.Transport, list.BindPort, list.AdvertisePort = plain, plain.GetAutoBindPort(), plain.GetAutoBindPort()
+	}
 	made, err := serf.Create(config)
 	check(err)
 	go func() {

@@ -71,6 +71,7 @@ impl Agent {
     }
 
     /// Closes this agent's queries whose deadline is before `now`: each with its answers, in the order in which they were fired.
+    /// Queries that were handed out here, and whose deadline is before it, are forgotten.
     pub fn close_due(&mut self, now: u64) -> Result<Vec<Closed>, Error> {
         let mut closed = 0;
         // SAFETY: `closed` is of the type that the library writes.

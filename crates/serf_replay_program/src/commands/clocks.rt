@@ -1,26 +1,23 @@
 //! `clocks`: the clocks that a snapshot keeps.
 
-use crate::ending::{COMMAND_LINE, finish, no_memory, not_a_snapshot};
-use crate::input::input_of;
-use crate::options::{bare_command, place, with};
-use clap::{ArgMatches, Command};
+use crate::fault::{Ended, Fault, Status};
+use crate::io::{Io, name_of};
+use crate::options::Takes::Needed;
+use crate::options::{CommandRow, rows};
+use clap::ArgMatches;
 use serf_judge::{behind_leave, is_snapshot};
 use serf_text::clocks_text;
 use std::alloc::{AllocError, Global};
-use std::rt::Files;
 
 /// What the command takes.
-pub(crate) fn command<'a>(alloc: Global) -> Result<Command<'a>, AllocError> {
-    let about = "Prints the clocks that a snapshot keeps";
-    let example = "Example: serf-replay clocks local.snapshot";
-    let file = place(
-        alloc,
-        "FILE",
-        "The snapshot; standard input where it is `-`",
-    )
-    .required(true);
-    with(Ok(bare_command(alloc, "clocks", about, example)), file)
-}
+pub(crate) const COMMAND: CommandRow = CommandRow {
+    name: "clocks",
+    about: "Prints the clocks that a snapshot keeps",
+    example: "Example: serf-replay clocks local.snapshot",
+    rows: rows! {
+        "FILE" Needed => "The snapshot; standard input where it is `-`";
+    },
+};
 
 /// Appends these lines, each after a few words.
 fn put_behind(text: &mut Vec<u8>, words: &[u8], lines: &[u8]) -> Result<(), AllocError> {
@@ -46,27 +43,22 @@ fn all_clocks(alloc: Global, snapshot: &[u8]) -> Result<Vec<u8>, AllocError> {
     Ok(text)
 }
 
-fn print_clocks<R: Print + Eprint + AllocGlobal>(rt: &R, file: &str, snapshot: &[u8]) -> u8 {
-    if !is_snapshot(snapshot) {
-        return not_a_snapshot(rt, file);
+/// A text from this file, or from standard input, is refused where no line of a snapshot stands in it.
+pub(super) fn check_snapshot<'a>(path: &'a str, text: &[u8]) -> Result<(), Fault<'a>> {
+    if is_snapshot(text) {
+        return Ok(());
     }
-    match all_clocks(rt.alloc(), snapshot) {
-        Ok(text) => finish(rt, &text),
-        Err(_) => no_memory(rt),
-    }
+    let (name, what) = (name_of(Some(path)), "no line of a snapshot");
+    Err(Fault::File(name, what, Status::Refused))
 }
 
 /// Prints the clocks that the snapshot in a file, or on standard input, keeps.
-pub(crate) fn run<F: Files, R: Input + Print + Eprint + AllocGlobal>(
-    files: &F,
-    rt: &R,
-    matches: &ArgMatches,
-) -> u8 {
+pub(super) fn run<'a>(io: Io, matches: &ArgMatches<'a>) -> Ended<'a> {
     let Some(file) = matches.get_str("FILE") else {
-        return COMMAND_LINE;
+        return Ok(Status::CommandLine);
     };
-    match input_of(files, rt, Some(file)) {
-        Ok(snapshot) => print_clocks(rt, file, &snapshot),
-        Err(status) => status,
-    }
+    let snapshot = io.source(Some(file))?.text()?;
+    check_snapshot(file, &snapshot)?;
+    let text = all_clocks(io.alloc(), &snapshot)?;
+    io.finish(&text)
 }

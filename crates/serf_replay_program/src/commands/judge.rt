@@ -1,169 +1,192 @@
 //! `judge`: the promises of events and queries, on the log of any Serf.
 
-mod again;
-mod counts;
-mod kept;
-mod missed;
-mod places;
 mod verdicts;
 
-use crate::ending::{
-    COMMAND_LINE, DONE, REFUSED, bad_line_in, finish, no_memory, not_a_snapshot, stopped,
-};
-use crate::input::{file_of, opened};
-use crate::options::{bare_command, flag, many_of, places, with};
-use clap::{ArgMatches, Command};
-use places::Places;
-use serf_judge::{Log, has_node, is_snapshot, join_logs, read_log};
+use super::clocks::check_snapshot;
+use crate::fault::{Ended, Fault, Status};
+use crate::io::Io;
+use crate::options::Takes::{Flag, Places, Words};
+use crate::options::{CommandRow, rows};
+use crate::parts::Part;
+use crate::parts::Part::{Bytes, Number, Word};
+use clap::ArgMatches;
+use serf_judge::{Log, behind_leave, first_above, has_node, is_own_snapshot, join_logs, read_log};
+use serf_snap::read_clocks;
 use serf_text::StreamFault;
-use std::alloc::{AllocError, Global};
-use std::rt::Files;
-use verdicts::Verdicts;
+use std::alloc::AllocError;
+use verdicts::{Placed, Verdicts};
 
 /// What the command takes.
-pub(crate) fn command<'a>(alloc: Global) -> Result<Command<'a>, AllocError> {
-    let about = "Judges the promises of events and queries on a log of any Serf";
-    let example =
-        "Example: serf-replay judge examples/incident/handlers.log --kept beta=examples/incident/beta.snapshot";
-    let log = "A log, or several; standard input where none is given, and for `-`";
-    let missed = "Tells too which nodes were never handed an event that others were";
-    let kept = "What a node's snapshot keeps; may be given many times";
-    let bare = Ok(bare_command(alloc, "judge", about, example));
-    let command = with(bare, places(alloc, "LOG", log));
-    let command = with(command, flag(alloc, "missed", missed));
-    with(command, many_of(alloc, "kept", "NODE=SNAPSHOT", kept))
+pub(crate) const COMMAND: CommandRow = CommandRow {
+    name: "judge",
+    about: "Judges the promises of events and queries on a log of any Serf",
+    example: "Example: serf-replay judge examples/incident/handlers.log --kept beta=examples/incident/beta.snapshot",
+    rows: rows! {
+        "LOG" Places => "A log, or several; standard input where none is given, and for `-`";
+        "missed" Flag => "Tells too which nodes were never handed an event that others were";
+        "own" Flag => "The snapshots are of agents of this project, which go on after a leave";
+        "kept" Words("NODE=SNAPSHOT") => "What a node's snapshot keeps; may be given many times";
+    },
+};
+
+/// The line and the time of the first event that was handed to a node above this clock.
+fn open_event(log: &Log, node: &[u8], clock: u64) -> Option<(u64, u64)> {
+    let place = first_above(log.events.as_slice(), node, clock)?;
+    let entry = log.events.get(place)?;
+    Some((entry.line, entry.time))
 }
 
-/// The log of a file, or of standard input where it is `-`; or the status of a fault.
-fn log_of<F: Files, R: Input + Print + Eprint + AllocGlobal>(
-    files: &F,
-    rt: &R,
-    file: &str,
-    is_alone: bool,
-) -> Result<Log, u8> {
-    let read = match file {
-        "-" => read_log(rt.alloc(), &mut rt.reader()),
-        path => {
-            let mut reader = opened(files, rt, path)?;
-            read_log(rt.alloc(), &mut reader)
+/// The line and the time of the first query that was handed to a node above this clock.
+fn open_query(log: &Log, node: &[u8], clock: u64) -> Option<(u64, u64)> {
+    let place = first_above(log.queries.as_slice(), node, clock)?;
+    let entry = log.queries.get(place)?;
+    Some((entry.line, entry.time))
+}
+
+impl Verdicts<'_> {
+    /// Appends what a node keeps of a clock, and what line and time that leaves open.
+    fn put_kept(&mut self, kept: [Part; 4], open: Option<(u64, u64)>) -> Result<(), AllocError> {
+        self.put("~~ keeps ~ ~", &kept)?;
+        let Some((line, time)) = open else {
+            return self.put(": nothing was handed out above it\n", &[]);
+        };
+        let text = ", and ~ was handed out at ~: it can be handed out again\n";
+        let line = self.line(line);
+        self.put_broken(text, &[line, Number(time)])
+    }
+
+    /// Judges what the clocks of a node's snapshot leave open, each where the log has such lines.
+    fn judge_clocks<'b>(
+        &mut self,
+        log: &Log,
+        node: &'b [u8],
+        how: &'b str,
+        snapshot: &[u8],
+    ) -> Result<(), AllocError> {
+        let clocks = read_clocks(snapshot);
+        let (name, how) = (Bytes(node), Word(how));
+        if !log.events.is_empty() {
+            let clock = clocks.event_clock;
+            let kept = [name, how, Word("event-clock"), Number(clock)];
+            self.put_kept(kept, open_event(log, node, clock))?;
         }
-    };
-    read.map_err(|fault| match fault {
-        StreamFault::LineTooLong { line } if !is_alone => bad_line_in(rt, file, line, "TooLong"),
-        _ => stopped(rt, Some(file), fault),
+        if !log.queries.is_empty() {
+            let clock = clocks.query_clock;
+            let kept = [name, how, Word("query-clock"), Number(clock)];
+            self.put_kept(kept, open_query(log, node, clock))?;
+        }
+        Ok(())
+    }
+
+    /// Judges what a node's snapshot leaves open: of one of Serf's with a line `leave` what it does where Serf is started
+    /// with `-rejoin`, and what without. An agent of this project goes on from all lines.
+    fn judge_kept(
+        &mut self,
+        log: &Log,
+        node: &[u8],
+        snapshot: &[u8],
+        is_own: bool,
+    ) -> Result<(), AllocError> {
+        let counted = behind_leave(snapshot);
+        if is_own || is_own_snapshot(snapshot) || counted.len() == snapshot.len() {
+            return self.judge_clocks(log, node, "", snapshot);
+        }
+        self.judge_clocks(log, node, " with -rejoin", snapshot)?;
+        self.judge_clocks(log, node, " without -rejoin", counted)
+    }
+}
+
+/// The log of a file, or of standard input where it is `-`.
+fn log_of<'a>(io: Io, file: &'a str, is_alone: bool) -> Result<Log, Fault<'a>> {
+    let mut source = io.source(Some(file))?;
+    read_log(io.alloc(), &mut source).map_err(|fault| match fault {
+        StreamFault::ReadFault => Fault::ReadFaultOf(file),
+        StreamFault::LineTooLong { line } => Fault::LongLogLine(
+            if is_alone { None } else { Some(file) },
+            line,
+        ),
+        fault => fault.into(),
     })
 }
 
-/// A log, and after it the log of a file; or the status of a fault.
-fn log_behind<F: Files, R: Input + Print + Eprint + AllocGlobal>(
-    files: &F,
-    rt: &R,
-    log: Log,
-    file: &str,
-) -> Result<Log, u8> {
-    let more = log_of(files, rt, file, false)?;
-    join_logs(log, more).map_err(|_| no_memory(rt))
+/// Puts a log after the others, which have so many lines.
+fn add<'a>(places: &mut Vec<Placed<'a>>, name: &'a str, before: u64) -> Result<(), AllocError> {
+    places.push(Placed { name, before })?;
+    Ok(())
 }
 
-/// The logs of these files, one after another, and where each begins; or the status of a fault.
-fn logs_of<'a, F: Files, R: Input + Print + Eprint + AllocGlobal>(
-    files: &F,
-    rt: &R,
+/// The logs of these files, one after another; where each begins is added to the places.
+fn logs_of<'a: 'b, 'b>(
+    io: Io,
     names: &[&'a str],
-    places: &mut Places<'a>,
-) -> Result<Log, u8> {
+    places: &mut Vec<Placed<'b>>,
+) -> Result<Log, Fault<'a>> {
     let Some((first, others)) = names.split_first() else {
-        return log_of(files, rt, "-", true);
+        return log_of(io, "-", true);
     };
-    let mut log = log_of(files, rt, first, others.is_empty())?;
-    places.add(*first, 0).map_err(|_| no_memory(rt))?;
+    let mut log = log_of(io, first, others.is_empty())?;
+    add(places, *first, 0)?;
     for name in others {
-        places.add(*name, log.lines).map_err(|_| no_memory(rt))?;
-        log = log_behind(files, rt, log, name)?;
+        add(places, *name, log.lines)?;
+        let more = log_of(io, name, false)?;
+        log = join_logs(log, more)?;
     }
     Ok(log)
 }
 
-/// The snapshot in a file; or the status of a fault. A text that is none is refused.
-fn snapshot_of<F: Files, R: Eprint + AllocGlobal>(
-    files: &F,
-    rt: &R,
-    path: &str,
-) -> Result<Vec<u8>, u8> {
-    let snapshot = file_of(files, rt, path)?;
-    if is_snapshot(&snapshot) {
-        Ok(snapshot)
-    } else {
-        Err(not_a_snapshot(rt, path))
-    }
+/// The snapshot in a file. A text that is none is refused.
+fn snapshot_of<'a>(io: Io, path: &'a str) -> Result<Vec<u8>, Fault<'a>> {
+    let snapshot = match io.file(path)?.text() {
+        Ok(snapshot) => snapshot,
+        Err(Fault::ReadFault) => return Err(Fault::ReadFaultOf(path)),
+        Err(fault) => return Err(fault),
+    };
+    check_snapshot(path, &snapshot)?;
+    Ok(snapshot)
 }
 
-/// Judges what a snapshot leaves open, which is given as `NODE=SNAPSHOT`; or gives the status of a fault.
-fn judge_snapshot<F: Files, R: Eprint + AllocGlobal>(
-    files: &F,
-    rt: &R,
+/// Judges what a snapshot leaves open, which is given as `NODE=SNAPSHOT`.
+fn judge_snapshot<'a>(
+    io: Io,
     verdicts: &mut Verdicts<'_>,
     log: &Log,
-    word: &str,
-) -> Result<(), u8> {
+    word: &'a str,
+    is_own: bool,
+) -> Result<(), Fault<'a>> {
     let Some((node, path)) = word.split_once('=') else {
-        let _ = eprintln!(rt; "error: --kept wants NODE=SNAPSHOT, and not '{word}'");
-        return Err(COMMAND_LINE);
+        let wants = "--kept wants NODE=SNAPSHOT, and not '";
+        return Err(Fault::CommandLine(wants, word, "'", "", ""));
     };
     if !has_node(log, node.as_bytes()) {
-        let _ = eprintln!(rt;
-            "error: --kept {word}: the log has no event and no query of a node '{node}'"
-        );
-        return Err(COMMAND_LINE);
+        let why = ": the log has no event and no query of a node '";
+        return Err(Fault::CommandLine("--kept ", word, why, node, "'"));
     }
-    let snapshot = snapshot_of(files, rt, path)?;
-    verdicts
-        .judge_kept(rt.alloc(), log, node.as_bytes(), &snapshot)
-        .map_err(|_| no_memory(rt))
+    let snapshot = snapshot_of(io, path)?;
+    Ok(verdicts.judge_kept(log, node.as_bytes(), &snapshot, is_own)?)
 }
 
-/// Judges a log, and what the snapshots that are named leave open; or gives the status of a fault.
-fn judge_log<F: Files, R: Eprint + AllocGlobal>(
-    files: &F,
-    rt: &R,
-    matches: &ArgMatches,
+/// The verdicts on a log, and on what the snapshots that the words name leave open.
+fn judge<'a>(
+    io: Io,
+    matches: &ArgMatches<'a>,
     verdicts: &mut Verdicts<'_>,
     log: &Log,
-) -> Result<(), u8> {
-    verdicts
-        .judge(rt.alloc(), log, matches.get_flag("missed"))
-        .map_err(|_| no_memory(rt))?;
-    let kept = matches.get_strs("kept").unwrap_or(&[]);
-    for word in kept {
-        judge_snapshot(files, rt, verdicts, log, word)?;
+) -> Result<(), Fault<'a>> {
+    verdicts.judge(io.alloc(), log, matches.get_flag("missed"))?;
+    let is_own = matches.get_flag("own");
+    for word in matches.get_strs("kept").unwrap_or(&[]) {
+        judge_snapshot(io, verdicts, log, word, is_own)?;
     }
     Ok(())
 }
 
-fn verdicts_on<'a, F: Files, R: Input + Print + Eprint + AllocGlobal>(
-    files: &F,
-    rt: &R,
-    matches: &'a ArgMatches,
-) -> Result<Verdicts<'a>, u8> {
+/// Writes the verdicts on a log. It is refused where a promise is broken, or a line of the log is bad.
+pub(super) fn run<'a>(io: Io, matches: &ArgMatches<'a>) -> Ended<'a> {
     let names = matches.get_strs("LOG").unwrap_or(&[]);
-    let mut places = Places::new(rt.alloc());
-    let log = logs_of(files, rt, names, &mut places)?;
-    let mut verdicts = Verdicts::new(rt.alloc(), places);
-    judge_log(files, rt, matches, &mut verdicts, &log)?;
-    Ok(verdicts)
-}
-
-/// Writes the verdicts on a log, and gives the status: 1 where a promise is broken, or a line of the log is bad.
-pub(crate) fn run<F: Files, R: Input + Print + Eprint + AllocGlobal>(
-    files: &F,
-    rt: &R,
-    matches: &ArgMatches,
-) -> u8 {
-    match verdicts_on(files, rt, matches) {
-        Ok(verdicts) => match finish(rt, &verdicts.text) {
-            DONE if verdicts.is_broken => REFUSED,
-            status => status,
-        },
-        Err(status) => status,
-    }
+    let mut places = Vec::new(io.alloc());
+    let log = logs_of(io, names, &mut places)?;
+    let mut verdicts = Verdicts::new(io.alloc(), places, &log.dates);
+    judge(io, matches, &mut verdicts, &log)?;
+    io.finish(&verdicts.text)?;
+    Ok(Status::refused_if(verdicts.is_broken))
 }

@@ -1,107 +1,77 @@
 //! `replay`: the trace of a schedule; or its summary; or its turns, line by line.
 
-mod forms;
-mod streaming;
 mod summary;
 
-use crate::ending::{DONE, replay_failed};
-use crate::input::opened;
-use crate::options::{bad_word, bare_command, flag, option_of, place, with};
+use crate::fault::{Ended, Fault, Status};
+use crate::io::Io;
+use crate::options::Takes::{Flag, Place, Word};
+use crate::options::{CommandRow, SCHEDULE, bad_word, rows};
 use crate::progress::Progress;
-use crate::standard_output::StandardOutput;
-use clap::{ArgMatches, Command};
-use forms::Form;
-use serf_replay::replay;
-use std::alloc::{AllocError, Global};
-use std::rt::Files;
-use std::time::Clock;
-
-const EXAMPLE: &str = "Example: serf-replay replay examples/deploy_gossiped_twice.schedule";
-
-/// What may stand after `--as`.
-const FORMS: &str = "text, csv or json, where --summary is given too";
+use clap::ArgMatches;
+use serf_replay::{Summary, replay, replay_lines, summarize, summarize_lines};
+use serf_schedule::parse_schedule;
+use summary::{CSV, Form, JSON, TEXT, summary_text};
 
 /// What the command takes.
-pub(crate) fn command<'a>(alloc: Global) -> Result<Command<'a>, AllocError> {
-    let stream = "Does and writes line by line: a schedule of any length";
-    let summary =
-        "Writes in place of the trace how often each answer came, and who was handed what by when";
-    let help = "The schedule; standard input where it is left out or `-`";
-    let about = "Runs a schedule and writes its trace";
-    let bare = Ok(bare_command(alloc, "replay", about, EXAMPLE));
-    let command = with(bare, place(alloc, "FILE", help));
-    let command = with(command, flag(alloc, "stream", stream));
-    let command = with(command, flag(alloc, "summary", summary));
-    let form = "Of a summary: `text` (as when left out), `csv` or `json`";
-    with(command, option_of(alloc, "as", "FORM", form))
-}
+pub(crate) const COMMAND: CommandRow = CommandRow {
+    name: "replay",
+    about: "Runs a schedule and writes its trace",
+    example: "Example: serf-replay replay examples/deploy_gossiped_twice.schedule",
+    rows: rows! {
+        "FILE" Place => SCHEDULE;
+        "stream" Flag => "Does and writes line by line: a schedule of any length";
+        "summary" Flag => "Writes in place of the trace how often each answer came, and who was handed what by when";
+        "as" Word("FORM") => "Of a summary: `text` (as when left out), `csv` or `json`";
+    },
+};
 
-/// Writes the trace of the schedule in a file, or on standard input.
-fn run_whole<F: Files, R: Clock + Input + Print + Eprint + AllocGlobal>(
-    files: &F,
-    rt: &R,
-    is_terminal: bool,
-    file: Option<&str>,
-) -> u8 {
-    let mut writer = StandardOutput::new(rt);
-    let mut progress = Progress::new(rt, is_terminal);
-    let outcome = match file {
-        None | Some("-") => replay(rt.alloc(), &mut rt.reader(), &mut writer, &mut progress),
-        Some(path) => match opened(files, rt, path) {
-            Ok(mut reader) => replay(rt.alloc(), &mut reader, &mut writer, &mut progress),
-            Err(status) => return status,
-        },
-    };
-    match outcome {
-        Ok(()) => DONE,
-        Err(fault) => writer
-            .closed()
-            .unwrap_or_else(|| replay_failed(rt, is_terminal, file, fault)),
-    }
-}
-
-/// The form that the words ask for; `None` where they name none.
-fn form_of(matches: &ArgMatches) -> Option<Form> {
-    match matches.get_str("as") {
-        None | Some("text") => Some(Form::Text),
-        Some("csv") => Some(Form::Csv),
-        Some("json") => Some(Form::Json),
-        Some(_) => None,
-    }
-}
-
-/// Writes the summary of the schedule in a file, or on standard input.
-fn run_summary<F: Files, R: Clock + Input + Print + Eprint + AllocGlobal>(
-    files: &F,
-    rt: &R,
-    is_terminal: bool,
-    matches: &ArgMatches,
-) -> u8 {
-    let file = matches.get_str("FILE");
-    match form_of(matches) {
-        Some(form) if matches.get_flag("stream") => {
-            summary::run_lines(files, rt, is_terminal, form, file)
+/// The form that the words ask for. Only a summary has one.
+fn form_of<'a>(matches: &ArgMatches) -> Result<Form, Fault<'a>> {
+    match (matches.get_str("as"), matches.get_flag("summary")) {
+        (None, _) | (Some("text"), true) => Ok(TEXT),
+        (Some("csv"), true) => Ok(CSV),
+        (Some("json"), true) => Ok(JSON),
+        (Some(_), _) => {
+            let words = "text, csv or json, where --summary is given too";
+            Err(bad_word("as", words))
         }
-        Some(form) => summary::run(files, rt, is_terminal, form, file),
-        None => bad_word(rt, "as", FORMS),
     }
+}
+
+/// What came of the run of the schedule in a file, or on standard input.
+fn summary_of<'a>(io: Io, matches: &ArgMatches<'a>) -> Result<Summary, Fault<'a>> {
+    let file = matches.get_str("FILE");
+    if matches.get_flag("stream") {
+        let mut source = io.source(file)?.of_schedule();
+        return Ok(summarize_lines(io.alloc(), &mut source)?);
+    }
+    let text = io.source(file)?.of_schedule().text()?;
+    let schedule = parse_schedule(io.alloc(), &text)?;
+    let mut progress = Progress::of_actions(io);
+    Ok(summarize(io.alloc(), schedule, &mut progress)?)
+}
+
+/// Writes the trace of the schedule in a file, or on standard input; line by line where that is asked for: then a line that
+/// is bad ends it, after the text of those before.
+fn write_trace<'a>(io: Io, matches: &ArgMatches<'a>) -> Ended<'a> {
+    let mut source = io.source(matches.get_str("FILE"))?.of_schedule();
+    let mut output = io.output();
+    if matches.get_flag("stream") {
+        replay_lines(io.alloc(), &mut source, &mut output)?;
+    } else {
+        let mut progress = Progress::of_actions(io);
+        replay(io.alloc(), &mut source, &mut output, &mut progress)?;
+    }
+    Ok(Status::Done)
 }
 
 /// Runs the schedule of a file, or of standard input.
-pub(crate) fn run<F: Files, R: Clock + Input + Print + Eprint + AllocGlobal>(
-    files: &F,
-    rt: &R,
-    is_terminal: bool,
-    matches: &ArgMatches,
-) -> u8 {
-    let file = matches.get_str("FILE");
-    if matches.get_flag("summary") {
-        run_summary(files, rt, is_terminal, matches)
-    } else if matches.get_str("as").is_some() {
-        bad_word(rt, "as", FORMS)
-    } else if matches.get_flag("stream") {
-        streaming::run(files, rt, is_terminal, file)
-    } else {
-        run_whole(files, rt, is_terminal, file)
+pub(super) fn run<'a>(io: Io, matches: &ArgMatches<'a>) -> Ended<'a> {
+    let form = form_of(matches)?;
+    if !matches.get_flag("summary") {
+        return write_trace(io, matches);
     }
+    let summary = summary_of(io, matches)?;
+    let text = summary_text(io.alloc(), &form, &summary)?;
+    io.finish(&text)
 }

@@ -1,5 +1,5 @@
 // Package agent stands in a run for the package of Serf's own agent, so that the tests of Serf's own RPC client, which are in that
-// package, run over an agent that is a process. RPC_CLIENT_PROGRAM has the words that start it, a line each.
+// package, and those of its commands run over an agent that is a process. RPC_CLIENT_PROGRAM has the words that start it, a line each.
 package agent
 
 import (
@@ -49,6 +49,16 @@ func Create(_ *Config, conf *serf.Config, out io.Writer) (*Agent, error) {
 		"-profile=local", "-log-level=debug")
 	if key := conf.MemberlistConfig.SecretKey; key != nil {
 		words = append(words, "-encrypt="+base64.StdEncoding.EncodeToString(key))
+	}
+	if ring := conf.MemberlistConfig.Keyring; ring != nil {
+		keys, err := keyringFile(ring)
+		if err != nil {
+			return nil, err
+		}
+		words = append(words, "-keyring-file="+keys)
+	}
+	for key, value := range conf.Tags {
+		words = append(words, "-tag="+key+"="+value)
 	}
 	a.process = exec.Command(words[0], words[1:]...)
 	a.process.Stdout, a.process.Stderr = out, out
@@ -139,9 +149,9 @@ func (a *Agent) ShutdownCh() <-chan struct{} { return a.over }
 func (a *Agent) Join(others []string, replay bool) (int, error) { return a.own.Join(others, replay) }
 
 // Serf is what the tests ask of the agent's members.
-func (a *Agent) Serf() asked { return asked{a.own} }
+func (a *Agent) Serf() asked { return asked{a} }
 
-type asked struct{ own *client.RPCClient }
+type asked struct{ of *Agent }
 
 var statuses = map[string]serf.MemberStatus{
 	"alive": serf.StatusAlive, "leaving": serf.StatusLeaving, "left": serf.StatusLeft, "failed": serf.StatusFailed,
@@ -149,7 +159,7 @@ var statuses = map[string]serf.MemberStatus{
 
 // Members are those that the agent knows; none where it doesn't say.
 func (s asked) Members() (found []serf.Member) {
-	all, _ := s.own.Members()
+	all, _ := s.of.own.Members()
 	for _, one := range all {
 		found = append(found, serf.Member{Name: one.Name, Addr: one.Addr, Port: one.Port, Tags: one.Tags, Status: statuses[one.Status]})
 	}

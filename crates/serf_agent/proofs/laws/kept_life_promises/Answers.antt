@@ -1,7 +1,8 @@
 use Rattle.serf_agent.proofs.HandsOutLaws.{BelowHandsOut}
 use Rattle.serf_agent.proofs.JoinLaws.{remembers_joins}
 use Rattle.serf_agent.proofs.KeptLifeLaws as lives
-use Rattle.serf_agent.proofs.OfferLaws.{hands_out_new, taking_laws}
+use Rattle.serf_agent.proofs.OfferLaws.{hands_out_new, takes_new_queries, taking_events, taking_queries}
+use Rattle.serf_agent.proofs.SaidQueries.{said_laws}
 use Rattle.serf_agent.proofs.laws.kept_life_promises.Goals as goal
 
 below : goal.After-unkept_laws → lives.BelowKeptLives
@@ -67,5 +68,28 @@ returns-clause-handed_out c = hands_out_new (below_offers c)
 pub returns-clause-remembered : goal.returns-clause-remembered
 returns-clause-remembered c = remembers_joins (below_offers c)
 
+pub returns-clause-queries_taken : goal.returns-clause-queries_taken
+returns-clause-queries_taken c = takes_new_queries (below_offers c)
+
 pub returns-clause-taking : goal.returns-clause-taking
-returns-clause-taking c = taking_laws (below_offers c)
+returns-clause-taking c = taking_events (below_offers c)
+
+pub returns-clause-queries_taking : goal.returns-clause-queries_taking
+returns-clause-queries_taking c = taking_queries (below_offers c)
+
+pub returns-clause-queries_said : goal.returns-clause-queries_said
+returns-clause-queries_said c = said_laws (record {
+  hands_out = below_offers c;
+  joined = c.said_query_laws.ensures.joined;
+  sealed = c.query_line_laws.ensures.sealed;
+  sealed_whole = c.text_laws.ensures.sealed_whole;
+  event_line = c.said_query_laws.ensures.event;
+  query_line = c.said_query_laws.ensures.query;
+  least_line = c.said_query_laws.ensures.least;
+  clock_line = c.said_query_laws.ensures.clock_line;
+  kept_clock_line = c.said_query_laws.ensures.kept_clock_line;
+  compacted = c.said_query_laws.ensures.compacted;
+  kept_compacted = c.said_query_laws.ensures.kept_compacted;
+  compacted_whole = c.text_laws.ensures.compacted_whole;
+  kept_compacted_whole = c.said_laws.ensures.kept_compacted_whole;
+})

@@ -6,16 +6,16 @@ use Rattle.serf_conform.proofs.SessionLemmas.{along_last, counted_few, next_at, 
 use Rattle.serf_conform.proofs.session.hold_on.Goals as goal
 
 pub returns-in-empty : goal.returns-in-empty
-returns-in-empty g c = λ config w held is h.
-    let at = c.turns.invariant.0 config w held is h in
+returns-in-empty g c = λ w held is h.
+    let at = c.turns.invariant.0 w held is h in
     let none : length c.turns.actions.now ≡ 0 = omega arith in
-    along_last _ _ _ _ _ _ _ _ _ config at.0 _ _ _ _ _ _ _ none at.2 (λ w' more. c.look_last.ensures c.args.agent config at.0 w' held at.1 more)
+    along_last _ _ _ _ _ _ _ _ _ c.args.config.now at.0 _ _ _ _ _ _ _ none at.2 (λ w' more. c.look_last.ensures c.args.agent c.args.config.now at.0 w' held at.1 more)
 
 pub returns-in-Some : goal.returns-in-Some
-returns-in-Some g c = λ config w held is h.
-    let at = c.turns.invariant.0 config w held is h in
-    next_ends _ _ _ _ _ _ _ _ _ config at.0 _ _ _ _ _ _ _ _ _ _ _ c.in-len1-up.len_at_least c.action-item.is c.in-len1-up-lines.len_at_least c.line-item.is
-    at.2 (c.in_ok-due-in-len1-up-lines.ensures.due config at.0 at.1) c.in_ok-asked-in-len1-up-lines.ensures.taken (sym c.ending.ensures ∙ c.in-Some.is)
+returns-in-Some g c = λ w held is h.
+    let at = c.turns.invariant.0 w held is h in
+    next_ends _ _ _ _ _ _ _ _ _ c.args.config.now at.0 _ _ _ _ _ _ _ _ _ _ _ c.in-len1-up.len_at_least c.action-item.is c.in-len1-up-lines.len_at_least c.line-item.is
+    at.2 (c.in_ok-due-in-len1-up-lines.ensures.due c.args.config.now at.0 at.1) c.in_ok-asked-in-len1-up-lines.ensures.taken (sym c.ending.ensures ∙ c.in-Some.is)
 
 pub turns-preserved : goal.turns-preserved
 turns-preserved g c =
@@ -23,12 +23,12 @@ turns-preserved g c =
     let behind : take (length c.turns.lines.now - 1) (drop 1 c.turns.lines.now) ≡ drop 1 c.turns.lines.now = grind (arith, common_steps) in
     let own : length c.as_slice.result.now ≡ length c.line-item.result.sent = ap length c.as_slice.ensures in
     let fits = c.in_ok-asked-in-len1-up-lines.ensures.fits in (
-      λ config v held is h.
-          let at = c.turns.invariant.0 config v held is h in (
+      λ v held is h.
+          let at = c.turns.invariant.0 v held is h in (
             made_after c.args.agent (turn_at c.turns.count c.args.sent.now c.action-item.result c.line-item.result) at.0,
-            c.in_ok-due-in-len1-up-lines.ensures.lone config at.0 at.1,
-            next_at _ _ _ _ _ _ _ _ _ config at.0 _ _ _ _ _ _ _ _ _ _ _ _ _ _ c.in-len1-up.len_at_least c.action-item.is c.in-len1-up-lines.len_at_least c.line-item.is
-                at.2 (c.in_ok-due-in-len1-up-lines.ensures.due config at.0 at.1) c.in_ok-asked-in-len1-up-lines.ensures.taken (sym c.ending.ensures ∙ c.in_default.is) more behind own c.counted-more.ensures,
+            c.in_ok-due-in-len1-up-lines.ensures.lone c.args.config.now at.0 at.1,
+            next_at _ _ _ _ _ _ _ _ _ c.args.config.now at.0 _ _ _ _ _ _ _ _ _ _ _ _ _ _ c.in-len1-up.len_at_least c.action-item.is c.in-len1-up-lines.len_at_least c.line-item.is
+                at.2 (c.in_ok-due-in-len1-up-lines.ensures.due c.args.config.now at.0 at.1) c.in_ok-asked-in-len1-up-lines.ensures.taken (sym c.ending.ensures ∙ c.in_default.is) more behind own c.counted-more.ensures,
           ),
       grind (arith, common_steps, more),
       subst (λ (t : Tally). IsFew t (c.turns.number + 1)) (sym c.counted-more.ensures) (counted_few c.in_ok-asked-in-len1-up-lines.asked c.turns.tally c.turns.number c.turns.invariant.2),

@@ -5,9 +5,9 @@ use Rattle.serf_draw.specs.Drawing.{lost_in, shown_lanes}
 use Rattle.serf_draw.proofs.drawing.picture_of.Goals as goal
 
 pub returns : goal.returns
-returns c =
+returns g c =
     let asked = c.args.asked.now in
-    let drawn = (c.in_ok-tell_schedule.ensures asked (c.new-drawn.ensures c.args.schedule.agents)).1 in
+    let drawn = (c.in_ok-tell_schedule.ensures asked (c.new-teller.ensures c.args.schedule.agents)).1 in
     record {
       lanes = c.in_ok-lanes.ensures ∙ ap (λ (configs : List Config). shown_lanes asked configs) c.as_slice.ensures.agents;
       rows = drawn.rows_are;

@@ -1,8 +1,7 @@
 use Rattle.std.proofs.Common.{◌∙◌, [], map, ap, refl}
 use Rattle.std.proofs.lemmas.Result.{IfOk-weaker}
 use Rattle.serf_judge.specs.Again.{firsts_of}
-use Rattle.serf_judge.specs.Fired.{content_key_eq, key_content}
-use Rattle.serf_judge.specs.Missed.{is_same_content}
+use Rattle.serf_judge.specs.Fired.{content_key_eq, is_same_content, key_content}
 use Rattle.serf_judge.proofs.AgainLaws.{new-map}
 use Rattle.serf_judge.proofs.missed.contents.Goals as goal
 

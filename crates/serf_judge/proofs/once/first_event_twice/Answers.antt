@@ -1,11 +1,8 @@
-use Rattle.std.proofs.Common.{◌≡◌, ◌∙◌, map, ap}
+use Rattle.std.proofs.Common.{map}
 use Rattle.std.proofs.lemmas.Result.{IfOk-weaker}
-use Rattle.serf_judge.proofs.TwiceLaws.{twice-from-pairs}
-use Rattle.serf_judge.specs.Identity.{event_identity, key_identity}
-use Rattle.serf_judge.proofs.KeyLaws.{event_key_eq, event-key-decides}
+use Rattle.serf_judge.specs.Identity.{event_identity}
+use Rattle.serf_judge.proofs.OnceLaws.{none-once}
 use Rattle.serf_judge.proofs.once.first_event_twice.Goals as goal
 
-pub returns : goal.returns
-returns c =
-    let seen : map key_identity c.as_slice.result.now ≡ map event_identity c.args.entries.now = ap (map key_identity) c.as_slice.ensures.value ∙ c.in_ok-keys.ensures in
-    rw (← seen) (IfOk-weaker c.first_pair.result _ _ (λ pair h. twice-from-pairs event_key_eq key_identity c.as_slice.result.now pair event-key-decides h) c.first_pair.ensures)
+pub returns-clause-once : goal.returns-clause-once
+returns-clause-once c = λ turns stands. IfOk-weaker c.first_twice.result _ _ (λ pair h. none-once pair (map event_identity c.args.entries.now) stands stands.apart stands.named h) c.first_twice.ensures

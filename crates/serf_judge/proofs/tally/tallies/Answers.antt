@@ -1,10 +1,10 @@
 use Rattle.std.proofs.Common.{map}
-use Rattle.serf_judge.specs.Tallied.{handing_of}
+use Rattle.serf_judge.specs.Identity.{handed_seen}
 use Rattle.serf_judge.specs.Tallies.{told_of}
 use Rattle.serf_judge.proofs.TallyLaws.{told-all}
 use Rattle.serf_judge.proofs.tally.tallies.Goals as goal
 
 pub returns : goal.returns
 returns c =
-    told-all (map handing_of c.args.lines.now) (map told_of c.loop-node.told.items) c.as_slice-node-items.result.now c.in_ok-nodes.nodes.items c.loop-node.node-index
+    told-all (map handed_seen c.args.lines.now) (map told_of c.loop-node.told.items) c.as_slice-node-items.result.now c.in_ok-nodes.nodes.items c.loop-node.node-index
     c.loop-node.invariant c.loop-node-test.false c.as_slice-node-items.ensures.value c.in_ok-nodes.ensures

@@ -1,7 +1,7 @@
 use Rattle.std.proofs.Common.{◌≡◌, map, take}
-use Rattle.serf_judge.specs.Tallied.{handing_of}
+use Rattle.serf_judge.specs.Identity.{handed_seen}
 use Rattle.serf_judge.specs.Tallies.{lines_to, tally_of, told_of}
 use Rattle.serf_judge.proofs.tally.tallies.Given as goal
 
 abbrev pub invariant-loop-node : goal.invariant-loop-node
-invariant-loop-node l = map told_of l.told.items ≡ map (λ n. (n.now, tally_of (lines_to n.now (map handing_of l.fn.lines)))) (take l.node-index l.node-items)
+invariant-loop-node l = map told_of l.told.items ≡ map (λ n. (n.now, tally_of (lines_to n.now (map handed_seen l.fn.lines)))) (take l.node-index l.node-items)

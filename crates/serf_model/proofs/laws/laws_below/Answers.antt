@@ -20,6 +20,9 @@ returns c = record {
     events = c.keeping_laws.ensures.events;
     queries = c.keeping_laws.ensures.queries;
     taking = c.kept_life_promises.ensures.taking;
+    query_taking = c.kept_life_promises.ensures.queries_taking;
+    said = c.kept_life_promises.ensures.queries_said;
+    asked_joined = c.said_query_laws.ensures.joined;
     least = c.read_laws.ensures.least;
     least_joined = c.least_time_laws.ensures.joined;
   };

@@ -2,7 +2,7 @@ use Rattle.serf_model.proofs.Names.{inl}
 use Rattle.serf_model.specs.Cluster.{run_of}
 use Rattle.serf_model.proofs.AnswerLaws.{acked-once, replied-once}
 use Rattle.serf_model.proofs.AnswerPromiseLaws.{counting-run, served-run}
-use Rattle.serf_model.proofs.BoundLaws.{events-bounded, queries-bounded}
+use Rattle.serf_model.proofs.BoundLaws.{events-bounded, queries-bounded, windows-bounded}
 use Rattle.serf_model.proofs.CountingPromises.{counted-once, open-hold}
 use Rattle.serf_model.proofs.HandOutLaws.{entering-run, handing-out, messaging-run}
 use Rattle.serf_model.proofs.KeptLaws.{kept, kept-start}
@@ -14,7 +14,7 @@ pub returns-clause-promises : goal.returns-clause-promises
 returns-clause-promises c = (kept c.laws_below.ensures) c.slot_laws.ensures.events c.slot_laws.ensures.queries
 
 pub returns-clause-start : goal.returns-clause-start
-returns-clause-start c = kept-start
+returns-clause-start c = kept-start c.slot_laws.ensures.events c.slot_laws.ensures.queries
 
 pub returns-clause-once : goal.returns-clause-once
 returns-clause-once c = λ configs actions ok told. ((promised c.laws_below.ensures) configs actions ok told).once
@@ -36,6 +36,9 @@ returns-clause-held_alone c = λ configs actions ok none. ((promised c.laws_belo
 
 pub returns-clause-kept : goal.returns-clause-kept
 returns-clause-kept c = λ configs actions ok told. ((promised c.laws_below.ensures) configs actions ok told).kept
+
+pub returns-clause-queries_kept : goal.returns-clause-queries_kept
+returns-clause-queries_kept c = λ configs actions ok told. ((promised c.laws_below.ensures) configs actions ok told).queries_kept
 
 pub returns-clause-query_once : goal.returns-clause-query_once
 returns-clause-query_once c = λ configs actions ok told. ((promised c.laws_below.ensures) configs actions ok told).query_once
@@ -90,6 +93,9 @@ returns-clause-events_bounded c = (events-bounded c.laws_below.ensures) c.slot_l
 
 pub returns-clause-queries_bounded : goal.returns-clause-queries_bounded
 returns-clause-queries_bounded c = (queries-bounded c.laws_below.ensures) c.slot_laws.ensures.events c.slot_laws.ensures.queries
+
+pub returns-clause-windows_bounded : goal.returns-clause-windows_bounded
+returns-clause-windows_bounded c = (windows-bounded c.laws_below.ensures) c.slot_laws.ensures.events c.slot_laws.ensures.queries
 
 pub returns-clause-open_queries : goal.returns-clause-open_queries
 returns-clause-open_queries c = λ configs actions ok told. open-hold (run_of configs actions) ((counting-run c.laws_below.ensures) configs actions ok told)

@@ -8,7 +8,7 @@ use Rattle.serf_random.proofs.CommentBack.{behind-comment, comment-short}
 use Rattle.serf_random.proofs.common.common_schedule.Goals as goal
 
 pub returns-clause-reads_back : goal.returns-clause-reads_back
-returns-clause-reads_back c =
+returns-clause-reads_back g c =
     let first : c.put_comment.new.out.items ≡ comment_text true c.args.ask.now = rw c.new-text.ensures.items at c.in_ok-put_comment.ensures in
     let kept = c.in_ok-kept.ensures.kept in
     let text : c.add_common.new.text.items ≡ comment_text true c.args.ask.now ++ (flat_map agent_text c.in_ok-agents.agents ++ flat_map action_text c.in_ok-kept.kept.items) =
@@ -19,6 +19,6 @@ returns-clause-reads_back c =
     ∙ behind-comment c.comments_skipped.ensures.skipped c.comments_skipped.ensures.numbers true c.args.ask.now _ _ c.know_numbers.ensures (c.know_read_back.ensures kept.sayable)
 
 pub returns-clause-short : goal.returns-clause-short
-returns-clause-short c =
+returns-clause-short g c =
     let first : c.put_comment.new.out.items ≡ comment_text true c.args.ask.now = rw c.new-text.ensures.items at c.in_ok-put_comment.ensures in
     c.in_ok-kept.ensures.kept.short (c.in_ok-agents.ensures.short (subst IsShort (sym first) (comment-short c.comments_skipped.ensures.numbers true c.args.ask.now c.know_numbers.ensures)))

@@ -4,10 +4,10 @@ use Rattle.serf_random.proofs.course.add_course.Goals as goal
 
 pub returns-then-not-branch : goal.returns-then-not-branch
 returns-then-not-branch g c =
-    let few : c.loop-action._action + 1 ≤ c.args.most = omega arith in
-    more_actions c.loop-action._action 1 c.args.most _ _ _ _ _ _ few c.loop-action.invariant c.in_ok-add_next.ensures
+    let few : c.loop-done.done + 1 ≤ c.args.most = omega arith in
+    more_actions c.loop-done.done 1 c.args.most _ _ _ _ _ _ few c.loop-done.invariant c.in_ok-add_next.ensures
 
-pub loop-action-preserved : goal.loop-action-preserved
-loop-action-preserved g c =
-    let few : c.loop-action._action + 1 ≤ c.loop-action._action + 1 = omega arith in
-    more_actions c.loop-action._action 1 (c.loop-action._action + 1) _ _ _ _ _ _ few c.loop-action.invariant c.in_ok-add_next.ensures
+pub loop-done-preserved : goal.loop-done-preserved
+loop-done-preserved g c =
+    let few : c.loop-done.done + 1 ≤ c.loop-done.done + 1 = omega arith in
+    more_actions c.loop-done.done 1 (c.loop-done.done + 1) _ _ _ _ _ _ few c.loop-done.invariant c.in_ok-add_next.ensures

@@ -1,4 +1,4 @@
-use Rattle.std.proofs.Common.{◌∙◌, refl, subst, sym}
+use Rattle.std.proofs.Common.{refl, subst, sym}
 use Rattle.serf_text.specs.Lines.{lines_of}
 use Rattle.serf_replay.specs.Summaries.{IsSummary}
 use Rattle.serf_replay.specs.Summing.{sums_up}
@@ -11,7 +11,7 @@ returns-in-Ok-clause-done g c =
     let d = c.in-Ok.ensures.done (tt, tt, c.new-run.ensures tt (λ configs. (c.new.ensures, refl))) in
     let h = d.3.tells.2 in
     let sums = subst (λ s. IsSummary s (lines_in h.said)) (sym c.replace-summary.ensures.value) h.tells.0 in
-    (d.0, d.1, d.2, record { schedule = h.said; reads = h.reads; settings = h.settings; sized = c.with_size.ensures.size ∙ c.agents-size.ensures tt (lines_of d.0) d.3.text h; summary_is = c.with_size.ensures.same (lines_in h.said) sums })
+    (d.0, d.1, d.2, record { schedule = h.said; reads = h.reads; settings = h.settings; sized = c.agents-size.ensures tt (lines_of d.0) d.3.text h; summary_is = record { counted = sums.counted; answers = sums.answers; hand_outs = sums.hand_outs } })
 
 pub returns-clause-stopped : goal.returns-clause-stopped
 returns-clause-stopped g c =

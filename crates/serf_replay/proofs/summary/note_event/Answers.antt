@@ -1,12 +1,12 @@
-use Rattle.std.proofs.Common.{refl, nat_eq}
-use Rattle.std.proofs.lemmas.Result.{on_ok_weaker}
-use Rattle.indexmap.specs.IndexMap.{get}
+use Rattle.std.proofs.Common.{◌∙◌, refl, sym, nat_eq}
+use Rattle.std.proofs.lemmas.List.{map-id}
+use Rattle.indexmap.specs.IndexMap.{get, keys}
 use Rattle.serf_model.specs.declared.line.EventLine.{EventLine}
 use Rattle.serf_replay.specs.declared.keys.EventKey.{EventKey}
 use Rattle.serf_replay.specs.Notes.{is_event}
-use Rattle.serf_replay.specs.Summaries.{event_key_eq}
-use Rattle.serf_replay.proofs.KeyLaws.{key-finds, same-agent, same-event}
-use Rattle.serf_replay.proofs.TallyLaws.{noted-more}
+use Rattle.serf_replay.specs.Summaries.{event_eq, event_in, event_key_eq, event_of}
+use Rattle.serf_replay.proofs.KeyLaws.{event-found, key-finds, same-agent, same-event}
+use Rattle.serf_replay.proofs.TallyLaws.{noted-more, on-ok-both, order-more}
 use Rattle.serf_replay.proofs.summary.note_event.Goals as goal
 
 pub returns : goal.returns
@@ -14,11 +14,16 @@ returns c = λ notes h.
     let key : EventKey = c.in_ok-key.key in
     let event : EventLine = c.args.event.now in
     let fields = c.in_ok-key.ensures in
-    on_ok_weaker c.note-2.result
-    (λ f. record {
+    let agents = c.in_ok-note.ensures in
+    on-ok-both c.note-2.result
+    (λ f g. record {
       agents_are = λ q. noted-more (λ k e. nat_eq e.agent k) notes event event.agent c.args.action (λ k. get nat_eq c.args.agents.now k) (λ k. get nat_eq c.note.new.found k) q (nat_eq event.agent q)
-          h.agents_are (c.in_ok-note.ensures q) refl (same-agent event.agent q);
+          h.agents_are (agents.spread q) refl (same-agent event.agent q);
       events_are = λ q. noted-more is_event notes event key c.args.action (λ k. get event_key_eq c.args.events.now k) (λ k. get event_key_eq c.note-2.new.found k) q (event_key_eq key q)
           h.events_are (f q) (key-finds key q event fields.0 fields.1 fields.2) (same-event key q);
+      agents_order = sym (map-id (keys c.note.new.found))
+          ∙ order-more nat_eq nat_eq (λ k. k) (λ x y. refl) (λ n. n.0.agent) notes (event, c.args.action) c.args.agents.now.entries c.note.new.found.entries event.agent _ agents.order refl
+          (map-id (keys c.args.agents.now) ∙ h.agents_order);
+      events_order = order-more event_key_eq event_eq event_of (λ x y. refl) (λ n. event_in n.0) notes (event, c.args.action) c.args.events.now.entries c.note-2.new.found.entries key _ g (event-found key event fields.0 fields.1 fields.2) h.events_order;
     })
-    c.note-2.ensures
+    c.note-2.ensures.spread c.note-2.ensures.order

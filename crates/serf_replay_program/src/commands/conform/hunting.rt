@@ -1,24 +1,67 @@
 //! `conform --random`: an agent, held against the reference on the random schedules of many seeds.
 
 use super::Asked;
-use super::heard::{Heard, SILENT, is_silent};
-use super::report::{Held, report, status_of};
-use super::reporting::Reporting;
-use super::seeds::{KINDS, Seeds};
-use super::shrinking::{is_shrunk, shrink_found};
-use crate::ending::{DEVICE, DONE, REFUSED, no_memory};
+use super::report::Held;
+use super::session::Session;
+use crate::commands::random::{ask_with, kind_of};
+use crate::fault::{Ended, Fault, Status};
+use crate::io::Io;
+use crate::options::{KINDS_OR_ALL, bad_word};
 use crate::progress::Progress;
+use clap::ArgMatches;
 use serf_hunt::{Case, Found, HuntFault, Hunted, RandomSchedules, case_of, hunt, sum_of};
 use serf_random::{Ask, Kind, random_schedule};
-use serf_schedule::Watch;
+use serf_schedule::Unwatched;
 use std::alloc::{AllocError, Global};
-use std::io::{self, BufReader, Read, Write};
-use std::rt::Files;
-use std::time::Clock;
+
+/// The names of all kinds, in the order in which they are held.
+const KINDS: &str =
+    "mixed tiny merges restarts devices injections queries limits exhaustion per-time compactions gossip spellings kept rounds";
+
+/// The seeds whose random schedules an agent is held against.
+#[derive(Clone, Copy)]
+pub(super) struct Seeds {
+    first: u64,
+    /// One more than the last seed.
+    end: u64,
+    /// What is asked for of each seed, in the place of its own seed.
+    ask: Ask,
+    /// Whether schedules of all kinds are asked for, in the place of the kind of `ask`.
+    are_of_all_kinds: bool,
+}
+
+/// The seeds of a word `A-B` or `A`: the first one, and one more than the last.
+fn ends_of(word: &str) -> Option<(u64, u64)> {
+    let (first, last) = word.split_once("-").unwrap_or((word, word));
+    let first = first.parse::<u64>().ok()?;
+    let last = last.parse::<u64>().ok()?;
+    if first > last {
+        return None;
+    }
+    Some((first, last.checked_add(1)?))
+}
+
+/// The seeds of this word, and what the words ask for of each.
+pub(super) fn seeds_of<'a>(word: &str, matches: &ArgMatches) -> Result<Seeds, Fault<'a>> {
+    let words = "seeds as A-B, from the less to the greater";
+    let (first, end) = ends_of(word).ok_or(bad_word("random", words))?;
+    let are_of_all_kinds = matches.get_str("kind") == Some("all");
+    let kind = if are_of_all_kinds {
+        Kind::Mixed
+    } else {
+        kind_of(matches).ok_or(bad_word("kind", KINDS_OR_ALL))?
+    };
+    Ok(Seeds {
+        first,
+        end,
+        ask: ask_with(matches, first, kind)?,
+        are_of_all_kinds,
+    })
+}
 
 /// The seeds of one kind, as far as they were held.
 #[derive(Clone, Copy)]
-struct Part {
+struct KindProgress {
     /// What is asked for of each seed, in the place of its own seed.
     ask: Ask,
     /// The kind's name, where it is printed; else empty.
@@ -33,14 +76,10 @@ struct Part {
     found: u64,
 }
 
-impl Part {
-    /// None of the seeds yet, of this kind.
-    fn new(seeds: &Seeds, kind: Kind) -> Part {
-        let name = match seeds.name_of(kind) {
-            Some(name) => str::from_utf8(name).unwrap_or(""),
-            None => "",
-        };
-        Part {
+impl KindProgress {
+    /// Starts at the first seed. The kind has a name where more kinds than one are held.
+    fn new(seeds: &Seeds, kind: Kind, name: &'static str) -> KindProgress {
+        KindProgress {
             ask: Ask { kind, ..seeds.ask },
             name,
             next: seeds.first,
@@ -57,240 +96,144 @@ impl Part {
         self.calls = self.calls.saturating_add(hunted.counts.calls);
         self.next = seed.saturating_add(1);
     }
-}
 
-/// What came of a hunt.
-enum Came {
-    /// An agent did otherwise, after which it may go on.
-    Found,
-    /// All seeds of the kind were held; the status.
-    Held(u8),
-    /// Nothing more can be held; the status.
-    Ended(u8),
-}
+    /// Prints the kind before what is reported, where that is to be said.
+    fn say_kind(&self, io: Io) {
+        let name = self.name;
+        if !name.is_empty() {
+            let _ = eprint!(io.rt; "kind {name}: ");
+        }
+    }
 
-/// Prints the kind before what is reported, where that is to be said.
-fn say_kind(rt: &impl Eprint, part: &Part) {
-    if !part.name.is_empty() {
-        let name = part.name;
-        let _ = eprint!(rt; "kind {name}: ");
+    /// Reports what came of all seeds of the kind, and gives the status.
+    fn tell_end(&self, io: Io) -> Status {
+        let KindProgress {
+            agreed,
+            calls,
+            found,
+            ..
+        } = self;
+        self.say_kind(io);
+        if *found == 0 {
+            let _ = eprintln!(io.rt; "{agreed} seeds and {calls} calls agree");
+            return Status::Done;
+        }
+        let _ = eprintln!(io.rt; "{agreed} seeds and {calls} calls agree, and {found} seeds don't");
+        Status::Refused
     }
 }
 
 /// The text of a seed's schedule, and its case.
 fn made_again(alloc: Global, ask: Ask, seed: u64) -> Result<(Vec<u8>, Case), AllocError> {
-    let made = random_schedule(alloc, &Ask { seed, ..ask })?;
+    let made = random_schedule(alloc, &Ask { seed, ..ask }, &mut Unwatched)?;
     let case = case_of(alloc, made.schedule)?;
     Ok((made.text, case))
 }
 
-/// Reports which agent of which seed does otherwise, and gives the status.
-fn tell_found<F: Files, R: Clock + Eprint + AllocGlobal, I: Read, O: Write>(
-    files: &F,
-    rt: &R,
-    ask: Ask,
-    asked: &Asked,
-    reporting: &mut Reporting,
-    found: &Found,
-    reader: &mut I,
-    writer: &mut O,
-) -> u8 {
-    let Found { seed, other } = found;
-    let Ok((text, case)) = made_again(rt.alloc(), ask, *seed) else {
-        return no_memory(rt);
-    };
-    let (agent, verdict) = (other.agent, &other.verdict);
-    let held = Held {
-        seed: Some(*seed),
-        text: &text,
-        case: &case,
-        agent,
-        verdict,
-    };
-    let status = report(rt, reporting, &held);
-    if !is_shrunk(&asked.shrinking, verdict) {
-        return status;
+impl Session<'_> {
+    /// Reports which agent of which seed does otherwise: the status with which it goes on, or that which ends all.
+    fn conclude_found(&mut self, ask: Ask, found: &Found) -> Result<Status, Status> {
+        let Found { seed, other } = found;
+        let Ok((text, case)) = made_again(self.io.alloc(), ask, *seed) else {
+            return Err(Fault::NoMemory.tell(self.io, None));
+        };
+        self.conclude(&Held {
+            seed: Some(*seed),
+            text: &text,
+            case: &case,
+            agent: other.agent,
+            verdict: &other.verdict,
+        })
     }
-    shrink_found(files, rt, asked, &case, agent, verdict, reader, writer)
-}
 
-/// Reports where an agent was found.
-fn tell_place(rt: &impl Eprint, part: &Part, seed: u64) {
-    let Part { agreed, calls, .. } = part;
-    say_kind(rt, part);
-    let _ = eprintln!(rt; "seed {seed}: {agreed} seeds and {calls} calls agree before");
-}
-
-/// Reports what came of all seeds of a kind, and gives the status.
-fn tell_end(rt: &impl Eprint, part: &Part) -> u8 {
-    let Part {
-        agreed,
-        calls,
-        found,
-        ..
-    } = part;
-    say_kind(rt, part);
-    if *found == 0 {
-        let _ = eprintln!(rt; "{agreed} seeds and {calls} calls agree");
-        return DONE;
-    }
-    let _ = eprintln!(rt; "{agreed} seeds and {calls} calls agree, and {found} seeds don't");
-    REFUSED
-}
-
-fn fault_told(rt: &impl Eprint, part: &Part, fault: &HuntFault, has_any: bool) -> u8 {
-    let HuntFault { seed, fault } = *fault;
-    say_kind(rt, part);
-    if is_silent(fault, has_any) {
-        let _ = eprintln!(rt; "seed {seed}: {SILENT}");
-    } else {
-        let _ = eprintln!(rt; "seed {seed}: {fault}");
-    }
-    status_of(fault)
-}
-
-/// What a hunt over the seeds of a kind that are left comes to, which the sums then have; or the status of its fault.
-fn hunted_on<R: Eprint + AllocGlobal, W: Watch, I: Read, O: Write>(
-    rt: &R,
-    end: u64,
-    part: &Part,
-    asked: &Asked,
-    reporting: &mut Reporting,
-    progress: &mut W,
-    reader: &mut Heard<I>,
-    writer: &mut O,
-) -> Result<Hunted, u8> {
-    let maker = RandomSchedules(part.ask);
-    let (alloc, rules, first) = (rt.alloc(), asked.rules, part.next);
-    match hunt(alloc, &maker, reader, writer, rules, first, end, progress) {
-        Ok(hunted) => {
-            reporting.counts = sum_of(reporting.counts, hunted.counts);
-            Ok(hunted)
-        }
-        Err(fault) => {
-            reporting.has_fault = true;
-            Err(fault_told(rt, part, &fault, reader.has_any))
+    /// What a hunt over the seeds of a kind that are left comes to, which the sums then have; or the status of its fault.
+    fn hunt_on(
+        &mut self,
+        end: u64,
+        kind: &KindProgress,
+        progress: &mut Progress,
+    ) -> Result<Hunted, Status> {
+        let maker = RandomSchedules(kind.ask);
+        let (alloc, rules, first) = (self.io.alloc(), self.asked.rules, kind.next);
+        let (reader, writer) = (&mut self.reader, &mut self.writer);
+        match hunt(alloc, &maker, reader, writer, rules, first, end, progress) {
+            Ok(hunted) => {
+                self.reporting.counts = sum_of(self.reporting.counts, hunted.counts);
+                Ok(hunted)
+            }
+            Err(HuntFault { seed, fault }) => {
+                self.reporting.has_fault = true;
+                kind.say_kind(self.io);
+                Err(self.tell_fault("seed", seed, fault))
+            }
         }
     }
-}
 
-/// Holds an agent against the seeds of a kind that are left, up to the first that it does otherwise on, and reports what
-/// came of it.
-fn hold_on<F: Files, R: Clock + Eprint + AllocGlobal, I: Read, O: Write>(
-    files: &F,
-    rt: &R,
-    end: u64,
-    part: &mut Part,
-    asked: &Asked,
-    reporting: &mut Reporting,
-    progress: &mut Progress<R>,
-    reader: &mut Heard<I>,
-    writer: &mut O,
-) -> Came {
-    let hunted = match hunted_on(rt, end, part, asked, reporting, progress, reader, writer) {
-        Ok(hunted) => hunted,
-        Err(status) => return Came::Ended(status),
-    };
-    let Some(found) = &hunted.found else {
-        part.held_to(end, &hunted);
-        return Came::Held(tell_end(rt, part));
-    };
-    part.held_to(found.seed, &hunted);
-    part.found = part.found.saturating_add(1);
-    tell_place(rt, part, found.seed);
-    let status = tell_found(files, rt, part.ask, asked, reporting, found, reader, writer);
-    if status == DEVICE {
-        return Came::Ended(status);
+    /// Holds an agent against the seeds of a kind that are left, up to the first that it does otherwise on, and reports
+    /// what came of it: the status of all of them, `None` where it may go on, or the status that ends all.
+    fn hold_on(
+        &mut self,
+        end: u64,
+        kind: &mut KindProgress,
+        progress: &mut Progress,
+    ) -> Result<Option<Status>, Status> {
+        let hunted = self.hunt_on(end, kind, progress)?;
+        let Some(found) = &hunted.found else {
+            kind.held_to(end, &hunted);
+            return Ok(Some(kind.tell_end(self.io)));
+        };
+        let seed = found.seed;
+        kind.held_to(seed, &hunted);
+        kind.found = kind.found.saturating_add(1);
+        kind.say_kind(self.io);
+        let (agreed, calls) = (kind.agreed, kind.calls);
+        let _ = eprintln!(self.io.rt; "seed {seed}: {agreed} seeds and {calls} calls agree before");
+        self.conclude_found(kind.ask, found)?;
+        Ok(None)
     }
-    Came::Found
-}
 
-/// Holds an agent against all seeds of a kind, and goes on after a disagreement as often as is asked for. Gives the
-/// status with which it goes on, or that which ends all.
-fn hold_kind<F: Files, R: Clock + Eprint + AllocGlobal, I: Read, O: Write>(
-    files: &F,
-    rt: &R,
-    seeds: &Seeds,
-    part: &mut Part,
-    asked: &Asked,
-    reporting: &mut Reporting,
-    reader: &mut Heard<I>,
-    writer: &mut O,
-) -> Result<u8, u8> {
-    let mut progress = Progress::of_seeds(rt, asked.is_terminal, part.name);
-    for _ in reporting.disagreements..asked.go_on.unwrap_or(1) {
-        progress.goes_on_behind(part.next.saturating_sub(seeds.first));
-        let came = hold_on(
-            files,
-            rt,
-            seeds.end,
-            part,
-            asked,
-            reporting,
-            &mut progress,
-            reader,
-            writer,
-        );
-        match came {
-            Came::Found => {}
-            Came::Held(status) => return Ok(status),
-            Came::Ended(status) => return Err(status),
+    /// Holds an agent against all seeds of a kind, and goes on after a disagreement as often as is asked for. Gives the
+    /// status with which it goes on, or that which ends all.
+    fn hold_kind(&mut self, seeds: &Seeds, kind: &mut KindProgress) -> Result<Status, Status> {
+        let mut progress = Progress::of_seeds(self.io, kind.name);
+        for _ in self.reporting.disagreements..self.asked.go_on.unwrap_or(1) {
+            progress.goes_on_behind(kind.next.saturating_sub(seeds.first));
+            if let Some(status) = self.hold_on(seeds.end, kind, &mut progress)? {
+                return Ok(status);
+            }
         }
+        Err(Status::Refused)
     }
-    Err(REFUSED)
-}
 
-/// Holds an agent against all seeds, kind by kind, and gives the status: the greatest of theirs. Adds to the report how
-/// many seeds agree.
-fn hold_kinds<F: Files, R: Clock + Eprint + AllocGlobal, I: Read, O: Write>(
-    files: &F,
-    rt: &R,
-    seeds: &Seeds,
-    asked: &Asked,
-    reporting: &mut Reporting,
-    reader: &mut Heard<I>,
-    writer: &mut O,
-) -> u8 {
-    let mut status = DONE;
-    for kind in &KINDS {
-        if !seeds.have(*kind) {
-            continue;
+    /// Holds an agent against all seeds, kind by kind: the greatest of their statuses, or that which ends all. Adds to the
+    /// report how many seeds agree.
+    fn hold_kinds(&mut self, seeds: &Seeds) -> Result<Status, Status> {
+        let mut status = Status::Done;
+        for word in KINDS.split(' ') {
+            let kind = Kind::of_name(word.as_bytes()).unwrap_or(seeds.ask.kind);
+            if !seeds.are_of_all_kinds && seeds.ask.kind != kind {
+                continue;
+            }
+            let name = if seeds.are_of_all_kinds { word } else { "" };
+            self.reporting.kind = if seeds.are_of_all_kinds {
+                Some(word.as_bytes())
+            } else {
+                None
+            };
+            let mut held = KindProgress::new(seeds, kind, name);
+            let came = self.hold_kind(seeds, &mut held);
+            let schedules = self.reporting.schedules;
+            self.reporting.schedules = schedules.saturating_add(held.agreed);
+            status = status.max(came?);
         }
-        reporting.kind = seeds.name_of(*kind);
-        let mut part = Part::new(seeds, *kind);
-        let came = hold_kind(
-            files, rt, seeds, &mut part, asked, reporting, reader, writer,
-        );
-        reporting.schedules = reporting.schedules.saturating_add(part.agreed);
-        match came {
-            Ok(came) => status = status.max(came),
-            Err(ended) => return ended,
-        }
+        Ok(status)
     }
-    status
 }
 
 /// Holds an agent on standard input and output against the random schedules of all seeds, up to the first that it does
 /// otherwise on, or to as many as are asked for.
-pub(super) fn hold_seeds<F: Files, R: Clock + Input + Print + Eprint + AllocGlobal>(
-    files: &F,
-    rt: &R,
-    seeds: &Seeds,
-    asked: &Asked,
-) -> u8 {
-    let Ok(reader) = BufReader::new(rt.alloc(), rt.reader()) else {
-        return no_memory(rt);
-    };
-    let mut reader = Heard::new(reader);
-    let mut reporting = Reporting::new(rt.alloc(), asked.report);
-    let status = hold_kinds(
-        files,
-        rt,
-        seeds,
-        asked,
-        &mut reporting,
-        &mut reader,
-        &mut io::writer(rt),
-    );
-    reporting.finish(files, rt, status)
+pub(super) fn hold_seeds<'a>(io: Io, seeds: &Seeds, asked: Asked<'a>) -> Ended<'a> {
+    let mut session = Session::new(io, asked)?;
+    let ended = session.hold_kinds(seeds);
+    Ok(session.finish(ended))
 }

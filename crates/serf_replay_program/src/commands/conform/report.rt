@@ -1,16 +1,18 @@
 //! What is said of an agent that was held, on standard error.
 
-use super::heard::SILENT;
 use super::reporting::Reporting;
-use super::sent::say_what_differs;
-use crate::ending::{DEVICE, DONE, REFUSED, no_memory};
+use super::session::SILENT;
+use crate::fault::{Fault, Status};
+use crate::io::Io;
+use crate::parts::Part::Number;
+use crate::parts::put;
 use serf_conform::{
-    ConformFault, End, Look, Reply, Verdict, given_packet, look_line, look_reply, opening,
-    put_call, put_open, put_reply_line, wanted,
+    End, Reply, Verdict, given_packet, look_line, look_reply, opening, put_call, put_open,
+    put_reply_line, wanted,
 };
 use serf_hunt::Case;
-use serf_model::{Action, Line};
-use serf_wire::Bytes;
+use serf_model::Line;
+use serf_text::decode_text;
 use std::alloc::{AllocError, Global};
 
 /// A byte as it is shown: one that is no printable ASCII as `?`.
@@ -32,22 +34,22 @@ fn shown_text(alloc: Global, text: &[u8]) -> Result<String, AllocError> {
 }
 
 /// Prints a whole line on standard error, since a packet in it is there to be decoded.
-fn say<R: Eprint + AllocGlobal>(rt: &R, text: &[u8]) {
-    if let Ok(shown) = shown_text(rt.alloc(), text) {
-        let _ = eprintln!(rt; "{shown}");
+fn say(io: Io, text: &[u8]) {
+    if let Ok(shown) = shown_text(io.alloc(), text) {
+        let _ = eprintln!(io.rt; "{shown}");
     }
 }
 
 /// Prints each line of a text after this word.
-fn say_lines<R: Eprint + AllocGlobal>(rt: &R, word: &[u8], text: &[u8]) -> Result<(), AllocError> {
+fn say_lines(io: Io, word: &[u8], text: &[u8]) -> Result<(), AllocError> {
     let mut before = word;
     for line in text.split(|b| *b == b'\n') {
         if line.is_empty() {
             continue;
         }
-        let mut out = Vec::from_slice(rt.alloc(), before)?;
+        let mut out = Vec::from_slice(io.alloc(), before)?;
         out.extend_from_slice(line)?;
-        say(rt, &out);
+        say(io, &out);
         before = b"       ";
     }
     Ok(())
@@ -55,19 +57,15 @@ fn say_lines<R: Eprint + AllocGlobal>(rt: &R, word: &[u8], text: &[u8]) -> Resul
 
 /// Whether a line of a reply ends with a carriage return.
 fn has_return(text: &[u8]) -> bool {
-    for line in text.split(|b| *b == b'\n') {
-        if line.last() == Some(&b'\r') {
-            return true;
-        }
-    }
-    false
+    text.split(|b| *b == b'\n')
+        .any(|line| line.last() == Some(&b'\r'))
 }
 
 /// Prints the reply that came. Of a carriage return it is said what it is, since it is shown as another byte.
-fn say_reply<R: Eprint + AllocGlobal>(rt: &R, got: &[u8]) -> Result<(), AllocError> {
-    say_lines(rt, b"  got: ", got)?;
+fn say_reply(io: Io, got: &[u8]) -> Result<(), AllocError> {
+    say_lines(io, b"  got: ", got)?;
     if has_return(got) {
-        let _ = eprintln!(rt; "  a carriage return: lines end by a newline alone");
+        let _ = eprintln!(io.rt; "  a carriage return: lines end by a newline alone");
     }
     Ok(())
 }
@@ -100,10 +98,10 @@ fn line_of_action(text: &[u8], agents: usize, number: u64) -> u64 {
     place
 }
 
-/// How many packets were sent before the action of this number.
-fn sent_before(lines: &[Line], number: u64) -> usize {
+/// How many packets were sent at the first so many actions.
+fn sent_before(lines: &[Line], actions: usize) -> usize {
     let mut count: usize = 0;
-    for line in lines.iter().take((number as usize).saturating_sub(1)) {
+    for line in lines.iter().take(actions) {
         count = count.saturating_add(line.sent.as_slice().len());
     }
     count
@@ -133,137 +131,197 @@ impl Held<'_> {
     }
 }
 
-/// The text of the call that opens an agent, and the reply that is wanted of it.
-fn opening_and_wanted(
-    alloc: Global,
-    case: &Case,
-    agent: u64,
-) -> Result<(Vec<u8>, Reply), AllocError> {
-    let mut call = Vec::new(alloc);
-    if let Some(config) = case.configs.get(agent as usize) {
-        put_open(&mut call, config, &[])?;
-    }
-    let reply = opening(alloc)?;
-    Ok((call, reply))
-}
-
-/// The text of the call of an action, behind which these lines and packets came, and the reply that is wanted of it.
-fn action_and_wanted(
-    alloc: Global,
-    action: &Action,
-    before: &[Bytes],
-    line: &Line,
-    own: &[Bytes],
-) -> Result<(Vec<u8>, Reply), AllocError> {
-    let mut call = Vec::new(alloc);
-    let given = given_packet(action, before).unwrap_or(&[]);
-    put_call(&mut call, action, given)?;
-    let reply = wanted(alloc, line, given, own)?;
-    Ok((call, reply))
-}
-
-/// The text of a look, and the reply that is wanted of it.
-fn look_and_wanted(alloc: Global, look: &Look) -> Result<(Vec<u8>, Reply), AllocError> {
-    let call = Vec::from_slice(alloc, look_line())?;
-    let reply = look_reply(alloc, look)?;
-    Ok((call, reply))
-}
-
-/// The text of the call at which a verdict stands, and the reply that is wanted of it.
+/// The text of the call at which a verdict stands, and the reply that is wanted of it: of a look, of an action with the
+/// packets that were sent before it, or else of the opening.
 fn call_and_wanted(alloc: Global, held: &Held) -> Result<(Vec<u8>, Reply), AllocError> {
-    let Held {
-        case,
-        agent,
-        verdict,
-        ..
-    } = *held;
+    let Held { case, verdict, .. } = *held;
+    let mut call = Vec::new(alloc);
     if let Some(look) = &verdict.look {
-        return look_and_wanted(alloc, look);
+        call.extend_from_slice(look_line())?;
+        return Ok((call, look_reply(alloc, look)?));
     }
-    let Some(place) = verdict.action.checked_sub(1) else {
-        return opening_and_wanted(alloc, case, agent);
-    };
     let (lines, sent) = (case.trace.lines.as_slice(), case.trace.sent.as_slice());
-    let (Some(action), Some(line)) = (case.actions.get(place as usize), lines.get(place as usize))
-    else {
-        return opening_and_wanted(alloc, case, agent);
+    let place = (verdict.action as usize).wrapping_sub(1);
+    let (Some(action), Some(line)) = (case.actions.get(place), lines.get(place)) else {
+        if let Some(config) = case.configs.get(held.agent as usize) {
+            put_open(&mut call, config, &[])?;
+        }
+        return Ok((call, opening(alloc)?));
     };
-    let count = sent_before(lines, verdict.action).min(sent.len());
-    let own = line.sent.as_slice().len().min(sent.len() - count);
-    action_and_wanted(
-        alloc,
-        action,
-        &sent[..count],
-        line,
-        &sent[count..count + own],
-    )
+    let before = sent_before(lines, place).min(sent.len());
+    let own = line.sent.as_slice().len().min(sent.len() - before);
+    let given = given_packet(action, &sent[..before]).unwrap_or(&[]);
+    put_call(&mut call, action, given)?;
+    let reply = wanted(alloc, line, given, &sent[before..before + own])?;
+    Ok((call, reply))
 }
 
-/// Where a call stands: its agent, and its action with the line of the schedule, or no action for the opening. A look
-/// stands after an action.
-fn place_text(alloc: Global, held: &Held) -> Result<String, AllocError> {
-    let (agent, number) = (held.agent, held.verdict.action);
-    if number == 0 {
-        return format!(in alloc; "agent {agent}: ");
+/// What `decode` writes of the packet in a line of a reply; `None` where the line has none that spells a message.
+fn message_of(alloc: Global, line: &str) -> Option<Vec<u8>> {
+    let digits = line.strip_prefix("sent ")?;
+    let packet = hex::decode(alloc, digits).ok()?;
+    decode_text(alloc, &packet).ok()
+}
+
+fn lines_of(alloc: Global, text: &str) -> Result<Vec<&str>, AllocError> {
+    let mut lines = Vec::new(alloc);
+    for line in text.lines() {
+        lines.push(line)?;
     }
-    let line = held.line();
-    if line == 0 {
-        return format!(in alloc; "agent {agent}: behind its last call: ");
+    Ok(lines)
+}
+
+/// The first word of two lines and what is behind it in each, where both begin with the same word.
+fn behind_one_word<'a, 'b>(one: &'a str, other: &'b str) -> Option<(&'a str, &'a str, &'b str)> {
+    let (name, is) = one.split_once(' ')?;
+    let (second, was) = other.split_once(' ')?;
+    if name != second {
+        return None;
     }
-    let behind = if held.verdict.look.is_some() {
-        "behind "
+    Some((name, is, was))
+}
+
+/// Prints a line that is another one than is wanted. Where both begin with one word, this word is said once.
+fn say_pair(io: Io, wanted: &str, got: &str) {
+    let _ = match behind_one_word(wanted, got) {
+        Some((name, is, was)) => eprintln!(io.rt; "  {name}: wanted {is}, got {was}"),
+        None => eprintln!(io.rt; "  wanted {wanted}, got {got}"),
+    };
+}
+
+fn say_pairs(io: Io, wanted: &[&str], got: &[&str]) {
+    for (one, other) in wanted.iter().zip(got.iter()) {
+        if *one != *other {
+            say_pair(io, one, other);
+        }
+    }
+}
+
+/// Prints these lines, each after this word.
+fn say_all(io: Io, word: &str, lines: &[&str]) {
+    for line in lines {
+        let _ = eprintln!(io.rt; "  {word} {line}");
+    }
+}
+
+/// How many lines two texts have in common at their start.
+fn common_front(left: &[&str], right: &[&str]) -> usize {
+    let mut count: usize = 0;
+    for (one, other) in left.iter().zip(right.iter()) {
+        if *one != *other {
+            return count;
+        }
+        count = count.saturating_add(1);
+    }
+    count
+}
+
+/// How many lines two texts have in common at their end.
+fn common_end(left: &[&str], right: &[&str]) -> usize {
+    let mut count: usize = 0;
+    for (one, other) in left.iter().rev().zip(right.iter().rev()) {
+        if *one != *other {
+            return count;
+        }
+        count = count.saturating_add(1);
+    }
+    count
+}
+
+/// The lines after so many at the start, and before so many at the end.
+fn middle<'a, 'b>(lines: &'a [&'b str], front: usize, end: usize) -> &'a [&'b str] {
+    let stop = lines.len().saturating_sub(end);
+    &lines[front.min(stop)..stop]
+}
+
+/// Prints the lines of two messages that aren't in both.
+fn say_messages(io: Io, wanted: &[&str], got: &[&str]) {
+    let front = common_front(wanted, got);
+    let (wanted, got) = (middle(wanted, front, 0), middle(got, front, 0));
+    let end = common_end(wanted, got);
+    let (wanted, got) = (middle(wanted, 0, end), middle(got, 0, end));
+    if wanted.len() == got.len() {
+        say_pairs(io, wanted, got);
     } else {
-        ""
-    };
-    format!(in alloc; "agent {agent}: {behind}action {number}, line {line}: ")
+        say_all(io, "wanted", wanted);
+        say_all(io, "got", got);
+    }
 }
 
-/// Prints the place of a call, and its words.
-fn say_head<R: Eprint + AllocGlobal>(rt: &R, held: &Held, words: &[u8]) -> Result<(), AllocError> {
-    let place = place_text(rt.alloc(), held)?;
-    let mut head = Vec::from_slice(rt.alloc(), place.as_bytes())?;
-    head.extend_from_slice(words)?;
-    say(rt, &head);
+/// Prints how the messages of two packets differ, where two lines of replies have such.
+fn say_packets(io: Io, wanted: &str, got: &str) -> Result<(), AllocError> {
+    let alloc = io.alloc();
+    let (Some(wanted), Some(got)) = (message_of(alloc, wanted), message_of(alloc, got)) else {
+        return Ok(());
+    };
+    let (Ok(wanted), Ok(got)) = (str::from_utf8(&wanted), str::from_utf8(&got)) else {
+        return Ok(());
+    };
+    let wanted = lines_of(alloc, wanted)?;
+    let got = lines_of(alloc, got)?;
+    say_messages(io, &wanted, &got);
     Ok(())
 }
 
-/// Prints what is wanted and what came, and how their packets differ.
-fn say_replies<R: Eprint + AllocGlobal>(
-    rt: &R,
-    wanted: &[u8],
-    got: &[u8],
-) -> Result<(), AllocError> {
-    say_lines(rt, b"  wanted: ", wanted)?;
-    say_reply(rt, got)?;
-    say_what_differs(rt, wanted, got)
+/// Prints, of each packet in a reply that stands where another one is wanted, the lines of `decode` that differ.
+fn say_what_differs(io: Io, wanted: &[u8], got: &[u8]) -> Result<(), AllocError> {
+    let (Ok(wanted), Ok(got)) = (str::from_utf8(wanted), str::from_utf8(got)) else {
+        return Ok(());
+    };
+    for (one, other) in wanted.lines().zip(got.lines()) {
+        if one != other {
+            say_packets(io, one, other)?;
+        }
+    }
+    Ok(())
+}
+
+/// Appends where a call stands: its agent, and its action with the line of the schedule, or no action for the opening. A
+/// look stands after an action.
+fn put_place(out: &mut Vec<u8>, held: &Held) -> Result<(), AllocError> {
+    let (number, line) = (held.verdict.action, held.line());
+    let text = if number == 0 {
+        "agent ~: "
+    } else if line == 0 {
+        "agent ~: behind its last call: "
+    } else if held.verdict.look.is_some() {
+        "agent ~: behind action ~, line ~: "
+    } else {
+        "agent ~: action ~, line ~: "
+    };
+    put(
+        out,
+        text,
+        &[Number(held.agent), Number(number), Number(line)],
+    )
+}
+
+/// Prints the place of a call, and its words.
+fn say_head(io: Io, held: &Held, words: &[u8]) -> Result<(), AllocError> {
+    let mut head = Vec::new(io.alloc());
+    put_place(&mut head, held)?;
+    head.extend_from_slice(words)?;
+    say(io, &head);
+    Ok(())
 }
 
 /// Reports where an agent is told apart from the reference, and how, and adds it to the report.
-fn tell<R: Eprint + AllocGlobal>(
-    rt: &R,
-    reporting: &mut Reporting,
-    held: &Held,
-    got: &[u8],
-) -> Result<(), AllocError> {
-    let (call, reply) = call_and_wanted(rt.alloc(), held)?;
+fn tell(io: Io, reporting: &mut Reporting, held: &Held, got: &[u8]) -> Result<(), AllocError> {
+    let (call, reply) = call_and_wanted(io.alloc(), held)?;
     let words = &call[..call.len().saturating_sub(1)];
-    say_head(rt, held, words)?;
-    let wanted = reply_text(rt.alloc(), &reply)?;
+    say_head(io, held, words)?;
+    let wanted = reply_text(io.alloc(), &reply)?;
     reporting.add(held, words, &wanted);
-    say_replies(rt, &wanted, got)
+    say_lines(io, b"  wanted: ", &wanted)?;
+    say_reply(io, got)?;
+    say_what_differs(io, &wanted, got)
 }
 
 /// Reports an agent that did otherwise, and gives this status, or that of no memory.
-fn told<R: Eprint + AllocGlobal>(
-    rt: &R,
-    reporting: &mut Reporting,
-    held: &Held,
-    got: &[u8],
-    status: u8,
-) -> u8 {
-    match tell(rt, reporting, held, got) {
+fn told(io: Io, reporting: &mut Reporting, held: &Held, got: &[u8], status: Status) -> Status {
+    match tell(io, reporting, held, got) {
         Ok(()) => status,
-        Err(_) => no_memory(rt),
+        Err(_) => Fault::NoMemory.tell(io, None),
     }
 }
 
@@ -278,38 +336,26 @@ fn ended_words(reporting: &Reporting, verdict: &Verdict) -> &'static [u8] {
 }
 
 /// Prints how many calls agree, and where it isn't all of them, why the others aren't compared.
-fn say_agreeing(rt: &impl Eprint, held: &Held, why: Option<&str>) -> u8 {
+fn say_agreeing(io: Io, held: &Held, why: Option<&str>) -> Status {
     let agent = held.agent;
     let Verdict { calls, action, .. } = held.verdict;
     let _ = match why {
-        None => eprintln!(rt; "agent {agent}: {calls} calls agree"),
-        Some(why) => eprintln!(rt; "agent {agent}: {calls} calls agree; action {action} {why}"),
+        None => eprintln!(io.rt; "agent {agent}: {calls} calls agree"),
+        Some(why) => eprintln!(io.rt; "agent {agent}: {calls} calls agree; action {action} {why}"),
     };
-    DONE
+    Status::Done
 }
 
 /// Prints a verdict, adds it to the report where the agent did otherwise, and gives its status.
-pub(super) fn report<R: Eprint + AllocGlobal>(
-    rt: &R,
-    reporting: &mut Reporting,
-    held: &Held,
-) -> u8 {
+pub(super) fn report(io: Io, reporting: &mut Reporting, held: &Held) -> Status {
     match &held.verdict.end {
-        End::AllAgree => say_agreeing(rt, held, None),
-        End::OwnRule => say_agreeing(rt, held, Some("rests on an own rule")),
-        End::Unsupported => say_agreeing(rt, held, Some("is unsupported")),
-        End::Differs(got) => told(rt, reporting, held, got.as_slice(), REFUSED),
+        End::AllAgree => say_agreeing(io, held, None),
+        End::OwnRule => say_agreeing(io, held, Some("rests on an own rule")),
+        End::Unsupported => say_agreeing(io, held, Some("is unsupported")),
+        End::Differs(got) => told(io, reporting, held, got.as_slice(), Status::Refused),
         End::Ended => {
             let got = ended_words(reporting, held.verdict);
-            told(rt, reporting, held, got, DEVICE)
+            told(io, reporting, held, got, Status::Device)
         }
-    }
-}
-
-/// The status of a fault: a reply that is too long is a disagreement.
-pub(super) fn status_of(fault: ConformFault) -> u8 {
-    match fault {
-        ConformFault::ReplyTooLong => REFUSED,
-        _ => DEVICE,
     }
 }

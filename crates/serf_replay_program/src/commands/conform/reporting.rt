@@ -1,12 +1,11 @@
 //! `conform --report`: what came of each agent, for machines, in a file.
 
 use super::report::Held;
-use crate::ending::{DEVICE, DONE, REFUSED, write_failed};
+use crate::fault::{Ended, Fault, Status};
+use crate::io::Io;
 use serf_conform::End;
 use serf_hunt::{Counts, Disagreement, Sums, no_counts, put_disagreement, put_sums};
-use std::alloc::{AllocError, Global};
-use std::fs;
-use std::rt::Files;
+use std::alloc::Global;
 
 /// A report as it grows, and where it goes.
 #[derive(Drop)]
@@ -67,42 +66,42 @@ impl<'a> Reporting<'a> {
         }
     }
 
-    /// The whole text, once it is known how all ends.
-    fn whole(&mut self, status: u8) -> Result<(), AllocError> {
+    /// Writes the report, with the sums at its end, where one is asked for.
+    fn save<'b>(&mut self, io: Io, status: Status) -> Ended<'b> {
+        let Some(path) = self.path else {
+            return Ok(status);
+        };
         let sums = Sums {
             schedules: self.schedules,
             calls: self.counts.calls,
             disagreements: self.disagreements,
-            status: u64::from(status),
+            status: u64::from(status.code()),
         };
-        put_sums(&mut self.text, &sums)
+        put_sums(&mut self.text, &sums)?;
+        if self.is_cut {
+            return Err(Fault::NoMemory);
+        }
+        io.save(path, &self.text, status)
     }
 
     /// Reports agents and looks that are unsupported, and writes the report, where one is asked for. Gives the status:
     /// this one, that of a disagreement where no call but `open` was compared, or that of a device that failed. Where a hunt
     /// ended at a fault before any disagreement, there is nothing to report.
-    pub(super) fn finish<F: Files>(&mut self, files: &F, rt: &impl Eprint, status: u8) -> u8 {
+    pub(super) fn finish(&mut self, io: Io, status: Status) -> Status {
         if self.has_fault && self.disagreements == 0 {
             return status;
         }
-        let status = told_unsupported(rt, self.counts, status);
-        let Some(path) = self.path else {
-            return status;
-        };
-        if self.whole(status).is_err() || self.is_cut {
-            let _ = eprintln!(rt; "no memory");
-            return DEVICE;
-        }
-        match fs::write(files, path, &self.text) {
-            Ok(()) => status,
-            Err(_) => write_failed(rt),
+        let status = told_unsupported(io, self.counts, status);
+        match self.save(io, status) {
+            Ok(status) => status,
+            Err(fault) => fault.tell(io, None),
         }
     }
 }
 
 /// Reports how many agents the comparison ended at an unsupported call, and how many looks are unsupported. Where by that
 /// no call but the openings was compared, all that agrees says nothing, and the status is that of a disagreement.
-fn told_unsupported(rt: &impl Eprint, counts: Counts, status: u8) -> u8 {
+fn told_unsupported(io: Io, counts: Counts, status: Status) -> Status {
     let Counts {
         agents,
         calls,
@@ -110,15 +109,17 @@ fn told_unsupported(rt: &impl Eprint, counts: Counts, status: u8) -> u8 {
         unsupported_looks,
     } = counts;
     if unsupported_looks > 0 {
-        let _ = eprintln!(rt; "{unsupported_looks} looks are unsupported");
+        let _ = eprintln!(io.rt; "{unsupported_looks} looks are unsupported");
     }
     if unsupported_agents == 0 {
         return status;
     }
-    let _ = eprintln!(rt; "of {agents} agents {unsupported_agents} ended at an unsupported call");
-    if calls > agents || status != DONE {
+    let _ = eprintln!(io.rt;
+        "of {agents} agents {unsupported_agents} ended at an unsupported call"
+    );
+    if calls > agents || status != Status::Done {
         return status;
     }
-    let _ = eprintln!(rt; "no call but open was compared");
-    REFUSED
+    let _ = eprintln!(io.rt; "no call but open was compared");
+    Status::Refused
 }

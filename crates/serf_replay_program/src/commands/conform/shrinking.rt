@@ -1,150 +1,93 @@
 //! `conform --shrink`: the calls at which an agent fails, made fewer.
 
 use super::Asked;
-use super::report::status_of;
-use crate::ending::{DEVICE, REFUSED, no_memory, write_failed};
+use super::report::Held;
+use super::session::{Session, status_of};
+use crate::fault::{Ended, Fault, Status};
 use crate::progress::Progress;
 use serf_agent::Config;
-use serf_conform::{ConformFault, End, Rules, Verdict};
-use serf_hunt::{Case, Shrunk, alone_schedule, calls_of, shrink};
-use serf_schedule::{Watch, put_schedule};
-use std::alloc::Global;
-use std::fs;
-use std::io::{Read, Write};
-use std::rt::Files;
-use std::time::Clock;
+use serf_conform::{ConformFault, End, Verdict};
+use serf_hunt::{Shrunk, alone_schedule, calls_of, shrink};
+use serf_schedule::put_schedule;
+use std::alloc::{AllocError, Global};
 
-/// Whether the calls at which an agent fails are made fewer, and where the schedule of what is left goes.
-#[derive(Clone, Copy)]
-pub(super) struct Shrinking<'a> {
-    pub(super) is_wanted: bool,
-    /// Its file; `None` for standard error.
-    pub(super) save: Option<&'a str>,
+/// Whether the calls are to be made fewer: where a reply was another one than is wanted.
+pub(super) fn is_shrunk(asked: &Asked, verdict: &Verdict) -> bool {
+    asked.shrinks && matches!(&verdict.end, End::Differs(_))
 }
 
 /// How many calls there are up to the one at which an agent fails, or after which its look does. The opening is none of
 /// them.
 fn failing_calls(verdict: &Verdict) -> usize {
-    let calls = verdict.calls as usize;
-    if verdict.look.is_some() {
-        calls.saturating_sub(1)
-    } else {
-        calls
-    }
+    let looks = verdict.look.is_some() as usize;
+    (verdict.calls as usize).saturating_sub(looks)
 }
 
-/// The calls of an agent up to the one at which it fails, made fewer.
-fn shrunk_calls<R: Read, W: Write, H: Watch>(
-    alloc: Global,
-    reader: &mut R,
-    writer: &mut W,
-    rules: Rules,
-    case: &Case,
-    agent: u64,
-    config: &Config,
-    verdict: &Verdict,
-    watch: &mut H,
-) -> Result<(usize, Option<Shrunk>), ConformFault> {
-    let mut calls = calls_of(alloc, case, agent)?;
-    calls.truncate(failing_calls(verdict));
-    let count = calls.len();
-    match shrink(alloc, reader, writer, rules, config, calls, watch) {
-        Ok(shrunk) => Ok((count, shrunk)),
-        Err(fault) => Err(fault),
-    }
+/// The text of the schedule of what is left.
+fn text_of_left(alloc: Global, config: &Config, shrunk: &Shrunk) -> Result<Vec<u8>, AllocError> {
+    let Ok(schedule) = alone_schedule(alloc, config, &shrunk.calls) else {
+        return Err(AllocError);
+    };
+    let mut text = Vec::new(alloc);
+    put_schedule(&mut text, &schedule)?;
+    Ok(text)
 }
 
-/// Writes the schedule of what is left to its place, and gives the status.
-fn put_out<F: Files, R: Eprint>(files: &F, rt: &R, asked: &Shrinking, text: &[u8]) -> u8 {
-    let Some(path) = asked.save else {
-        return match str::from_utf8(text) {
-            Ok(text) => {
-                let _ = eprint!(rt; "{text}");
-                REFUSED
-            }
-            Err(_) => write_failed(rt),
+impl Session<'_> {
+    /// The calls of an agent up to the one at which it fails, made fewer, and how many they were.
+    fn shrunk_calls(
+        &mut self,
+        held: &Held,
+        config: &Config,
+    ) -> Result<(usize, Option<Shrunk>), ConformFault> {
+        let alloc = self.io.alloc();
+        let mut progress = Progress::of_calls(self.io);
+        let mut calls = calls_of(alloc, held.case, held.agent)?;
+        calls.truncate(failing_calls(held.verdict));
+        let count = calls.len();
+        let (reader, writer) = (&mut self.reader, &mut self.writer);
+        let rules = self.asked.rules;
+        let shrunk = shrink(alloc, reader, writer, rules, config, calls, &mut progress)?;
+        Ok((count, shrunk))
+    }
+
+    /// Reports what is left, and writes its schedule to its place.
+    fn tell_shrunk<'b>(&self, config: &Config, count: usize, shrunk: &Shrunk) -> Ended<'b> {
+        let left = shrunk.calls.len();
+        let end = if shrunk.is_smallest {
+            ""
+        } else {
+            "; then the agent ended"
         };
-    };
-    match fs::write(files, path, text) {
-        Ok(()) => REFUSED,
-        Err(_) => write_failed(rt),
-    }
-}
-
-/// Reports what is left, and writes its schedule.
-fn tell_shrunk<F: Files, R: Eprint + AllocGlobal>(
-    files: &F,
-    rt: &R,
-    asked: &Shrinking,
-    config: &Config,
-    count: usize,
-    shrunk: &Shrunk,
-) -> u8 {
-    let left = shrunk.calls.len();
-    let end = if shrunk.is_smallest {
-        ""
-    } else {
-        "; then the agent ended"
-    };
-    let _ = eprintln!(rt; "shrunk to {left} of {count} calls{end}");
-    let schedule = match alone_schedule(rt.alloc(), config, &shrunk.calls) {
-        Ok(schedule) => schedule,
-        Err(_) => return no_memory(rt),
-    };
-    let mut text = Vec::new(rt.alloc());
-    match put_schedule(&mut text, &schedule) {
-        Ok(()) => put_out(files, rt, asked, &text),
-        Err(_) => no_memory(rt),
-    }
-}
-
-/// Makes the calls fewer at which an agent of a case fails, and gives the status: as without this, or that of a device
-/// that fails. Where the calls by themselves don't fail, that is reported.
-pub(super) fn shrink_found<F: Files, R: Clock + Eprint + AllocGlobal, I: Read, O: Write>(
-    files: &F,
-    rt: &R,
-    asked: &Asked,
-    case: &Case,
-    agent: u64,
-    verdict: &Verdict,
-    reader: &mut I,
-    writer: &mut O,
-) -> u8 {
-    let Some(config) = case.configs.get(agent as usize) else {
-        return REFUSED;
-    };
-    let mut progress = Progress::of_calls(rt, asked.is_terminal);
-    let outcome = shrunk_calls(
-        rt.alloc(),
-        reader,
-        writer,
-        asked.rules,
-        case,
-        agent,
-        config,
-        verdict,
-        &mut progress,
-    );
-    match outcome {
-        Ok((count, Some(shrunk))) => {
-            tell_shrunk(files, rt, &asked.shrinking, config, count, &shrunk)
+        let _ = eprintln!(self.io.rt; "shrunk to {left} of {count} calls{end}");
+        let text = text_of_left(self.io.alloc(), config, shrunk)?;
+        if let Some(path) = self.asked.save {
+            return self.io.save(path, &text, Status::Refused);
         }
-        Ok((count, None)) => {
-            let _ = eprintln!(rt; "the {count} calls don't fail by themselves");
-            REFUSED
-        }
-        Err(fault) => {
-            let _ = eprintln!(rt; "no shorter schedule: {fault}");
-            if status_of(fault) == DEVICE {
-                DEVICE
-            } else {
-                REFUSED
+        let text = str::from_utf8(&text).map_err(|_| Fault::WriteFault)?;
+        let _ = eprint!(self.io.rt; "{text}");
+        Ok(Status::Refused)
+    }
+
+    /// Makes the calls fewer at which an agent fails, and gives the status: as without this, or that of a device that
+    /// fails. Where the calls by themselves don't fail, that is reported.
+    pub(super) fn shrink_found(&mut self, held: &Held) -> Status {
+        let Some(config) = held.case.configs.get(held.agent as usize) else {
+            return Status::Refused;
+        };
+        match self.shrunk_calls(held, config) {
+            Ok((count, Some(shrunk))) => match self.tell_shrunk(config, count, &shrunk) {
+                Ok(status) => status,
+                Err(fault) => fault.tell(self.io, None),
+            },
+            Ok((count, None)) => {
+                let _ = eprintln!(self.io.rt; "the {count} calls don't fail by themselves");
+                Status::Refused
+            }
+            Err(fault) => {
+                let _ = eprintln!(self.io.rt; "no shorter schedule: {fault}");
+                status_of(fault)
             }
         }
     }
-}
-
-/// Whether the calls are to be made fewer: where a reply was another one than is wanted.
-pub(super) fn is_shrunk(asked: &Shrinking, verdict: &Verdict) -> bool {
-    asked.is_wanted && matches!(&verdict.end, End::Differs(_))
 }

@@ -6,8 +6,8 @@ use Rattle.serf_write.proofs.schedule.read_lines.Given as goal
 
 -- the lines that are left, after those so far, give the answer
 abbrev pub invariant-lines : goal.invariant-lines
-invariant-lines l = (after_lines l.number l.writing (slice_split (λ b. b == 10) l.rest) ≡ written_of l.fn.text)
+invariant-lines g l = (after_lines l.number l.writing (slice_split (λ b. b == 10) l.rest) ≡ written_of l.fn.text)
     × (l.number + length l.rest ≤ length l.fn.text + 1)
 
 abbrev pub decreases-lines : goal.decreases-lines
-decreases-lines l = length l.rest
+decreases-lines g l = length l.rest

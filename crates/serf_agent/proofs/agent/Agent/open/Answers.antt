@@ -1,18 +1,14 @@
-use Rattle.serf_agent.proofs.Names.{rules, false, true, ◌≡◌, ◌+◌, ◌<◌, ◌-◌, ◌^◌, ℕ, List, [], refl, subst, sym, ◌∙◌, EventBody, Device, SnapshotView, last_clock, opened}
-use Rattle.serf_window.specs.Queries.{same_id}
-use Rattle.serf_window.specs.Texts.{same_texts}
-use Rattle.serf_snap.specs.EventLines.{least_in}
+use Rattle.serf_agent.proofs.Names.{rules, true, ◌≡◌, ◌+◌, ◌<◌, ◌-◌, ◌^◌, ℕ, List, [], refl, subst, sym, ◌∙◌, EventBody, Device, SnapshotView, last_clock, opened}
 use Rattle.serf_snap.specs.declared.kind.ClockKind.TheVariants as kinds
 use Rattle.serf_snap.specs.declared.snapshot.SealFault.{SealFault}
 use Rattle.serf_snap.specs.declared.snapshot.SealFault.TheVariants as seals
 use Rattle.serf_agent.specs.Config.{is_sound}
-use Rattle.serf_agent.specs.declared.config.Config.{Config}
 use Rattle.serf_agent.specs.declared.outcome.OpenFault.TheVariants as opens
 use Rattle.serf_agent.specs.Faults.{open_fault_of}
 use Rattle.serf_agent.specs.Ideal.{IdealAgent, with_config}
-use Rattle.serf_agent.specs.Inside.{concrete_of, first_events, first_queries, first_track, new_track}
+use Rattle.serf_agent.specs.Inside.{concrete_of, first_events, first_queries}
 use Rattle.serf_agent.specs.KeptLaws.{KeptRestartLaws}
-use Rattle.serf_agent.specs.KeptRestart.{HasKept, events_reached, queries_reached}
+use Rattle.serf_agent.specs.KeptRestart.{HasKept}
 use Rattle.serf_agent.specs.Restart.{HasPast, restarted, unopened}
 use Rattle.serf_agent.specs.Snapshots.{SnapshotLaws}
 use Rattle.serf_agent.specs.Sound.{IsSound}
@@ -31,41 +27,6 @@ goes-on snapshots kept i text d s events queries a sound past small is event_tra
   sound-restarted snapshots kept i text d sound past (subst (λ (s : SnapshotView). s.member_clock < 2 ^ 64 - 1) is small),
 )
 
--- where the settings keep no events, new tracks are those of an opening
-new-events : (config : Config) (text : List ℕ) (last : ℕ) → config.keep_events ≡ false → last ≡ last_clock kinds.Event text → new_track config.event_buffer last ≡ first_events config text (last_clock kinds.Event text)
-new-events config text last off is = λ k. first_track (sym off k) same_texts config.event_buffer config.per_time (is k) (least_in kinds.Event text) (events_reached config (is k) text)
-
-new-queries : (config : Config) (text : List ℕ) (last : ℕ) → config.keep_events ≡ false → last ≡ last_clock kinds.Query text → new_track config.query_buffer last ≡ first_queries config text (last_clock kinds.Query text)
-new-queries config text last off is = λ k. first_track (sym off k) same_id config.query_buffer config.per_time (is k) (least_in kinds.Query text) (queries_reached config (is k) text)
-
-pub returns-in-Some-clause-restarted : goal.returns-in-Some-clause-restarted
-returns-in-Some-clause-restarted g c = λ i sound said.
-    let config = c.args.config in
-    let text = c.args.text.now in
-    let ok : is_sound config ≡ true = search rules in
-    let past : HasPast config (with_config config i) text = record {
-      times = record { events = said.times.events; queries = said.times.queries };
-      kept = λ keeps. let had : HasKept i text = said.kept keeps in record { events = had.events; queries = had.queries };
-    } in
-    let events : concrete_of c.in-Some.events ≡ first_events config text (last_clock kinds.Event text) = search rules in
-    let queries : concrete_of c.in-Some.queries ≡ first_queries config text (last_clock kinds.Query text) = search rules in
-    goes-on c.sound_snapshots.ensures c.kept_restart_laws.ensures (with_config config i) text (g.S.Sink.device c.args.sink) _ _ _ _ (sound-with_config config i sound ok) past c.in-Ok-open.ensures.times.member_clock c.in-Ok-open.ensures.ok
-    events queries c.behind.ensures.concrete
-
-pub returns-in-Some-clause-first : goal.returns-in-Some-clause-first
-returns-in-Some-clause-first g c =
-    let device = g.S.Sink.device c.args.sink in
-    let text = c.args.text.now in
-    let config = c.args.config in
-    let i = unopened config (opened text device) in
-    let small = subst (λ (s : SnapshotView). s.member_clock < 2 ^ 64 - 1) c.in-Ok-open.ensures.ok c.in-Ok-open.ensures.times.member_clock in
-    let ok : is_sound config ≡ true = search rules in
-    let sound = sound-unopened c.sound_snapshots.ensures config text device ok small in
-    let events : concrete_of c.in-Some.events ≡ first_events config text (last_clock kinds.Event text) = search rules in
-    let queries : concrete_of c.in-Some.queries ≡ first_queries config text (last_clock kinds.Query text) = search rules in
-    goes-on c.sound_snapshots.ensures c.kept_restart_laws.ensures i text device _ _ _ _ sound (past-unopened config (opened text device) text) c.in-Ok-open.ensures.times.member_clock c.in-Ok-open.ensures.ok
-    events queries c.behind.ensures.concrete
-
 pub returns-clause-restarted : goal.returns-clause-restarted
 returns-clause-restarted g c = λ i sound said.
     let config = c.args.config in
@@ -75,9 +36,10 @@ returns-clause-restarted g c = λ i sound said.
       times = record { events = said.times.events; queries = said.times.queries };
       kept = λ keeps. let had : HasKept i text = said.kept keeps in record { events = had.events; queries = had.queries };
     } in
-    let off : config.keep_events ≡ false = search rules in
-    goes-on c.sound_snapshots.ensures c.kept_restart_laws.ensures (with_config config i) text (g.S.Sink.device c.args.sink) _ _ _ _ (sound-with_config config i sound ok) past c.in-Ok-open.ensures.times.member_clock c.in-Ok-open.ensures.ok
-    (new-events config text _ off (λ k. (c.in-Ok-open.ensures.ok k).event_clock)) (new-queries config text _ off (λ k. (c.in-Ok-open.ensures.ok k).query_clock)) c.with_nothing_kept.ensures.concrete
+    let events : concrete_of c.in-Ok.first.events ≡ first_events config text (last_clock kinds.Event text) = search rules in
+    let queries : concrete_of c.in-Ok.first.queries ≡ first_queries config text (last_clock kinds.Query text) = search rules in
+    goes-on c.sound_snapshots.ensures c.kept_restart_laws.ensures (with_config config i) text (g.S.Sink.device c.args.sink) _ _ _ _ (sound-with_config config i sound ok) past c.in-Ok-open_read.ensures.times.member_clock c.in-Ok-open_read.ensures.ok
+    events queries c.behind.ensures.concrete
 
 pub returns-clause-first : goal.returns-clause-first
 returns-clause-first g c =
@@ -85,12 +47,13 @@ returns-clause-first g c =
     let text = c.args.text.now in
     let config = c.args.config in
     let i = unopened config (opened text device) in
-    let small = subst (λ (s : SnapshotView). s.member_clock < 2 ^ 64 - 1) c.in-Ok-open.ensures.ok c.in-Ok-open.ensures.times.member_clock in
+    let small = subst (λ (s : SnapshotView). s.member_clock < 2 ^ 64 - 1) c.in-Ok-open_read.ensures.ok c.in-Ok-open_read.ensures.times.member_clock in
     let ok : is_sound config ≡ true = search rules in
     let sound = sound-unopened c.sound_snapshots.ensures config text device ok small in
-    let off : config.keep_events ≡ false = search rules in
-    goes-on c.sound_snapshots.ensures c.kept_restart_laws.ensures i text device _ _ _ _ sound (past-unopened config (opened text device) text) c.in-Ok-open.ensures.times.member_clock c.in-Ok-open.ensures.ok
-    (new-events config text _ off (λ k. (c.in-Ok-open.ensures.ok k).event_clock)) (new-queries config text _ off (λ k. (c.in-Ok-open.ensures.ok k).query_clock)) c.with_nothing_kept.ensures.concrete
+    let events : concrete_of c.in-Ok.first.events ≡ first_events config text (last_clock kinds.Event text) = search rules in
+    let queries : concrete_of c.in-Ok.first.queries ≡ first_queries config text (last_clock kinds.Query text) = search rules in
+    goes-on c.sound_snapshots.ensures c.kept_restart_laws.ensures i text device _ _ _ _ sound (past-unopened config (opened text device) text) c.in-Ok-open_read.ensures.times.member_clock c.in-Ok-open_read.ensures.ok
+    events queries c.behind.ensures.concrete
 
 seal-failed : (fault : SealFault) → open_fault_of fault ≡ opens.SinkFault → fault ≡ seals.SinkFault
 seal-failed seals.OutOfMemory is = absurd (cc is)

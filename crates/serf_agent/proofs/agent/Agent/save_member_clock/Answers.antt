@@ -1,4 +1,4 @@
-use Rattle.serf_agent.proofs.Names.{arith, ◌≡◌, ◌-◌, ap, sym, subst, ◌∙◌, Device, SnapshotView}
+use Rattle.serf_agent.proofs.Names.{None, arith, ◌≡◌, ◌-◌, ap, sym, subst, ◌∙◌, Device, SnapshotView}
 use Rattle.serf_snap.specs.declared.kind.ClockKind.TheVariants as kinds
 use Rattle.serf_snap.specs.Ends.{NotesTime}
 use Rattle.serf_agent.specs.Inside.{concrete_of}
@@ -16,7 +16,7 @@ returns-clause-step g c = λ i sound is other.
     let snapshot = ap (λ (s : ConcreteState). s.snapshot) was in
     let new = c.note.new.self in
     let at : t ≡ i.member_clock - 1 = omega (arith, c.in-Some.ensures, c.time.ensures, c.saturating_sub.ensures, ap (λ (s : ConcreteState). s.member_clock) was) in
-    let noted = subst (λ (s : SnapshotView). NotesTime kinds.Member t (record { snapshot = s; device = c.self.inside.snapshot.device }) new r) snapshot c.note.ensures in
+    let noted = subst (λ (s : SnapshotView). NotesTime kinds.Member t None (record { snapshot = s; device = c.self.inside.snapshot.device }) new r) snapshot c.note.ensures in
     let steps = steps-save c.sound_snapshots.ensures i t c.self.inside.snapshot.device new r sound at noted other in
     subst (λ (d : Device). Steps i (save i) r d (agent_with new (record { config = c.self.inside.config; member_clock = c.self.inside.member_clock; events = concrete_of c.self.inside.events; queries = concrete_of c.self.inside.queries; snapshot = c.self.inside.snapshot.snapshot; asked = c.self.inside.asked })))
     (ap (λ (a : AgentState). a.device) c.self.view_is)

@@ -1,0 +1,34 @@
+//! Queries that a host will not answer.
+
+use serf_agent::{Agent, Code, Error, QueryParams, Settings};
+
+fn handed(agent: &mut Agent, timeout: i64) -> u64 {
+    let params = QueryParams { timeout, ..QueryParams::default() };
+    agent.query(5, 7, b"load", b"", &params).unwrap().handed.unwrap().number
+}
+
+fn is_gone(answer: Result<(), Error>) -> bool {
+    matches!(answer, Err(Error::Refused(Code::NotHanded)))
+}
+
+#[test]
+fn queries_that_are_forgotten() {
+    let folder = std::env::temp_dir().join(format!("serf-agent-forget-{}", std::process::id()));
+    let _ = std::fs::remove_dir_all(&folder);
+    std::fs::create_dir_all(&folder).unwrap();
+    let mut agent = Agent::open(b"a", folder.join("snapshot"), Settings::default()).unwrap();
+    let (long, short, other) = (handed(&mut agent, 1000), handed(&mut agent, 10), handed(&mut agent, 1000));
+    agent.forget(other).unwrap();
+    for number in [other, 0, other + 1] {
+        assert!(is_gone(agent.forget(number)), "{number}");
+    }
+    assert!(is_gone(agent.respond(6, other, b"").map(drop)));
+    // at its deadline it waits, and not past it
+    agent.close_due(15).unwrap();
+    agent.respond(15, short, b"").unwrap();
+    let late = handed(&mut agent, 10);
+    agent.close_due(16).unwrap();
+    assert!(is_gone(agent.respond(16, late, b"").map(drop)));
+    agent.respond(16, long, b"").unwrap();
+    assert_eq!(handed(&mut agent, 10), other + 2);
+}

@@ -1,0 +1,262 @@
+-- What an agent's text says of queries, after each act: those that it said before, and those that entered.
+use Rattle.serf_agent.proofs.Names.{◌≡◌, ℕ, ◌+◌, ◌-◌, ◌^◌, ◌<◌, ◌≤◌, inl, inr, nat_le, cond, Bool, true, false, List, [], ◌∷◌, ◌++◌, Option, Some, None, IfSome, MatchBool, option_map, refl, sym, subst, ap, ◌∙◌, arith, map, All, All-cons, All-head, All-nil, All-push, All-tail, All-weaker, EventBody, TimedEntry, ClockKind, clock_line, compaction_of, last_clock, last_line, slots_of, Device, SnapshotView, Writing, Kept, Failed, KeepsEither, MayWrite, opened, written}
+use Rattle.std.specs.Prelude.{Contains, IsSome}
+use Rattle.std.proofs.lemmas.List.Elements.{All-append, All-contains, All-contains_itself}
+use Rattle.serf_snap.specs.declared.kept.KeptQuery.{KeptQuery}
+use Rattle.serf_snap.specs.declared.kept.Wanted.{Wanted}
+use Rattle.serf_snap.specs.declared.kind.ClockKind.TheVariants as kinds
+use Rattle.serf_snap.specs.Clocks.{compacted_text, is_whole, sealed}
+use Rattle.serf_snap.specs.Device.{FailurePlan}
+use Rattle.serf_snap.specs.EventLines.{event_line, if_query_wanted, is_query_wanted, kept_clock_line, kept_query, least_in, least_line, queries_in, query_line}
+use Rattle.serf_snap.specs.KeptNotes.{kept_bytes, kept_compaction_of}
+use Rattle.serf_snap.specs.Notes.{MayReplaceBy, note_fails, text_replaced}
+use Rattle.serf_agent.specs.Events.{told_event}
+use Rattle.serf_agent.specs.Ideal.{IdealAgent, Past, with_config}
+use Rattle.serf_agent.specs.Kept.{IsMet}
+use Rattle.serf_agent.specs.KeptLines.{AreTold, held_from, kept_lines, least_told, lines_told}
+use Rattle.serf_agent.specs.KeptLives.{IsDurable, MayGoOn}
+use Rattle.serf_agent.specs.KeptRestart.{queries_reached}
+use Rattle.serf_agent.specs.KeptTexts.{IsIdTold, kept_queries, line_of_event, query_entry, whatever}
+use Rattle.serf_agent.specs.Lives.{Act, Fires, Asks, Gets, Hears, Takes, Saves, Compacts, Closes, Opens, after}
+use Rattle.serf_agent.specs.Queries.{told_query}
+use Rattle.serf_agent.specs.Restart.{restarted, restarted_by, unopened}
+use Rattle.serf_agent.specs.Said.{KeepsOnly, OpensOn, SaidLaws, SaysQueries}
+use Rattle.serf_agent.specs.Sound.{IsSound}
+use Rattle.serf_agent.specs.States.{told_lines}
+use Rattle.serf_agent.specs.Told.{MayNote, noted_with, text_with}
+use Rattle.serf_agent.specs.TrackOf.{queries_entered}
+use Rattle.serf_agent.specs.Tracks.{of_life}
+use Rattle.serf_agent.specs.View.{view_of}
+use Rattle.serf_agent.proofs.ActMoves.{Noting, acts, compacted, heard}
+use Rattle.serf_agent.proofs.DurableLaws.{opened-durable, replaced-by}
+use Rattle.serf_agent.proofs.HandsOutLaws.{BelowHandsOut}
+use Rattle.serf_agent.proofs.KeptCompactionLaws.{only-entered}
+use Rattle.serf_agent.proofs.KeptRestartLaws.{among}
+use Rattle.serf_agent.proofs.KeptStepLaws.{grown-durable}
+use Rattle.serf_agent.proofs.MetLaws.{queries-stand}
+
+-- ---- what the crates below promise
+
+pub record BelowSaid : Type 0 where
+  pub hands_out : BelowHandsOut
+  pub joined : (w : Wanted) (front tail : List ℕ) → is_whole front ≡ true → queries_in w (front ++ tail) ≡ queries_in w front ++ queries_in w tail
+  pub sealed_whole : (text : List ℕ) → is_whole (sealed text) ≡ true
+  pub sealed : (w : Wanted) (text : List ℕ) → queries_in w (sealed text) ≡ queries_in w text
+  pub event_line : (w : Wanted) (t : ℕ) (name payload : List ℕ) → queries_in w (event_line t name payload) ≡ []
+  pub query_line : (w : Wanted) (t id : ℕ) → 0 < t → t < 2 ^ 64 - 1 → id < 2 ^ 32 → queries_in w (query_line t id) ≡ if_query_wanted w (Some (kept_query t id))
+  pub least_line : (w : Wanted) (k : ClockKind) (t : ℕ) → queries_in w (least_line k t) ≡ []
+  pub clock_line : (w : Wanted) (k : ClockKind) (t : ℕ) → queries_in w (clock_line k t) ≡ []
+  pub kept_clock_line : (w : Wanted) (k : ClockKind) (t : ℕ) → queries_in w (kept_clock_line k t) ≡ []
+  pub compacted : (w : Wanted) (m e q : ℕ) → queries_in w (compacted_text m e q) ≡ []
+  pub kept_compacted : (w : Wanted) (lines : List ℕ) (s : SnapshotView) → is_whole lines ≡ true → queries_in w (kept_compaction_of lines s) ≡ queries_in w lines
+  pub compacted_whole : (m e q : ℕ) → is_whole (compacted_text m e q) ≡ true
+  pub kept_compacted_whole : (lines : List ℕ) (s : SnapshotView) → is_whole lines ≡ true → is_whole (kept_compaction_of lines s) ≡ true
+
+-- ---- parts of a text
+
+silent : (P : TimedEntry ℕ → Type 0) (text : List ℕ) → is_whole text ≡ true → queries_in whatever text ≡ [] → KeepsOnly P text
+silent P text whole none = record { whole = whole; says = subst (λ (qs : List KeptQuery). All P (map query_entry qs)) (sym none) (All-nil P) }
+
+map-both : (xs ys : List KeptQuery) → map query_entry (xs ++ ys) ≡ map query_entry xs ++ map query_entry ys
+map-both [] ys = refl
+map-both (x ∷ xs) ys = ap (λ (l : List (TimedEntry ℕ)). query_entry x ∷ l) (map-both xs ys)
+
+-- what two parts say is what the text says
+more : BelowSaid → (P : TimedEntry ℕ → Type 0) (front tail : List ℕ) → KeepsOnly P front → KeepsOnly P tail → KeepsOnly P (front ++ tail)
+more laws P front tail first second = record {
+  whole = laws.hands_out.whole front tail first.whole second.whole;
+  says = subst (All P) (sym (ap (map query_entry) (laws.joined whatever front tail first.whole) ∙ map-both (queries_in whatever front) (queries_in whatever tail)))
+      (All-append P (kept_queries whatever front) (kept_queries whatever tail) first.says second.says);
+}
+
+clock : BelowSaid → (P : TimedEntry ℕ → Type 0) (k : ClockKind) (t : ℕ) → KeepsOnly P (clock_line k t)
+clock laws P k t = silent P (clock_line k t) (laws.hands_out.clock_whole k [] t) (laws.clock_line whatever k t)
+
+event : BelowSaid → (P : TimedEntry ℕ → Type 0) (t : ℕ) (what : EventBody) → KeepsOnly P (line_of_event t what)
+event laws P t what = silent P (line_of_event t what) (laws.hands_out.event_whole t what.name what.payload).whole (laws.event_line whatever t what.name what.payload)
+
+least : BelowSaid → (P : TimedEntry ℕ → Type 0) (k : ClockKind) (t : ℕ) → KeepsOnly P (least_line k t)
+least laws P k t = silent P (least_line k t) (laws.hands_out.least_whole k t).whole (laws.least_line whatever k t)
+
+-- a query that has P, and can be told in a line
+record CanBeTold (P : TimedEntry ℕ → Type 0) (e : TimedEntry ℕ) : Type 0 where
+  has : P e
+  some : 0 < e.time
+  small : e.time < 2 ^ 64 - 1
+  low : e.key < 2 ^ 32
+
+query : BelowSaid → (P : TimedEntry ℕ → Type 0) (t id : ℕ) → CanBeTold P (record { time = t; key = id }) → KeepsOnly P (query_line t id)
+query laws P t id c = record {
+  whole = (laws.hands_out.query_whole t id).whole;
+  says = subst (λ (qs : List KeptQuery). All P (map query_entry qs)) (sym (laws.query_line whatever t id c.some c.small c.low)) (by (is_query_wanted whatever (kept_query t id)));
+}
+  where
+    by : (b : Bool) → All P (map query_entry (cond b (kept_query t id ∷ []) []))
+    by true = All-cons P (record { time = t; key = id }) [] c.has (All-nil P)
+    by false = All-nil P
+
+-- what is appended for a line
+bytes : BelowSaid → (P : TimedEntry ℕ → Type 0) (kind : ClockKind) (t : ℕ) (line : List ℕ) (last : ℕ) → KeepsOnly P line → KeepsOnly P (kept_bytes kind t line last)
+bytes laws P kind t line last h = by (nat_le t last)
+  where
+    by : (b : Bool) → KeepsOnly P (cond b [] (kept_clock_line kind t) ++ line)
+    by true = h
+    by false = more laws P (kept_clock_line kind t) line (silent P (kept_clock_line kind t) (laws.hands_out.kept_clock_whole kind [] t) (laws.kept_clock_line whatever kind t)) h
+
+-- ---- a compaction
+
+events : BelowSaid → (P : TimedEntry ℕ → Type 0) (es : List (TimedEntry EventBody)) → KeepsOnly P (lines_told line_of_event es)
+events laws P [] = record { whole = refl; says = All-nil P }
+events laws P (e ∷ es) = more laws P (line_of_event e.time e.key) (lines_told line_of_event es) (event laws P e.time e.key) (events laws P es)
+
+queries : BelowSaid → (P : TimedEntry ℕ → Type 0) (es : List (TimedEntry ℕ)) → All (CanBeTold P) es → KeepsOnly P (lines_told query_line es)
+queries laws P [] all = record { whole = refl; says = All-nil P }
+queries laws P (e ∷ es) all = more laws P (query_line e.time e.key) (lines_told query_line es) (query laws P e.time e.key (All-head (CanBeTold P) e es all)) (queries laws P es (All-tail (CanBeTold P) e es all))
+
+can-be-told : (P : TimedEntry ℕ → Type 0) (h : List (Past ℕ)) → All (λ p. P p.entry) h → AreTold IsIdTold h → All (λ p. CanBeTold P p.entry) h
+can-be-told P [] all told = All-nil (λ (p : Past ℕ). CanBeTold P p.entry)
+can-be-told P (p ∷ ps) all told =
+    let Told : Past ℕ → Type 0 = λ (p : Past ℕ). (0 < p.entry.time) × (p.entry.time < 2 ^ 64 - 1) × IsIdTold p.entry.key in
+    let first : (0 < p.entry.time) × (p.entry.time < 2 ^ 64 - 1) × IsIdTold p.entry.key = All-head Told p ps told in
+    All-cons (λ (p : Past ℕ). CanBeTold P p.entry) p ps (record { has = All-head (λ (p : Past ℕ). P p.entry) p ps all; some = first.0; small = first.1; low = first.2 })
+    (can-be-told P ps (All-tail (λ (p : Past ℕ). P p.entry) p ps all) (All-tail Told p ps told))
+
+-- the lines that a compaction keeps
+lines : BelowSaid → (P : TimedEntry ℕ → Type 0) (i : IdealAgent) → All (λ p. P p.entry) i.queries.history → AreTold IsIdTold i.queries.history → KeepsOnly P (kept_lines (view_of i))
+lines laws P i all told =
+    let at : ℕ = least_told i.config.event_buffer i.snapshot.event_clock i.events.minimum in
+    let at_query : ℕ = least_told i.config.query_buffer i.snapshot.query_clock i.queries.minimum in
+    let held : List (TimedEntry EventBody) = held_from at (slots_of i.config.event_buffer (of_life i.life i.events.history)) in
+    let asked : List (TimedEntry ℕ) = held_from at_query (slots_of i.config.query_buffer (of_life i.life i.queries.history)) in
+    let can : All (CanBeTold P) asked = only-entered laws.hands_out.query_slots i.config.query_buffer i.life at_query i.queries.history (CanBeTold P) (can-be-told P i.queries.history all told) in
+    more laws P (least_line kinds.Event at ++ lines_told line_of_event held) (least_line kinds.Query at_query ++ lines_told query_line asked)
+    (more laws P (least_line kinds.Event at) (lines_told line_of_event held) (least laws P kinds.Event at) (events laws P held))
+    (more laws P (least_line kinds.Query at_query) (lines_told query_line asked) (least laws P kinds.Query at_query) (queries laws P asked can))
+
+-- the text that a compaction leaves
+compaction : BelowSaid → (P : TimedEntry ℕ → Type 0) (i : IdealAgent) → All (λ p. P p.entry) i.queries.history → AreTold IsIdTold i.queries.history → KeepsOnly P (text_with (told_lines (view_of i)) i.snapshot)
+compaction laws P i all told = by i.config.keep_events
+  where
+    kept : KeepsOnly P (kept_lines (view_of i))
+    kept = lines laws P i all told
+
+    by : (b : Bool) → KeepsOnly P (text_with (cond b (Some (kept_lines (view_of i))) None) i.snapshot)
+    by true = record {
+      whole = laws.kept_compacted_whole (kept_lines (view_of i)) i.snapshot kept.whole;
+      says = subst (λ (qs : List KeptQuery). All P (map query_entry qs)) (sym (laws.kept_compacted whatever (kept_lines (view_of i)) i.snapshot kept.whole)) kept.says;
+    }
+    by false = silent P (compaction_of i.snapshot) (laws.compacted_whole i.snapshot.member_clock i.snapshot.event_clock i.snapshot.query_clock) (laws.compacted whatever i.snapshot.member_clock i.snapshot.event_clock i.snapshot.query_clock)
+
+-- ---- what is durable
+
+abbrev Durable : (TimedEntry ℕ → Type 0) → SnapshotView → Type 0
+Durable P s = (text : List ℕ) → s.durable ≡ Some text → KeepsOnly P text
+
+appended : BelowSaid → (P : TimedEntry ℕ → Type 0) (s : SnapshotView) (line new : List ℕ) → Durable P s → KeepsOnly P line → option_map (λ (k : List ℕ). k ++ line) s.durable ≡ Some new → KeepsOnly P new
+appended laws P s line new old says at = let g = grown-durable s.durable line new at in subst (KeepsOnly P) g.2 (more laws P g.0 line (old g.0 g.1) says)
+
+-- a line of its own, if there is one
+abbrev LineSays : (TimedEntry ℕ → Type 0) → Option (List ℕ) → Type 0
+LineSays P None = Unit {0}
+LineSays P (Some line) = KeepsOnly P line
+
+note : BelowSaid → (P : TimedEntry ℕ → Type 0) (kind : ClockKind) (t : ℕ) (line : Option (List ℕ)) (s : SnapshotView) → LineSays P line → Durable P s → Durable P (noted_with kind t line s Kept)
+note laws P kind t (Some line) s says old new at = appended laws P s (kept_bytes kind t line (last_line kind s)) new old (bytes laws P kind t line (last_line kind s) says) at
+note laws P kind t None s says old new at = by (nat_le t (last_line kind s)) at
+  where
+    by : (b : Bool) → (cond b s (written kind t s Kept)).durable ≡ Some new → KeepsOnly P new
+    by true at = old new at
+    by false at = appended laws P s (clock_line kind t) new old (clock laws P kind t) at
+
+-- with a plan a sink that fails keeps what it had
+unchanged : (plan : Option FailurePlan) (before after : Option (List ℕ)) → IsSome plan → IfSome plan (λ p. (note_fails p ≡ true) × (after ≡ before)) → after ≡ before
+unchanged None before after some h = absurd (cc some)
+unchanged (Some p) before after some h = h.1
+
+fail : (P : TimedEntry ℕ → Type 0) (kind : ClockKind) (t : ℕ) (line : Option (List ℕ)) (s : SnapshotView) (durable : Option (List ℕ)) → IsSome s.plan → MayNote kind t line s (Failed durable) → Durable P s → Durable P (written kind t s (Failed durable))
+fail P kind t (Some line) s durable plan may old new at = old new (sym (unchanged s.plan s.durable durable plan may.1) ∙ at)
+fail P kind t None s durable plan may old new at = by (nat_le t (last_line kind s)) may
+  where
+    by : (b : Bool) → MatchBool b (Failed durable ≡ Kept) (MayWrite s (clock_line kind t) (Failed durable)) → KeepsOnly P new
+    by true may = absurd (cc may)
+    by false may = old new (sym (unchanged s.plan s.durable durable plan may.1) ∙ at)
+
+either : (P : TimedEntry ℕ → Type 0) (before after : Option (List ℕ)) (text new : List ℕ) → KeepsEither before text after → after ≡ Some new → ((old : List ℕ) → before ≡ Some old → KeepsOnly P old) → KeepsOnly P text → KeepsOnly P new
+either P None after text new keeps at old says = absurd (let none : after ≡ None = keeps in cc)
+either P (Some k) after text new (inl same) at old says = let here : k ≡ new = cc (sym same ∙ at) in subst (KeepsOnly P) here (old k refl)
+either P (Some k) after text new (inr same) at old says = let here : text ≡ new = cc (sym same ∙ at) in subst (KeepsOnly P) here says
+
+replaced : (P : TimedEntry ℕ → Type 0) (text : List ℕ) (s : SnapshotView) (w : Writing) → KeepsOnly P text → MayReplaceBy text s w → Durable P s → Durable P (text_replaced text s w)
+replaced P text s Kept says may old new at = subst (KeepsOnly P) (replaced-by s.durable text new at) says
+replaced P text s (Failed durable) says may old new at = either P s.durable durable text new may.0 at old says
+
+-- ---- acts
+
+-- the lines of events and of queries, where the settings keep them
+told : (P : TimedEntry ℕ → Type 0) (b : Bool) (line : List ℕ) → KeepsOnly P line → LineSays P (cond b (Some line) None)
+told P true line says = says
+told P false line says = tt
+
+noting : BelowSaid → (P : TimedEntry ℕ → Type 0) (i : IdealAgent) → IsSound i → IsDurable i → IsSome i.snapshot.plan → SaysQueries P i → Noting i (λ j es qs. All P qs → SaysQueries P j)
+noting laws P i sound d plan says = record {
+  quiet = λ j q all. record { entered = subst (λ (h : List (Past ℕ)). All (λ (p : Past ℕ). P p.entry) h) (sym q.queries.history) says.entered; durable = subst (Durable P) (sym q.snapshot) says.durable };
+  event = λ t what runs small all. record { entered = says.entered; durable = note laws P kinds.Event t (told_event i.config t what) i.snapshot (told P i.config.keep_events (line_of_event t what) (event laws P t what)) says.durable };
+  event_fails = λ t what durable runs small may all. record { entered = says.entered; durable = fail P kinds.Event t (told_event i.config t what) i.snapshot durable plan may says.durable };
+  query = λ t id from runs small low all. record { entered = entered t id all; durable = asked t id from small low all };
+  asks = λ t id more is runs small low all. record { entered = entered t id all; durable = asked t id (let up = sound.queries.minimum in omega (arith, up, is)) small low all };
+  query_fails = λ t id durable runs small low may all. record { entered = says.entered; durable = fail P kinds.Query t (told_query i.config t id) i.snapshot durable plan may says.durable };
+  saves = λ t runs all. record { entered = says.entered; durable = note laws P kinds.Member t None i.snapshot tt says.durable };
+  save_fails = λ t durable runs may all. record { entered = says.entered; durable = fail P kinds.Member t None i.snapshot durable plan may says.durable };
+}
+  where
+    entered : (t id : ℕ) → All P (record { time = t; key = id } ∷ []) → All (λ p. P p.entry) (i.queries.history ++ record { life = i.life; entry = record { time = t; key = id } } ∷ [])
+    entered t id all = All-push (λ (p : Past ℕ). P p.entry) i.queries.history (record { life = i.life; entry = record { time = t; key = id } }) says.entered (All-head P (record { time = t; key = id }) [] all)
+
+    asked : (t id : ℕ) → i.queries.minimum ≤ t → t < 2 ^ 64 - 1 → id < 2 ^ 32 → All P (record { time = t; key = id } ∷ []) → Durable P (noted_with kinds.Query t (told_query i.config t id) i.snapshot Kept)
+    asked t id from small low all =
+        note laws P kinds.Query t (told_query i.config t id) i.snapshot
+        (told P i.config.keep_events (query_line t id) (query laws P t id (record { has = All-head P (record { time = t; key = id }) [] all; some = omega (arith, from, d.queries_least.0); small = small; low = low }))) says.durable
+
+-- an opening
+reopened : BelowSaid → (P : TimedEntry ℕ → Type 0) (i : IdealAgent) (text : List ℕ) (d : Device) → All (λ p. P p.entry) i.queries.history → All P (kept_queries whatever text) → SaysQueries P (restarted text (opened text d) i)
+reopened laws P i text d entered all = record { entered = by i.config.keep_events; durable = durable }
+  where
+    reached : List (TimedEntry ℕ)
+    reached = queries_reached i.config (last_clock kinds.Query text) text
+
+    among_text : All P (queries_reached i.config (last_clock kinds.Query text) text)
+    among_text = All-weaker (Contains reached) P (λ e there. from-all e (queries-stand i.config.query_buffer (last_clock kinds.Query text) (least_in kinds.Query text) text e (laws.hands_out.kept.durable.times kinds.Query text) there)) reached (All-contains_itself reached)
+      where
+        from-all : (e : TimedEntry ℕ) → Contains (kept_queries whatever text) e → P e
+        from-all e there = All-contains P (kept_queries whatever text) e all there
+
+    by : (b : Bool) → All (λ (p : Past ℕ). P p.entry) (restarted_by b text (opened text d) i).queries.history
+    by true = among P i.queries.history (restarted_by true text (opened text d) i).queries.history reached entered among_text
+        (laws.hands_out.kept.durable.queries.only_kept i.config.query_buffer i.config.per_time (i.life + 1) (last_clock kinds.Query text) (least_in kinds.Query text) reached i.queries)
+    by false = entered
+
+    durable : (new : List ℕ) → (restarted text (opened text d) i).snapshot.durable ≡ Some new → KeepsOnly P new
+    durable new at = subst (KeepsOnly P) (opened-durable d.observed_bytes text new at)
+        (record { whole = laws.sealed_whole text; says = subst (λ (qs : List KeptQuery). All P (map query_entry qs)) (sym (laws.sealed whatever text)) all })
+
+stays : BelowSaid → (P : TimedEntry ℕ → Type 0) (i : IdealAgent) (a : Act) → IsSound i → IsDurable i → IsSome i.snapshot.plan → SaysQueries P i → MayGoOn i a → All P (queries_entered i a) → OpensOn P a → SaysQueries P (after i a)
+stays laws P i (Fires what flag w) sound d plan says go all opens = acts laws.hands_out.kept i (λ j es qs. All P qs → SaysQueries P j) (noting laws P i sound d plan says) (Fires what flag w) tt go all
+stays laws P i (Asks now id name payload params w) sound d plan says go all opens = acts laws.hands_out.kept i (λ j es qs. All P qs → SaysQueries P j) (noting laws P i sound d plan says) (Asks now id name payload params w) tt go all
+stays laws P i (Gets tags now packet w) sound d plan says go all opens = acts laws.hands_out.kept i (λ j es qs. All P qs → SaysQueries P j) (noting laws P i sound d plan says) (Gets tags now packet w) tt go all
+stays laws P i (Takes e w) sound d plan says go all opens = acts laws.hands_out.kept i (λ j es qs. All P qs → SaysQueries P j) (noting laws P i sound d plan says) (Takes e w) tt go all
+stays laws P i (Saves w) sound d plan says go all opens = acts laws.hands_out.kept i (λ j es qs. All P qs → SaysQueries P j) (noting laws P i sound d plan says) (Saves w) tt go all
+stays laws P i (Closes now) sound d plan says go all opens = acts laws.hands_out.kept i (λ j es qs. All P qs → SaysQueries P j) (noting laws P i sound d plan says) (Closes now) tt go all
+stays laws P i (Hears m is_join w) sound d plan says go all opens =
+    heard i m is_join w (SaysQueries P) (record { entered = says.entered; durable = says.durable })
+    (λ joins runs. record { entered = says.entered; durable = note laws P kinds.Event 0 (Some (least_line kinds.Event m.event_clock)) i.snapshot (least laws P kinds.Event m.event_clock) says.durable })
+    (λ joins runs durable may. record { entered = says.entered; durable = fail P kinds.Event 0 (Some (least_line kinds.Event m.event_clock)) i.snapshot durable plan may says.durable }) go.0
+stays laws P i (Compacts w) sound d plan says go all opens =
+    compacted i w (SaysQueries P) says
+    (λ w may. record { entered = says.entered; durable = replaced P (text_with (told_lines (view_of i)) i.snapshot) i.snapshot w (compaction laws P i says.entered d.queries_told) may says.durable }) go.0
+stays laws P i (Opens config text d) sound durable plan says go all opens = reopened laws P (with_config config i) text d says.entered opens
+
+pub said_laws : BelowSaid → SaidLaws
+said_laws laws = record {
+  begins = λ entered stood config text d all. reopened laws (IsMet entered stood) (unopened config (opened text d)) text d (All-nil (λ (p : Past ℕ). IsMet entered stood p.entry)) all;
+  stays = λ entered stood. stays laws (IsMet entered stood);
+}

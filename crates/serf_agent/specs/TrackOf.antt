@@ -1,0 +1,104 @@
+-- The two tracks of an agent, its events and its queries, by the parts with which a promise of both is said.
+use Rattle.std.specs.Prelude.{◌≡◌, ◌&&◌, ◌≤◌, ℕ, Bool, true, List, [], ◌∷◌, Option, Result, Ok, Err}
+use Rattle.serf_wire.specs.declared.fault.WireFault.{WireFault}
+use Rattle.serf_wire.specs.declared.texts.EventBody.{EventBody}
+use Rattle.serf_wire.specs.Decoded.{decoded}
+use Rattle.serf_wire.specs.Message.{Message, PushPull, query, user_event}
+use Rattle.serf_window.specs.Window.{TimedEntry}
+use Rattle.serf_snap.specs.declared.kept.Wanted.{Wanted}
+use Rattle.serf_snap.specs.declared.kind.ClockKind.{ClockKind}
+use Rattle.serf_snap.specs.declared.kind.ClockKind.TheVariants as kinds
+use Rattle.serf_snap.specs.Notes.{Kept}
+use Rattle.serf_agent.specs.declared.config.Config.{Config}
+use Rattle.serf_agent.specs.declared.outcome.FiredQuery.{FiredQuery}
+use Rattle.serf_agent.specs.declared.outcome.Outcome.{Outcome}
+use Rattle.serf_agent.specs.declared.outcome.Outcome.TheVariants as outcomes
+use Rattle.serf_agent.specs.declared.outcome.QueryFault.{QueryFault}
+use Rattle.serf_agent.specs.declared.outcome.Reason.{Reason}
+use Rattle.serf_agent.specs.declared.outcome.ReceiveFault.{ReceiveFault}
+use Rattle.serf_agent.specs.Calls.{ended}
+use Rattle.serf_agent.specs.Config.{longest_texts}
+use Rattle.serf_agent.specs.Events.{admission, texts_len}
+use Rattle.serf_agent.specs.Ideal.{IdealAgent, Track}
+use Rattle.serf_agent.specs.KeptTexts.{kept_events, kept_queries}
+use Rattle.serf_agent.specs.Lives.{Act, Asks, Gets, Takes, events_out}
+use Rattle.serf_agent.specs.Queries.{fire_query, query_admission}
+use Rattle.serf_agent.specs.Receive.{receive_tagged}
+
+pub record TrackOf (K : Type 0) : Type 1 where
+  -- where an agent has it, the kind of its lines, and the size of its buffer
+  pub track : IdealAgent → Track K
+  pub kind : ClockKind
+  pub slots : Config → ℕ
+  -- what a text keeps of it
+  pub kept : Wanted → List ℕ → List (TimedEntry K)
+  -- why what comes is ignored, and what isn't too long
+  pub admission : IdealAgent → ℕ → K → Option Reason
+  pub Short : K → Type 0
+  -- what an act enters
+  pub entered : IdealAgent → Act → List (TimedEntry K)
+  -- an act brings an entry, alone or as one of a state, and the sink keeps its line
+  pub Offers : TimedEntry K → Act → Type 0
+  -- the state of another tells of no least time above this, where an agent of these settings hears of it
+  pub HearsNoneAbove : ℕ → Config → PushPull → Bool → Type 0
+
+-- Events
+
+abbrev pub OffersEvent : TimedEntry EventBody → Act → Type 0
+OffersEvent e (Takes offered Kept) = offered ≡ e
+OffersEvent e (Gets tags now packet Kept) = (coalesce : Bool) × (decoded packet ≡ Ok (user_event (record { time = e.time; name = e.key.name; payload = e.key.payload; coalesce = coalesce })))
+OffersEvent e a = ⊥
+
+-- each event that enters is handed out
+abbrev pub event_track : TrackOf EventBody
+event_track = record {
+  track = λ i. i.events;
+  kind = kinds.Event;
+  slots = λ config. config.event_buffer;
+  kept = kept_events;
+  admission = admission;
+  Short = λ what. texts_len what ≤ longest_texts;
+  entered = events_out;
+  Offers = OffersEvent;
+  HearsNoneAbove = λ t config m is_join. (is_join && config.ignore_old) ≡ true → m.event_clock ≤ t;
+}
+
+-- Queries
+
+-- the query that a packet brings, where this is the answer; also where it isn't handed out, since its filters exclude the node
+abbrev pub got_query : Result Message WireFault → Result Outcome ReceiveFault → List (TimedEntry ℕ)
+got_query (Ok (query q)) (Ok (outcomes.Query handed ack rebroadcast)) = record { time = q.time; key = q.id } ∷ []
+got_query _ _ = []
+
+abbrev pub asked_query : ℕ → Result FiredQuery QueryFault → List (TimedEntry ℕ)
+asked_query id (Ok f) = record { time = f.time; key = id } ∷ []
+asked_query id (Err fault) = []
+
+-- the queries that enter, each by its time and ID
+abbrev pub queries_entered : IdealAgent → Act → List (TimedEntry ℕ)
+queries_entered i (Asks now id name payload params w) = asked_query id (ended i (fire_query i now id name payload params) w).answer
+queries_entered i (Gets tags now packet w) = got_query (decoded packet) (ended i (receive_tagged tags i now packet) w).answer
+queries_entered i _ = []
+
+-- a packet brings a query of this time and ID
+abbrev pub BringsQuery : TimedEntry ℕ → Result Message WireFault → Type 0
+BringsQuery e (Ok (query q)) = (q.time ≡ e.time) × (q.id ≡ e.key)
+BringsQuery e _ = ⊥
+
+abbrev pub OffersQuery : TimedEntry ℕ → Act → Type 0
+OffersQuery e (Gets tags now packet Kept) = BringsQuery e (decoded packet)
+OffersQuery e a = ⊥
+
+-- no state tells of a least time of queries
+abbrev pub query_track : TrackOf ℕ
+query_track = record {
+  track = λ i. i.queries;
+  kind = kinds.Query;
+  slots = λ config. config.query_buffer;
+  kept = kept_queries;
+  admission = query_admission;
+  Short = λ id. Unit {0};
+  entered = queries_entered;
+  Offers = OffersQuery;
+  HearsNoneAbove = λ t config m is_join. Unit {0};
+}

@@ -1,0 +1,413 @@
+-- What each call leaves of a host: of the agent inside, of the one that a kill goes back to, and of what was given.
+use Rattle.std.proofs.Common.{◌≡◌, ℕ, ◌≢◌, ◌⊎◌, inl, inr, ◌<◌, ◌&&◌, ◌||◌, ◌++◌, ◌∷◌, [], ◌∙◌, ap, append-nil, arith, Bool, cond, false, List, map, None, Option, Result, Ok, Err, refl, Some, subst, sym, true}
+use Rattle.serf_snap.specs.Notes.{Kept}
+use Rattle.serf_agent.specs.declared.outcome.Fired.{Fired}
+use Rattle.serf_agent.specs.declared.outcome.FiredQuery.{FiredQuery}
+use Rattle.serf_agent.specs.declared.outcome.FireFault.{FireFault}
+use Rattle.serf_agent.specs.declared.outcome.Outcome.{Outcome}
+use Rattle.serf_agent.specs.declared.outcome.Outcome.TheVariants as outcomes
+use Rattle.serf_agent.specs.declared.outcome.QueryFault.{QueryFault}
+use Rattle.serf_agent.specs.declared.outcome.ReceiveFault.{ReceiveFault}
+use Rattle.serf_agent.specs.Calls.{Call, MayEnd, ended}
+use Rattle.serf_agent.specs.Ideal.{IdealAgent}
+use Rattle.serf_agent.specs.KeptLives.{BeginsDurable, IsDurable, MayKeep, StartsWithDurable, StaysDurable}
+use Rattle.serf_wire.specs.Laws.{DecodesBytes, DecodesInRange}
+use Rattle.serf_agent.specs.Lives.{Act, MayAct, asked_entries, event_entry, fired_entries, got_entries}
+use Rattle.serf_agent.specs.Lives as lives
+use Rattle.serf_agent.specs.Sound.{IsSound}
+use Rattle.serf_agent.specs.States.{handed_by}
+use Rattle.serf_agent_c.specs.declared.answered.Answered.{Answered}
+use Rattle.serf_agent_c.specs.declared.code.Code.{Code}
+use Rattle.serf_agent_c.specs.declared.gave.Gave.{Gave}
+use Rattle.serf_agent_c.specs.declared.gave.Gave.TheVariants as gaves
+use Rattle.serf_agent_c.specs.declared.session.Session.{Session}
+use Rattle.serf_agent_c.specs.Bursts.{gave_of}
+use Rattle.serf_agent_c.specs.HostLaws.{Follows, Went, waits, rests, goes}
+use Rattle.serf_agent_c.specs.Hosts.{Calls, Host, Says, did, shown}
+use Rattle.serf_agent.specs.Once.{AsksBehind, BeginsSound, FiresBehind, OpensBehind, StaysOnce, StepsSound}
+use Rattle.serf_agent_c.specs.Sessions.{KeepsBurst, is_ready}
+use Rattle.serf_agent_c.specs.Bursts.{Follows as FollowsNext}
+use Rattle.serf_agent_c.specs.Hosts.{LocalState, Observe, Compact, Next, replacing}
+use Rattle.std.proofs.Common.{drop, ◌≤◌, ◌-◌, ◌^◌, ◌+◌}
+use Rattle.std.proofs.lemmas.Bool.{cases_lt}
+use Rattle.serf_wire.specs.Message.{PushPull}
+use Rattle.serf_snap.specs.Device.{Device}
+use Rattle.serf_snap.specs.EventLines.{least_line}
+use Rattle.serf_snap.specs.declared.kind.ClockKind.TheVariants as kinds
+use Rattle.serf_agent.specs.declared.outcome.MergeFault.{MergeFault}
+use Rattle.serf_agent.specs.declared.outcome.PushPullFault.{PushPullFault}
+use Rattle.serf_agent.specs.declared.outcome.Reply.{Reply}
+use Rattle.serf_agent.specs.declared.outcome.RespondFault.{RespondFault}
+use Rattle.serf_agent.specs.Calls.{AsksSink}
+use Rattle.serf_agent.specs.Lives.{Hears}
+use Rattle.serf_agent.specs.MemberClock.{clock_state}
+use Rattle.serf_agent.specs.States.{heard_by, joined}
+use Rattle.serf_agent_c.specs.Bursts.{IsFlushed}
+use Rattle.serf_agent.specs.View.{AgentState}
+use Rattle.serf_agent_c.specs.Texts.{text_of}
+use Rattle.serf_agent_c.specs.declared.code.Code.TheVariants as codes
+use Rattle.serf_agent_c.specs.Texts.{lacking}
+use Rattle.serf_agent.specs.Lives.{Compacts}
+use Rattle.serf_agent_c.proofs.HostLaws.{Bursted, Compacted, idle, refuses, renews, ready-parts, lost, made, same-agent, same-lacking, text-ready, want}
+use Rattle.serf_agent_c.proofs.HandedOnce.{Given, Knows, Recalls, both, gave_entries, gives-none, join-assoc, join-nothing, knows-front, knows-swapped, nothing, outs, ◌⊕◌}
+
+-- what the crates below promise
+pub record Below : Type 0 where
+  pub once : StaysOnce
+  pub fires : FiresBehind
+  pub asks : AsksBehind
+  pub sound : StepsSound
+  pub begins_sound : BeginsSound
+  pub durable : StaysDurable
+  pub begins_durable : BeginsDurable
+  pub opens : OpensBehind
+  pub bytes : DecodesBytes
+  pub ranged : DecodesInRange
+
+pub knows-after : Below → (i : IdealAgent) (act : Act) (a : Given) → IsSound i → MayAct i act → Knows i a → Knows (lives.after i act) (a ⊕ outs i act)
+knows-after laws i act a sound may k = laws.once i act a.events a.queries sound may k
+
+abbrev pub queue_entries : List Answered → Given
+queue_entries [] = nothing
+queue_entries (x ∷ xs) = gave_entries (gave_of x) ⊕ queue_entries xs
+
+-- what the getters can have given
+abbrev pub given_to : Host → Given
+given_to h = both h.given h.queries
+
+-- what the agent handed out, and nobody was given yet
+abbrev pub due : Host → Given
+due h = cond h.fresh (gave_entries h.session.gave) nothing ⊕ queue_entries h.session.burst.items
+
+pub record Inside (h : Host) : Type 0 where
+  pub agent : IdealAgent
+  pub follows : Follows agent h.file h.session
+  pub durable : IsDurable agent
+  pub once : Knows agent (given_to h ⊕ due h)
+
+-- the agent that a kill goes back to, where the file begins so
+pub record BehindAt (h : Host) (front : List ℕ) : Type 0 where
+  pub agent : IdealAgent
+  pub sound : IsSound agent
+  pub durable : IsDurable agent
+  pub starts : StartsWithDurable agent front
+  pub once : Knows agent (given_to h)
+
+abbrev pub Behind : Host → Type 0
+Behind h = BehindAt h h.file
+
+-- a text that is to replace the file's is that of an agent too, and the session isn't ready
+abbrev pub Renewed : Host → Type 0
+Renewed h = (front : List ℕ) → h.new ≡ Some front → BehindAt h front × (h.session.replaces ≡ true)
+
+pub record IsHosted (h : Host) : Type 0 where
+  pub inside : Inside h
+  pub behind : Behind h
+  pub renewed : Renewed h
+  pub quiet : is_ready h.session ≡ true → h.fresh ≡ false
+
+pub not-replacing : (s : Session) → is_ready s ≡ true → s.replaces ≡ true → ⊥
+not-replacing s ready replaces = let p = ready-parts s.replaces (lacking s.agent.device s.written) ready in let no : true ≡ false = sym replaces ∙ p.0 in cc
+
+-- a ready session has no text that is to replace the file's
+pub renewed-ready : (h g : Host) → is_ready h.session ≡ true → Renewed h → g.new ≡ h.new → Renewed g
+renewed-ready h g ready renewed same = λ front at. absurd (not-replacing h.session ready (renewed front (sym same ∙ at)).1)
+
+pub both-true : (a b : Bool) → (a && b) ≡ true → (a ≡ true) × (b ≡ true)
+both-true true true is = (refl, refl)
+both-true true false is = cc
+both-true false b is = cc
+
+pub first-false : (a b : Bool) → (a && b) ≡ false → b ≡ true → a ≡ false
+first-false true true is now = cc
+first-false true false is now = cc
+first-false false b is now = refl
+
+-- all that is written can be given
+abbrev pub told : Host → Host
+told h = let more = gave_entries h.session.gave in record h { given = h.given ++ more.events; queries = h.queries ++ more.queries; fresh = false }
+
+pub behind-now : (h : Host) (i : IdealAgent) → Follows i h.file h.session → IsDurable i → is_ready h.session ≡ true → StartsWithDurable i h.file
+behind-now h i f d ready = record { durable = h.file; tail = []; is = f.disk ∙ ap (λ (x : List ℕ). Some x) (text-ready h.file h.session ready); whole = sym (append-nil h.file) }
+
+pub shown-hosted : (h : Host) → Inside h → Behind h → Renewed h → IsHosted (shown h)
+shown-hosted h inside behind renewed = by (h.fresh && is_ready h.session) refl
+  where
+    by : (b : Bool) → (h.fresh && is_ready h.session) ≡ b → IsHosted (cond b (told h) h)
+    by false is = record { inside = inside; behind = behind; renewed = renewed; quiet = first-false h.fresh (is_ready h.session) is }
+    by true is =
+        let p = both-true h.fresh (is_ready h.session) is in
+        let i = inside.agent in
+        let f = inside.follows in
+        let gave = gave_entries h.session.gave in
+        let queue = queue_entries h.session.burst.items in
+        let once : Knows i (given_to h ⊕ (gave ⊕ queue)) = subst (λ (b : Bool). Knows i (given_to h ⊕ (cond b gave nothing ⊕ queue))) p.0 inside.once in
+        let twice : Knows i ((given_to h ⊕ gave) ⊕ queue) = subst (Knows i) (sym (join-assoc (given_to h) gave queue)) once in
+        record {
+          inside = record { agent = i; follows = record { state = f.state; sound = f.sound; calm = f.calm; flushed = f.flushed; disk = f.disk }; durable = inside.durable; once = twice };
+          behind = record { agent = i; sound = f.sound; durable = inside.durable; starts = behind-now h i f inside.durable p.1; once = knows-front i (given_to h ⊕ gave) queue twice };
+          renewed = renewed-ready h (told h) p.1 renewed refl;
+          quiet = λ ready. refl;
+        }
+
+-- ---- one call
+
+pub renewed-same : (h g : Host) → Renewed h → g.new ≡ h.new → g.session.replaces ≡ h.session.replaces → given_to g ≡ given_to h → Renewed g
+renewed-same h g renewed new replaces given = λ front at.
+    let r = renewed front (sym new ∙ at) in
+    let b = r.0 in
+    (record { agent = b.agent; sound = b.sound; durable = b.durable; starts = b.starts; once = subst (Knows b.agent) (sym given) b.once }, replaces ∙ r.1)
+
+abbrev pub pre : Host → Session → Host
+pre h t = record h { session = t; fresh = h.fresh || is_ready h.session }
+
+pub or-false : (a b : Bool) → b ≡ false → (a || b) ≡ a
+or-false true b is = refl
+or-false false b is = is
+
+pub or-true : (a b : Bool) → b ≡ true → (a || b) ≡ true
+or-true true b is = refl
+or-true false b is = is
+
+pub cond-nothing : (b : Bool) → cond b nothing nothing ≡ nothing
+cond-nothing true = refl
+cond-nothing false = refl
+
+pub behind-pre : (h : Host) (t : Session) → Behind h → Behind (pre h t)
+behind-pre h t k = record { agent = k.agent; sound = k.sound; durable = k.durable; starts = k.starts; once = k.once }
+
+-- of a session that is ready, what is due waits in the burst
+pub ready-knows : (h : Host) (k : IsHosted h) → is_ready h.session ≡ true → Knows k.inside.agent (given_to h ⊕ queue_entries h.session.burst.items)
+ready-knows h k ready = subst (λ (b : Bool). Knows k.inside.agent (given_to h ⊕ (cond b (gave_entries h.session.gave) nothing ⊕ queue_entries h.session.burst.items))) (k.quiet ready) k.inside.once
+
+-- so after a call that gives nothing, and after one that gives
+pub due-none : (h : Host) (t : Session) (xs : List Answered) → gave_entries t.gave ≡ nothing → t.burst.items ≡ xs → due (pre h t) ≡ queue_entries xs
+due-none h t xs none burst = ap (λ (g : Given). cond (h.fresh || is_ready h.session) g nothing ⊕ queue_entries t.burst.items) none ∙ ap (λ (g : Given). g ⊕ queue_entries t.burst.items) (cond-nothing (h.fresh || is_ready h.session)) ∙ ap queue_entries burst
+
+pub due-given : (h : Host) (t : Session) (xs : List Answered) (g : Given) → is_ready h.session ≡ true → gave_entries t.gave ≡ g → t.burst.items ≡ xs → due (pre h t) ≡ g ⊕ queue_entries xs
+due-given h t xs g ready gave burst = ap (λ (b : Bool). cond b (gave_entries t.gave) nothing ⊕ queue_entries t.burst.items) (or-true h.fresh (is_ready h.session) ready) ∙ ap (λ (x : Given). x ⊕ queue_entries t.burst.items) gave ∙ ap (λ (ys : List Answered). g ⊕ queue_entries ys) burst
+
+-- a call that a session which is ready makes
+pub call-hosted : (h : Host) (t : Session) (k : IsHosted h) → is_ready h.session ≡ true → (j : IdealAgent) → Follows j h.file t → IsDurable j → (more : Given) → Knows j (given_to h ⊕ more) → due (pre h t) ≡ more → IsHosted (shown (pre h t))
+call-hosted h t k ready j f durable more knows same =
+    shown-hosted (pre h t) (record { agent = j; follows = f; durable = durable; once = subst (λ (g : Given). Knows j (given_to h ⊕ g)) (sym same) knows })
+    (behind-pre h t k.behind) (renewed-ready h (pre h t) ready k.renewed refl)
+
+-- a call that isn't made, since the session isn't ready
+pub waits-hosted : (h : Host) (t : Session) (k : IsHosted h) → is_ready h.session ≡ false → t ≡ h.session → IsHosted (shown (pre h t))
+waits-hosted h t k unready same =
+    let inside : Inside (pre h h.session) = record {
+      agent = k.inside.agent;
+      follows = k.inside.follows;
+      durable = k.inside.durable;
+      once = subst (λ (b : Bool). Knows k.inside.agent (given_to h ⊕ (cond b (gave_entries h.session.gave) nothing ⊕ queue_entries h.session.burst.items))) (sym (or-false h.fresh (is_ready h.session) unready)) k.inside.once;
+    } in
+    subst (λ (t : Session). IsHosted (shown (pre h t))) (sym same) (shown-hosted (pre h h.session) inside (behind-pre h h.session k.behind) (renewed-same h (pre h h.session) k.renewed refl refl refl))
+
+-- a call that enters and gives nothing
+pub quiet-hosted : (h : Host) (t : Session) (k : IsHosted h) → is_ready h.session ≡ true → (j : IdealAgent) → Follows j h.file t → IsDurable j → Recalls k.inside.agent j → gave_entries t.gave ≡ nothing → t.burst.items ≡ h.session.burst.items → IsHosted (shown (pre h t))
+quiet-hosted h t k ready j f durable recalls none burst =
+    let queue = queue_entries h.session.burst.items in
+    call-hosted h t k ready j f durable queue (recalls (given_to h ⊕ queue) (ready-knows h k ready)) (due-none h t h.session.burst.items none burst)
+
+pub went-hosted : {R : Type 0} (laws : Below) (gave : R → Gave) (h : Host) (t : Session) (act : Act) (i : IdealAgent) (call : Call R) (k : IsHosted h) → i ≡ k.inside.agent → (is_ready h.session ≡ true → KeepsBurst h.session t) → Went gave i call h.file h.session t
+    → lives.after i act ≡ (ended i call Kept).agent → (MayEnd i call Kept → MayAct i act) → MayKeep i act → outs i act ≡ gave_entries (gave (ended i call Kept).answer) → IsHosted (shown (pre h t))
+went-hosted laws gave h t act i call k is burst (waits unready same) becomes may keep out = waits-hosted h t k unready same
+went-hosted laws gave h t act i call k is burst (rests ready f none) becomes may keep out =
+    quiet-hosted h t k ready k.inside.agent (subst (λ (j : IdealAgent). Follows j h.file t) is f) k.inside.durable (λ a knows. knows) (gives-none t.gave none) (burst ready)
+went-hosted {R} laws gave h t act i call k is burst (goes ready ends gives f) becomes may keep out =
+    let queue = queue_entries h.session.burst.items in
+    let here : Knows i (given_to h ⊕ queue) = subst (λ (j : IdealAgent). Knows j (given_to h ⊕ queue)) (sym is) (ready-knows h k ready) in
+    let sound : IsSound i = subst (λ (j : IdealAgent). IsSound j) (sym is) k.inside.follows.sound in
+    let durable : IsDurable i = subst (λ (j : IdealAgent). IsDurable j) (sym is) k.inside.durable in
+    let next = knows-after laws i act (given_to h ⊕ queue) sound (may ends) here in
+    call-hosted h t k ready (lives.after i act) (subst (λ (j : IdealAgent). Follows j h.file t) (sym becomes) f) (laws.durable i act sound durable (may ends) keep)
+    (outs i act ⊕ queue) (knows-swapped (lives.after i act) (given_to h) queue (outs i act) next) (due-given h t h.session.burst.items (outs i act) ready (ap gave_entries gives ∙ sym out) (burst ready))
+
+-- ---- deeds
+
+pub fired-out : (r : Result Fired FireFault) → both (fired_entries r) [] ≡ gave_entries (gaves.Fired r)
+fired-out (Ok f) = refl
+fired-out (Err fault) = refl
+
+pub asked-out : (r : Result FiredQuery QueryFault) → both [] (asked_entries r) ≡ gave_entries (gaves.Asked r)
+asked-out (Ok f) = refl
+asked-out (Err fault) = refl
+
+pub received-out : (r : Result Outcome ReceiveFault) → both (map event_entry (handed_by r)) (got_entries r) ≡ gave_entries (gaves.Received r)
+received-out (Err fault) = refl
+received-out (Ok (outcomes.Event e)) = refl
+received-out (Ok (outcomes.Query a b c)) = refl
+received-out (Ok outcomes.Ack) = refl
+received-out (Ok outcomes.Response) = refl
+received-out (Ok (outcomes.Ignored reason)) = refl
+received-out (Ok (outcomes.Foreign kind)) = refl
+received-out (Ok outcomes.PushPull) = refl
+
+pub queue-push : (xs : List Answered) (x : Answered) → queue_entries (xs ++ x ∷ []) ≡ queue_entries xs ⊕ gave_entries (gave_of x)
+queue-push [] x = join-nothing (gave_entries (gave_of x))
+queue-push (y ∷ ys) x = ap (λ (g : Given). gave_entries (gave_of y) ⊕ g) (queue-push ys x) ∙ sym (join-assoc (gave_entries (gave_of y)) (queue_entries ys) (gave_entries (gave_of x)))
+
+-- a host after a call that gives nothing by itself
+abbrev pub beside : Host → Session → Host
+beside h t = record h { session = t; fresh = h.fresh || false }
+
+pub behind-beside : (h : Host) (t : Session) → Behind h → Behind (beside h t)
+behind-beside h t k = record { agent = k.agent; sound = k.sound; durable = k.durable; starts = k.starts; once = k.once }
+
+pub due-beside : (h : Host) (t : Session) → t.gave ≡ h.session.gave → due (beside h t) ≡ cond h.fresh (gave_entries h.session.gave) nothing ⊕ queue_entries t.burst.items
+due-beside h t gave = ap (λ (b : Bool). cond b (gave_entries t.gave) nothing ⊕ queue_entries t.burst.items) (or-false h.fresh false refl) ∙ ap (λ (g : Gave). cond h.fresh (gave_entries g) nothing ⊕ queue_entries t.burst.items) gave
+
+-- a call that gives nothing by itself, and enters nothing
+pub beside-hosted : (h : Host) (t : Session) (k : IsHosted h) → t.gave ≡ h.session.gave → t.replaces ≡ h.session.replaces → t.burst.items ≡ h.session.burst.items → (j : IdealAgent) → Follows j h.file t → IsDurable j → Recalls k.inside.agent j → IsHosted (shown (beside h t))
+beside-hosted h t k gave replaces burst j f durable recalls =
+    let same : due (beside h t) ≡ due h = due-beside h t gave ∙ ap (λ (xs : List Answered). cond h.fresh (gave_entries h.session.gave) nothing ⊕ queue_entries xs) burst in
+    shown-hosted (beside h t) (record { agent = j; follows = f; durable = durable; once = subst (λ (g : Given). Knows j (given_to h ⊕ g)) (sym same) (recalls (given_to h ⊕ due h) k.inside.once) })
+    (behind-beside h t k.behind) (renewed-same h (beside h t) k.renewed refl replaces refl)
+
+pub bursted-hosted : {R : Type 0} (laws : Below) (answered : R → Answered) (h : Host) (t : Session) (act : Act) (i : IdealAgent) (call : Call R) (k : IsHosted h) → i ≡ k.inside.agent → t.gave ≡ h.session.gave → t.replaces ≡ h.session.replaces → Bursted answered i call h.file h.session t
+    → lives.after i act ≡ (ended i call Kept).agent → (MayEnd i call Kept → MayAct i act) → MayKeep i act → outs i act ≡ gave_entries (gave_of (answered (ended i call Kept).answer)) → IsHosted (shown (beside h t))
+bursted-hosted laws answered h t act i call k is gave replaces (lost f burst) becomes may keep out =
+    beside-hosted h t k gave replaces burst k.inside.agent (subst (λ (j : IdealAgent). Follows j h.file t) is f) k.inside.durable (λ a knows. knows)
+bursted-hosted laws answered h t act i call k is gave replaces (made ends f burst) becomes may keep out =
+    let x : Answered = answered (ended i call Kept).answer in
+    let here : Knows i (given_to h ⊕ due h) = subst (λ (j : IdealAgent). Knows j (given_to h ⊕ due h)) (sym is) k.inside.once in
+    let sound : IsSound i = subst (λ (j : IdealAgent). IsSound j) (sym is) k.inside.follows.sound in
+    let durable : IsDurable i = subst (λ (j : IdealAgent). IsDurable j) (sym is) k.inside.durable in
+    let next = knows-after laws i act (given_to h ⊕ due h) sound (may ends) here in
+    let first = cond h.fresh (gave_entries h.session.gave) nothing in
+    let same : due (beside h t) ≡ due h ⊕ outs i act = due-beside h t gave ∙ ap (λ (xs : List Answered). first ⊕ queue_entries xs) burst ∙ ap (λ (g : Given). first ⊕ g) (queue-push h.session.burst.items x)
+    ∙ sym (join-assoc first (queue_entries h.session.burst.items) (gave_entries (gave_of x))) ∙ ap (λ (g : Given). due h ⊕ g) (sym out) in
+    shown-hosted (beside h t) (record {
+      agent = lives.after i act;
+      follows = subst (λ (j : IdealAgent). Follows j h.file t) (sym becomes) f;
+      durable = laws.durable i act sound durable (may ends) keep;
+      once = subst (Knows (lives.after i act)) (join-assoc (given_to h) (due h) (outs i act) ∙ ap (λ (g : Given). given_to h ⊕ g) (sym same)) next;
+    }) (behind-beside h t k.behind) (renewed-same h (beside h t) k.renewed refl replaces refl)
+
+-- a compaction
+pub replacing-other : (new : Option (List ℕ)) (t : Session) (c : Code) → c ≢ codes.Done → replacing new Compact t c ≡ new
+replacing-other new t codes.Done other = absurd (other refl)
+replacing-other new t codes.OutOfMemory other = refl
+replacing-other new t codes.Empty other = refl
+replacing-other new t codes.InUse other = refl
+replacing-other new t codes.Unwritten other = refl
+replacing-other new t codes.Nothing other = refl
+replacing-other new t codes.BadConfig other = refl
+replacing-other new t codes.SinkFault other = refl
+replacing-other new t codes.Stopped other = refl
+replacing-other new t codes.TooLarge other = refl
+replacing-other new t codes.Exhausted other = refl
+replacing-other new t codes.NoMessage other = refl
+replacing-other new t codes.RespondersFull other = refl
+replacing-other new t codes.NotPushPull other = refl
+replacing-other new t codes.TooLong other = refl
+replacing-other new t codes.NoTime other = refl
+replacing-other new t codes.PastDeadline other = refl
+replacing-other new t codes.NotHanded other = refl
+
+pub compacted-hosted : Below → (h : Host) (t : Session) (code : Code) (k : IsHosted h) → (is_ready h.session ≡ true → KeepsBurst h.session t) → Compacted k.inside.agent h.file h.session t code → IsHosted (did h (Calls Compact t code))
+compacted-hosted laws h t code k burst (idle unready same is) = subst (λ (c : Code). IsHosted (did h (Calls Compact t c))) (sym is) (waits-hosted h t k unready same)
+compacted-hosted laws h t code k burst (refuses ready f other none) = subst (λ (new : Option (List ℕ)). IsHosted (shown (record (pre h t) { new = new }))) (sym (replacing-other h.new t code other)) (quiet-hosted h t k ready k.inside.agent f k.inside.durable (λ a knows. knows) none (burst ready))
+compacted-hosted laws h t code k burst (renews ready ends f replaces is none durable recalls) =
+    let i = k.inside.agent in
+    let j = lives.after i (Compacts Kept) in
+    let new = lacking t.agent.device t.written in
+    let p : Host = record (pre h t) { new = Some new } in
+    let queue = queue_entries h.session.burst.items in
+    let knows : Knows j (given_to h ⊕ queue) = recalls (given_to h ⊕ queue) (ready-knows h k ready) in
+    let d = laws.durable i (Compacts Kept) k.inside.follows.sound k.inside.durable ends tt in
+    let at : IsHosted (shown p) = shown-hosted p (record { agent = j; follows = f; durable = d; once = subst (λ (g : Given). Knows j (given_to h ⊕ g)) (sym (due-none h t h.session.burst.items none (burst ready))) knows })
+    (record { agent = k.behind.agent; sound = k.behind.sound; durable = k.behind.durable; starts = k.behind.starts; once = k.behind.once })
+    (λ front at. let same : new ≡ front = (let e : Some new ≡ Some front = at in cc) in (record { agent = j; sound = f.sound; durable = d; starts = record { durable = new; tail = []; is = durable; whole = sym same ∙ sym (append-nil new) }; once = knows-front j (given_to h) queue knows }, replaces)) in
+    subst (λ (c : Code). IsHosted (did h (Calls Compact t c))) (sym is) at
+
+-- the next outcome of a burst
+pub next-hosted : (h : Host) (t : Session) (code : Code) (old new : ℕ) (k : IsHosted h) → Says (Next old new) h.session t code → IsHosted (shown (pre h t))
+next-hosted h t code old new k may = by (is_ready h.session) refl
+  where
+    -- what is given now is the front of what waited
+    goes-on : is_ready h.session ≡ true → due (pre h t) ≡ queue_entries h.session.burst.items → IsHosted (shown (pre h t))
+    goes-on ready same = call-hosted h t k ready k.inside.agent (same-agent h.session t k.inside.agent h.file ready may.2.0 (may.1 ready).0 k.inside.follows) k.inside.durable (queue_entries h.session.burst.items) (ready-knows h k ready) same
+
+    reads : is_ready h.session ≡ true → (xs : List Answered) → h.session.burst.items ≡ xs → FollowsNext xs t code old new → due (pre h t) ≡ queue_entries xs
+    reads ready [] is next = due-none h t [] (gives-none t.gave next.1) next.2
+    reads ready (x ∷ xs) is next = due-given h t xs (gave_entries (gave_of x)) ready (ap gave_entries next.1) next.2
+
+    by : (b : Bool) → is_ready h.session ≡ b → IsHosted (shown (pre h t))
+    by false is = waits-hosted h t k is (may.0 is).1
+    by true is = elim (want code) [
+      | inl out ↦ (let r = (may.3 is).0 out in goes-on is (due-none h t h.session.burst.items (gives-none t.gave r.0.0) r.1))
+      | inr other ↦ goes-on is (reads is h.session.burst.items refl ((may.3 is).1 other))
+    ]
+
+pub still-hosted : (h : Host) (k : IsHosted h) → IsHosted (shown (beside h h.session))
+still-hosted h k = beside-hosted h h.session k refl refl refl k.inside.agent k.inside.follows k.inside.durable (λ a knows. knows)
+
+pub top-or : (n m : ℕ) → m ≤ n → (m ≡ n) ⊎ (m < n)
+top-or n m h = elim (cases_lt m n) [
+  | inl low ↦ inr low
+  | inr high ↦ inl (omega (arith, h, high))
+]
+
+abbrev pub quiet-line : IdealAgent → PushPull → Bool → Call (Result (Unit {0}) MergeFault)
+quiet-line i m b = heard_by (cond (b && false) (Some (least_line kinds.Event m.event_clock)) None) i m false
+
+pub hears-quietly : (i : IdealAgent) (m : PushPull) (b : Bool) → (ended i (quiet-line i m b) Kept).agent ≡ joined m false i
+hears-quietly i m true = refl
+hears-quietly i m false = refl
+
+pub may-hear : (i : IdealAgent) (m : PushPull) (b : Bool) → MayEnd i (quiet-line i m b) Kept
+may-hear i m true = refl
+may-hear i m false = refl
+
+pub no-asking : (i : IdealAgent) (m : PushPull) (b : Bool) → AsksSink (quiet-line i m b) → ⊥
+no-asking i m true asks = asks
+no-asking i m false asks = asks
+
+pub local-out : (r : Result (List ℕ) PushPullFault) → gave_entries (gaves.State r) ≡ nothing
+local-out (Ok packet) = refl
+local-out (Err fault) = refl
+
+pub replied-out : (r : Result Reply RespondFault) → gave_entries (gaves.Replied r) ≡ nothing
+replied-out (Ok reply) = refl
+replied-out (Err fault) = refl
+
+pub local-hosted : (h : Host) (t : Session) (code : Code) (k : IsHosted h) → Says LocalState h.session t code → IsHosted (shown (pre h t))
+local-hosted h t code k may = by (is_ready h.session) refl
+  where
+    made-it : is_ready h.session ≡ true → t.agent ≡ h.session.agent → gave_entries t.gave ≡ nothing → IsHosted (shown (pre h t))
+    made-it ready same none = quiet-hosted h t k ready k.inside.agent (same-agent h.session t k.inside.agent h.file ready same (may.1 ready).2 k.inside.follows) k.inside.durable (λ a knows. knows) none (may.1 ready).5
+
+    by : (b : Bool) → is_ready h.session ≡ b → IsHosted (shown (pre h t))
+    by false is = waits-hosted h t k is (may.0 is).1
+    by true is = elim (want code) [
+      | inl out ↦ (let f = may.2 out in made-it is f.0 (gives-none t.gave f.1.0))
+      | inr other ↦ (let g = may.3 is other in made-it is (may.4 is other).1 (ap gave_entries g.1 ∙ local-out g.0))
+    ]
+
+pub observed-hosted : Below → (h : Host) (t : Session) (code : Code) (time : ℕ) (k : IsHosted h) → Says (Observe time) h.session t code → time < 2 ^ 64 → IsHosted (shown (beside h t))
+observed-hosted laws h t code time k may small = by (is_ready h.session) refl
+  where
+    i : IdealAgent
+    i = k.inside.agent
+
+    at-most : is_ready h.session ≡ true → (time ≡ 2 ^ 64 - 1) ⊎ (time < 2 ^ 64 - 1) → IsHosted (shown (beside h t))
+    at-most ready (inl none) =
+        let rest = may.1 ready in
+        let same = (may.2 ready none).1 in
+        beside-hosted h t k rest.0 rest.2 rest.6 i (same-lacking h.session t i h.file same rest.2 (ap (λ (a : AgentState). drop t.written (text_of a.device)) same ∙ ap (λ (n : ℕ). drop n (text_of h.session.agent.device)) rest.1) k.inside.follows) k.inside.durable (λ a knows. knows)
+    at-most ready (inr low) =
+        let rest = may.1 ready in
+        let heard = may.3 ready low i k.inside.follows.sound k.inside.follows.state in
+        let lacks : lacking t.agent.device t.written ≡ lacking h.session.agent.device h.session.written = ap (λ (d : Device). drop t.written (text_of d)) rest.7 ∙ ap (λ (n : ℕ). drop n (text_of h.session.agent.device)) rest.1 in
+        let act = Hears (clock_state (time + 1)) false Kept in
+        let is : lives.after i act ≡ joined (clock_state (time + 1)) false i = hears-quietly i (clock_state (time + 1)) i.config.keep_events in
+        let may_hear : MayAct i act = (may-hear i (clock_state (time + 1)) i.config.keep_events, omega (arith, low), λ asks. absurd (no-asking i (clock_state (time + 1)) i.config.keep_events asks)) in
+        beside-hosted h t k rest.0 rest.2 rest.6 (joined (clock_state (time + 1)) false i)
+        (record { state = heard.0; sound = heard.1; calm = k.inside.follows.calm; flushed = subst IsFlushed (sym rest.7) k.inside.follows.flushed; disk = k.inside.follows.disk ∙ ap (λ (x : List ℕ). Some x) (sym (ap (λ (b : Bool). cond b (lacking t.agent.device t.written) (h.file ++ lacking t.agent.device t.written)) rest.2 ∙ ap (λ (xs : List ℕ). cond h.session.replaces xs (h.file ++ xs)) lacks)) })
+        (subst IsDurable is (laws.durable i act k.inside.follows.sound k.inside.durable may_hear (omega arith))) (λ a knows. knows)
+
+    by : (b : Bool) → is_ready h.session ≡ b → IsHosted (shown (beside h t))
+    by false is = subst (λ (t : Session). IsHosted (shown (beside h t))) (sym (may.0 is).1) (still-hosted h k)
+    by true is = at-most is (top-or (2 ^ 64 - 1) time (omega (arith, small)))

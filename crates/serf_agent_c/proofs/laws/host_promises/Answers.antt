@@ -1,0 +1,32 @@
+use Rattle.serf_agent_c.proofs.HostedCalls.{Below}
+use Rattle.serf_agent_c.proofs.HostedLaws as hosts
+use Rattle.serf_agent_c.proofs.laws.host_promises.Goals as goal
+
+below : goal.After-decoded_ranges → Below
+below c = record {
+  once = c.once_steps.ensures.stays;
+  fires = c.once_steps.ensures.fires;
+  asks = c.once_steps.ensures.asks;
+  sound = c.once_steps.ensures.sound;
+  begins_sound = c.once_steps.ensures.begins_sound;
+  durable = c.kept_life_promises.ensures.stays;
+  begins_durable = c.kept_life_promises.ensures.begins;
+  opens = c.unseen_promises.ensures.opens_behind;
+  bytes = c.decoded_texts.ensures;
+  ranged = c.decoded_ranges.ensures;
+}
+
+pub returns-clause-once : goal.returns-clause-once
+returns-clause-once c = hosts.gives_once (below c)
+
+pub returns-clause-queries_once : goal.returns-clause-queries_once
+returns-clause-queries_once c = hosts.gives_queries_once (below c)
+
+pub returns-clause-later : goal.returns-clause-later
+returns-clause-later c = hosts.gives_later (below c)
+
+pub returns-clause-queries_later : goal.returns-clause-queries_later
+returns-clause-queries_later c = hosts.gives_queries_later (below c)
+
+pub returns-clause-exactly : goal.returns-clause-exactly
+returns-clause-exactly c = hosts.gives_exactly (below c)

@@ -1,0 +1,73 @@
+-- What each export leaves of the ideal agent that a session has, and of its host's file.
+use Rattle.std.specs.Prelude.{◌≡◌, ℕ, Bool, false, true, List, Some, length}
+use Rattle.serf_snap.specs.Device.{fresh_device}
+use Rattle.serf_snap.specs.Notes.{Kept}
+use Rattle.serf_window.specs.Texts.{event_of}
+use Rattle.serf_agent.specs.Calls.{Call, MayEnd, ended}
+use Rattle.serf_agent.specs.Events.{fire}
+use Rattle.serf_agent.specs.Ideal.{IdealAgent}
+use Rattle.serf_agent.specs.Lives.{Opens, after}
+use Rattle.serf_agent.specs.Once.{IsOnce}
+use Rattle.serf_agent.specs.Queries.{fire_query}
+use Rattle.serf_agent.specs.Receive.{receive_tagged}
+use Rattle.serf_agent.specs.Restart.{HasPast}
+use Rattle.serf_agent.specs.Sound.{IsSound}
+use Rattle.serf_agent.specs.States.{save}
+use Rattle.serf_agent.specs.View.{view_of}
+use Rattle.serf_agent_c.specs.declared.code.Code.{Code}
+use Rattle.serf_agent_c.specs.declared.gave.Gave.{Gave}
+use Rattle.serf_agent_c.specs.declared.gave.Gave.TheVariants as gaves
+use Rattle.serf_agent_c.specs.declared.heads.Params.{Params}
+use Rattle.serf_agent_c.specs.declared.heads.Settings.{Settings}
+use Rattle.serf_agent_c.specs.declared.session.Session.{Session}
+use Rattle.serf_agent_c.specs.Asking.{params_of}
+use Rattle.serf_agent_c.specs.Bursts.{IsFlushed, no_failure}
+use Rattle.serf_agent_c.specs.Codes.{number_of}
+use Rattle.serf_agent_c.specs.Hosts.{Deed, Host, MayHost, Fire, Query, Receive, Save, Says, first_host, hosted, text_at}
+use Rattle.serf_agent.specs.Config.{is_sound}
+use Rattle.serf_agent_c.specs.Opening.{GoesOn, IsFresh, config_of}
+use Rattle.serf_agent_c.specs.Reads.{GivesNothing}
+use Rattle.serf_agent_c.specs.Sessions.{is_ready}
+use Rattle.serf_agent_c.specs.Texts.{text_of}
+
+-- Of a session whose file is this, the ideal agent that it has: what is durable there is the file with what it lacks.
+pub record Follows (i : IdealAgent) (file : List ℕ) (s : Session) : Type 0 where
+  pub state : s.agent.concrete ≡ view_of i
+  pub sound : IsSound i
+  pub calm : i.snapshot.plan ≡ Some no_failure
+  pub flushed : IsFlushed s.agent.device
+  pub disk : i.snapshot.durable ≡ Some (text_at file s)
+
+-- A plain call: nothing was done, and nothing is given; or the ideal agent did it, and its answer is given.
+pub data Went {R : Type 0} (gave : R → Gave) (i : IdealAgent) (call : Call R) (file : List ℕ) (s t : Session) : Type 0 where
+  waits : is_ready s ≡ false → t ≡ s → Went gave i call file s t
+  rests : is_ready s ≡ true → Follows i file t → GivesNothing t.gave → Went gave i call file s t
+  goes : is_ready s ≡ true → MayEnd i call Kept → t.gave ≡ gave (ended i call Kept).answer → Follows (ended i call Kept).agent file t → Went gave i call file s t
+
+pub record HostSteps : Type 0 where
+  pub fires : (name payload : List ℕ) (coalesce : Bool) (s t : Session) (code : Code) (i : IdealAgent) (file : List ℕ) → Says (Fire name payload coalesce) s t code → Follows i file s → Went (λ r. gaves.Fired r) i (fire i (event_of name payload) coalesce) file s t
+  pub receives : (tags : Bool) (now : ℕ) (packet : List ℕ) (s t : Session) (code : Code) (i : IdealAgent) (file : List ℕ) → Says (Receive tags now packet) s t code → Follows i file s → Went (λ r. gaves.Received r) i (receive_tagged tags i now packet) file s t
+  pub asks : (now id : ℕ) (name payload addr : List ℕ) (params : Params) (s t : Session) (code : Code) (i : IdealAgent) (file : List ℕ) → Says (Query now id name payload addr params) s t code → Follows i file s → Went (λ r. gaves.Asked r) i (fire_query i now id name payload (params_of s.filters addr params)) file s t
+  pub saves : (s t : Session) (code : Code) (i : IdealAgent) (file : List ℕ) → Says Save s t code → Follows i file s → Went (λ r. gaves.Noted r) i (save i) file s t
+  -- the host's word
+  pub writes : (s t : Session) (i : IdealAgent) (file : List ℕ) → t.written ≡ length (text_of s.agent.device) → t.replaces ≡ false → t.agent ≡ s.agent → Follows i file s → Follows i (text_at file s) t
+  -- a kill, and the opening after it, of the agent that the host goes back to
+  pub opens : (name : List ℕ) (settings : Settings) (text : List ℕ) (t : Session) (i : IdealAgent) → IsSound i → HasPast (config_of name settings) i text → GoesOn name settings text t → IsFresh text t
+      → Follows (after i (Opens (config_of name settings) text (fresh_device text))) text t
+
+-- An agent that forgets nothing, which a host's session follows: what the getters can have given, it knows as handed out.
+pub record HasIdeal (h : Host) : Type 0 where
+  pub agent : IdealAgent
+  pub follows : Follows agent h.file h.session
+  pub knows : IsOnce agent.events.history h.given
+  pub knows_queries : IsOnce agent.queries.history h.queries
+
+-- A host has one always, whatever it did and whenever it was killed. So each call answers what such an agent answers (`HostSteps`).
+abbrev pub GivesExactly : Type 0
+GivesExactly =
+    (name : List ℕ) (settings : Settings) (text : List ℕ) (t : Session) (deeds : List Deed) → is_sound (config_of name settings) ≡ true → GoesOn name settings text t → IsFresh text t → MayHost name (first_host text t) deeds
+    → HasIdeal (hosted (first_host text t) deeds)
+
+-- each code has a number of its own: so the clauses of one export speak of one code
+abbrev pub CodesDiffer : Type 0
+CodesDiffer = (c d : Code) → number_of c ≡ number_of d → c ≡ d

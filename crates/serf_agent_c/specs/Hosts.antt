@@ -1,0 +1,182 @@
+-- What a host in C does with one handle and one file, over all its lives: exports with what each answered, its word that the file has
+-- the agent's text, and kills at any place. And what the getters can have given it of events and of queries.
+use Rattle.std.specs.Prelude.{◌≡◌, ◌≢◌, ◌⊎◌, ◌<◌, ◌^◌, ◌&&◌, ◌||◌, if◌then◌else◌, ℕ, Bool, true, false, List, [], ◌∷◌, ◌++◌, map, length, Option, Some, None, Result, Ok, All, AllPairs}
+use Rattle.serf_wire.specs.Bytes.{AreBytes}
+use Rattle.serf_wire.specs.declared.texts.EventBody.{EventBody}
+use Rattle.serf_window.specs.Texts.{event_of}
+use Rattle.serf_window.specs.Window.{TimedEntry}
+use Rattle.serf_agent.specs.declared.outcome.Fired.{Fired}
+use Rattle.serf_agent.specs.declared.outcome.FiredQuery.{FiredQuery}
+use Rattle.serf_agent.specs.Calls.{Call}
+use Rattle.serf_agent.specs.Config.{is_sound}
+use Rattle.serf_agent.specs.Events.{fire}
+use Rattle.serf_agent.specs.Ideal.{IdealAgent}
+use Rattle.serf_agent.specs.Lives.{event_entry, query_entries}
+use Rattle.serf_agent.specs.Queries.{fire_query}
+use Rattle.serf_agent.specs.Receive.{receive_tagged}
+use Rattle.serf_agent.specs.States.{compact, save}
+use Rattle.serf_agent_c.specs.declared.code.Code.{Code}
+use Rattle.serf_agent_c.specs.declared.code.Code.TheVariants.{Done}
+use Rattle.serf_agent_c.specs.declared.gave.Gave.{Gave}
+use Rattle.serf_agent_c.specs.declared.gave.Gave.TheVariants as gaves
+use Rattle.serf_agent_c.specs.declared.heads.Params.{Params}
+use Rattle.serf_agent_c.specs.declared.heads.Settings.{Settings}
+use Rattle.serf_agent_c.specs.declared.session.Session.{Session}
+use Rattle.serf_agent_c.specs.Asking.{Closes, Declines, Forgets, ForgetsFilters, ForgetsLate, Responds, params_of}
+use Rattle.serf_agent_c.specs.Bursts.{BurstCall, Extends, GoesToNext, Leaves, LeavesAgent, Stands}
+use Rattle.serf_agent_c.specs.Bursts as bursts
+use Rattle.serf_agent_c.specs.Calls.{Forgoes, Gives, Takes, Tells, Waits}
+use Rattle.serf_agent_c.specs.Codes.{fire_code, note_code, query_code, receive_code, state_code}
+use Rattle.serf_agent_c.specs.Gaves.{events_in, handed_in}
+use Rattle.serf_agent_c.specs.Merging.{Compacts, ForgetsMembers, IsUnbegun, IsUncompacted, IsUnmerged, MergesFrom, SendsState}
+use Rattle.serf_agent_c.specs.Observing.{Hears, IsNoTime, KeepsRest}
+use Rattle.serf_agent_c.specs.Opening.{GoesOn, IsFresh, config_of}
+use Rattle.serf_agent_c.specs.Sessions.{Appends, KeepsBurst, Numbers, is_ready}
+use Rattle.serf_agent_c.specs.Texts.{lacking, text_of}
+
+-- A call of an export, with what it was passed. The last stands for those that add a filter, a status time or a member that left.
+pub data Export : Type 0 where
+  Fire : List ℕ → List ℕ → Bool → Export
+  Receive : Bool → ℕ → List ℕ → Export
+  Query : ℕ → ℕ → List ℕ → List ℕ → List ℕ → Params → Export
+  Merge : List ℕ → Bool → Export
+  Save : Export
+  Compact : Export
+  CloseDue : ℕ → ℕ → Export
+  Observe : ℕ → Export
+  Respond : ℕ → ℕ → List ℕ → Export
+  Forget : ℕ → Export
+  LocalState : Export
+  Burst : BurstCall → Export
+  Next : ℕ → ℕ → Export
+  Add : Export
+
+-- what the clauses of an export say that makes one call of the agent
+abbrev pub Called : {R E : Type 0} → (Result R E → Gave) → (E → Code) → (IdealAgent → Call (Result R E)) → Session → Session → Code → Type 0
+Called gave fault_code call s t code = Waits s t code × Forgoes s t code × Gives gave fault_code s t code × Takes gave call s t code
+
+abbrev pub Bursted : BurstCall → Session → Session → Code → Type 0
+Bursted call s t code = Stands s t × Leaves s t code × Extends call s t code
+
+abbrev pub Says : Export → Session → Session → Code → Type 0
+Says (Fire name payload coalesce) s t code = Called (λ r. gaves.Fired r) fire_code (λ i. fire i (event_of name payload) coalesce) s t code × Tells s t
+Says (Receive tags now packet) s t code = Called (λ r. gaves.Received r) receive_code (λ i. receive_tagged tags i now packet) s t code × Tells s t
+Says (Query now id name payload addr params) s t code = Called (λ r. gaves.Asked r) query_code (λ i. fire_query i now id name payload (params_of s.filters addr params)) s t code × ForgetsFilters s t code
+Says (Merge packet is_join) s t code = Waits s t code × Tells s t × IsUnbegun s t code × IsUnmerged packet s t code × MergesFrom packet is_join s t code
+Says Save s t code = Called (λ r. gaves.Noted r) note_code (λ i. save i) s t code × Tells s t
+Says Compact s t code = Waits s t code × IsUncompacted s t code × Gives (λ r. gaves.Noted r) note_code s t code × Takes (λ r. gaves.Noted r) (λ i. compact i) s t code × Compacts s t code
+Says (CloseDue now closed) s t code = Waits s t code × ForgetsLate now s t code × Forgoes s t code × Closes now closed s t code
+Says (Observe time) s t code = Waits s t code × KeepsRest s t code × IsNoTime time s t code × Hears time s t code
+Says (Respond number now payload) s t code = Waits s t code × (t.agent ≡ s.agent) × Declines number s t code × Responds number now payload s t code
+Says (Forget number) s t code = Waits s t code × (t.agent ≡ s.agent) × Declines number s t code × Forgets number s t code
+Says LocalState s t code = Waits s t code × ForgetsMembers s t code × Forgoes s t code × Gives (λ r. gaves.State r) state_code s t code × SendsState s t code
+Says (Burst call) s t code = Bursted call s t code
+Says (Next old new) s t code = Waits s t code × (is_ready s ≡ true → Appends s t × Numbers s t) × LeavesAgent s t × GoesToNext old new s t code
+Says Add s t code = (t.agent ≡ s.agent) × (t.gave ≡ s.gave) × (t.written ≡ s.written) × (t.replaces ≡ s.replaces) × KeepsBurst s t
+
+-- whether an export puts what it gives in the place of what was given before
+abbrev pub gives : Export → Bool
+gives (Observe time) = false
+gives (Burst call) = false
+gives Add = false
+gives _ = true
+
+-- What is passed is what C's types have: bytes, and an ID below 2^32.
+abbrev pub IsPassed : Export → Type 0
+IsPassed (Fire name payload coalesce) = AreBytes name × AreBytes payload
+IsPassed (Receive tags now packet) = AreBytes packet
+IsPassed (Query now id name payload addr params) = id < 2 ^ 32
+IsPassed (Merge packet is_join) = AreBytes packet
+IsPassed (Observe time) = time < 2 ^ 64
+IsPassed (Burst (bursts.Receives tags now packet)) = AreBytes packet
+IsPassed (Burst (bursts.Fires name payload coalesce)) = AreBytes name × AreBytes payload
+IsPassed (Burst (bursts.Asks now id name payload params)) = id < 2 ^ 32
+IsPassed _ = Unit {0}
+
+-- A host: the session of its handle; what its file begins with, by its word, and a text that is to replace that, which it may have
+-- done already; the events that the getters can have given it, and the queries, each by its time and ID; and whether those of the
+-- last call aren't among them yet.
+pub record Host : Type 0 where
+  pub session : Session
+  pub file : List ℕ
+  pub new : Option (List ℕ)
+  pub given : List (TimedEntry EventBody)
+  pub queries : List (TimedEntry ℕ)
+  pub fresh : Bool
+
+-- once the file has all of the agent's text, the getters can give what the last call gave
+-- (a query that is still to be put with those that wait was given by an earlier call)
+abbrev pub shown : Host → Host
+shown h =
+    if h.fresh && is_ready h.session
+    then record h { given = h.given ++ map event_entry (events_in h.session.gave); queries = h.queries ++ query_entries (handed_in h.session.gave); fresh = false }
+    else h
+
+-- the agent's text, by the bytes that the host's file lacks
+abbrev pub text_at : List ℕ → Session → List ℕ
+text_at file s = if s.replaces then lacking s.agent.device s.written else file ++ lacking s.agent.device s.written
+
+-- a text that is to replace the file's: that of a compaction which was done
+abbrev pub replacing : Option (List ℕ) → Export → Session → Code → Option (List ℕ)
+replacing new Compact t Done = Some (lacking t.agent.device t.written)
+replacing new e t code = new
+
+-- An export, with the session and the code that it left; the host's word that its file has the agent's text; and the end of a session,
+-- by a kill or by `serf_agent_close`, and the opening of the next on a text.
+pub data Deed : Type 0 where
+  Calls : Export → Session → Code → Deed
+  Writes : Session → Deed
+  Dies : Settings → List ℕ → Session → Deed
+
+abbrev pub did : Host → Deed → Host
+did h (Calls e t code) = shown (record h { session = t; new = replacing h.new e t code; fresh = h.fresh || (gives e && is_ready h.session) })
+did h (Writes t) = shown (record h { session = t; file = text_at h.file h.session; new = None })
+did h (Dies settings text t) = record h { session = t; file = text; new = None; fresh = false }
+
+-- a text begins with what the file has by the host's word, or with the text that was to replace it
+pub record BeginsWith (h : Host) (text : List ℕ) : Type 0 where
+  pub front : List ℕ
+  pub tail : List ℕ
+  pub whole : text ≡ front ++ tail
+  pub is : (front ≡ h.file) ⊎ (h.new ≡ Some front)
+
+abbrev pub MayDo : List ℕ → Host → Deed → Type 0
+MayDo name h (Calls e t code) = Says e h.session t code × IsPassed e
+MayDo name h (Writes t) = (t.written ≡ length (text_of h.session.agent.device)) × (t.replaces ≡ false) × (t.agent ≡ h.session.agent) × (t.gave ≡ h.session.gave) × KeepsBurst h.session t
+MayDo name h (Dies settings text t) = (is_sound (config_of name settings) ≡ true) × GoesOn name settings text t × IsFresh text t × BeginsWith h text
+
+abbrev pub hosted : Host → List Deed → Host
+hosted h [] = h
+hosted h (deed ∷ rest) = hosted (did h deed) rest
+
+abbrev pub MayHost : List ℕ → Host → List Deed → Type 0
+MayHost name h [] = Unit {0}
+MayHost name h (deed ∷ rest) = MayDo name h deed × MayHost name (did h deed) rest
+
+-- the host of a first session, on a text
+abbrev pub first_host : List ℕ → Session → Host
+first_host text t = record { session = t; file = text; new = None; given = []; queries = []; fresh = false }
+
+-- Of the events that the getters can have given in all lives, no two have one time, name and payload.
+abbrev pub GivesOnce : Type 0
+GivesOnce =
+    (name : List ℕ) (settings : Settings) (text : List ℕ) (t : Session) (deeds : List Deed) → is_sound (config_of name settings) ≡ true → GoesOn name settings text t → IsFresh text t → MayHost name (first_host text t) deeds
+    → AllPairs (λ x y. x ≢ y) (hosted (first_host text t) deeds).given
+
+-- Of the queries no two have one time and ID.
+abbrev pub GivesQueriesOnce : Type 0
+GivesQueriesOnce =
+    (name : List ℕ) (settings : Settings) (text : List ℕ) (t : Session) (deeds : List Deed) → is_sound (config_of name settings) ≡ true → GoesOn name settings text t → IsFresh text t → MayHost name (first_host text t) deeds
+    → AllPairs (λ x y. x ≢ y) (hosted (first_host text t) deeds).queries
+
+-- An event that is fired has a time above those of all events that the getters can have given before, in any life.
+abbrev pub GivesLater : Type 0
+GivesLater =
+    (name : List ℕ) (settings : Settings) (text : List ℕ) (first t : Session) (deeds : List Deed) (what payload : List ℕ) (coalesce : Bool) (code : Code) (f : Fired) → is_sound (config_of name settings) ≡ true → GoesOn name settings text first → IsFresh text first → MayHost name (first_host text first) deeds
+    → let before = hosted (first_host text first) deeds in is_ready before.session ≡ true → Says (Fire what payload coalesce) before.session t code → t.gave ≡ gaves.Fired (Ok f) → All (λ e. e.time < f.handed.time) before.given
+
+-- A query that is fired has a time above those of all queries that they can have given before, in any life.
+abbrev pub GivesQueriesLater : Type 0
+GivesQueriesLater =
+    (name : List ℕ) (settings : Settings) (text : List ℕ) (first t : Session) (deeds : List Deed) (now id : ℕ) (what payload addr : List ℕ) (params : Params) (code : Code) (f : FiredQuery) → is_sound (config_of name settings) ≡ true → GoesOn name settings text first → IsFresh text first → MayHost name (first_host text first) deeds
+    → let before = hosted (first_host text first) deeds in is_ready before.session ≡ true → Says (Query now id what payload addr params) before.session t code → t.gave ≡ gaves.Asked (Ok f) → All (λ e. e.time < f.time) before.queries

@@ -1,0 +1,156 @@
+//! The queries that were handed out and wait for an answer.
+
+ghost use Rattle.std.specs.Prelude.{◌≡◌, ◌≢◌, ◌==◌, ◌<◌, ◌≤◌, ◌-◌, ◌^◌, All, AllPairs};
+ghost use Rattle.std.specs.List.{insert, position};
+ghost use Rattle.std.specs.Vec.{vec_len, vec_capacity};
+
+use serf_agent::{HandedQuery, Reply, RespondFault};
+use std::alloc::Global;
+
+/// The queries that were handed out and wait for an answer, each by its number, in order. A query that was answered or
+/// forgotten is gone, and its number isn't given again.
+#[derive(Drop)]
+pub struct Waiting {
+    /// How many were handed out so far: the last one has this number.
+    pub(crate) handed: u64,
+    pub(crate) queries: Vec<(u64, HandedQuery)>,
+    ghost room: { handed < 2 ^ 64 - 1 },
+    ghost below: { All (λ w. w.0 ≤ handed) queries.items },
+    ghost once: { AllPairs (λ v w. v.0 < w.0) queries.items },
+}
+
+/// Where the query of a number is, if it waits: found by halves, since the numbers rise.
+fn place_of(queries: &[(u64, HandedQuery)], number: u64) -> Option<usize>
+    requires { AllPairs (λ v w. v.0 < w.0) queries.now }
+    ensures { result ≡ position (λ w. w.0 == number) queries.now }
+{
+    queries.binary_search_by_key(&number, |&(own, _)| own).ok()
+}
+
+/// Puts a query back where it was taken out.
+fn put_back(queries: &mut Vec<(u64, HandedQuery)>, index: usize, query: (u64, HandedQuery))
+    requires { (index ≤ vec_len queries.old) × (vec_len queries.old < vec_capacity queries.old) }
+    ensures { queries.new.items ≡ insert queries.old.items index query }
+{
+    match queries.insert(index, query) {
+        Ok(()) => {}
+        Err(_) => unreachable!(),
+    }
+}
+
+impl Waiting {
+    ghost use Rattle.std.specs.Prelude.{[], ◌+◌, nat_le, None, Some, Err, IfErr, OnErr, OnOk, true, false, option_copied};
+    ghost use Rattle.serf_agent.specs.Handed.{Handed};
+    ghost use Rattle.serf_agent_c.specs.Asking.{left_of, reply_of};
+    ghost use Rattle.serf_agent_c.specs.Numbered.{IsNumbered, WaitsInTime, in_time, numbered, waiting_at, with_handed, without};
+
+    /// No query was handed out. Takes no memory.
+    pub(crate) fn new(alloc: Global) -> Waiting
+        ensures { numbered result ≡ record { handed = 0; waiting = [] } }
+    {
+        Waiting {
+            handed: 0,
+            queries: Vec::new(alloc),
+        }
+    }
+
+    /// The number of the query that is handed out next. Takes no memory.
+    pub(crate) fn next_number(&self) -> u64
+        ensures { result ≡ self.now.handed + 1 }
+    {
+        self.handed + 1
+    }
+
+    /// Puts a query after the others, by the next number; or gives it back where there is no memory for it, or no number.
+    pub(crate) fn push(&mut self, query: HandedQuery) -> Result<(), HandedQuery>
+        ensures ok { OnOk result (numbered self.new
+            ≡ with_handed (Some query) (numbered self.old)) }
+        ensures err { OnErr result (numbered self.new ≡ numbered self.old) }
+        ensures back { IfErr result (λ q. q ≡ query) }
+    {
+        let number = self.next_number();
+        if number == u64::MAX {
+            return Err(query);
+        }
+        match self.queries.push((number, query)) {
+            Ok(()) => {
+                self.handed = number;
+                Ok(())
+            }
+            Err(refused) => Err(refused.value.1),
+        }
+    }
+
+    /// The query of a number, if it waits. Takes no memory.
+    pub(crate) fn get(&self, number: u64) -> Option<&HandedQuery>
+        ensures { option_copied result ≡ waiting_at number self.now.queries.items }
+    {
+        let Some(index) = place_of(self.queries.as_slice(), number) else {
+            return None;
+        };
+        match self.queries.get(index) {
+            Some(query) => Some(&query.1),
+            None => None,
+        }
+    }
+
+    /// Answers the query of a number, if it waits; a success takes it out.
+    pub(crate) fn respond(
+        &mut self,
+        alloc: Global,
+        number: u64,
+        now: u64,
+        payload: &[u8],
+    ) -> Option<Result<Reply, RespondFault>>
+        ensures none { waiting_at number self.old.queries.items ≡ None → result ≡ None }
+        ensures unknown { result ≡ None → numbered self.new ≡ numbered self.old }
+        ensures memory { result ≡ Some (Err RespondFault.OutOfMemory)
+            → numbered self.new ≡ numbered self.old }
+        ensures some { (q : Handed) → waiting_at number self.old.queries.items ≡ Some q
+            → result ≢ Some (Err RespondFault.OutOfMemory)
+            → (result ≡ Some (reply_of q now payload.now))
+            × (numbered self.new
+            ≡ left_of number (reply_of q now payload.now) (numbered self.old)) }
+    {
+        let Some(index) = place_of(self.queries.as_slice(), number) else {
+            return None;
+        };
+        let (number, query) = self.queries.remove(index);
+        match query.respond(alloc, now, payload) {
+            Ok(reply) => Some(Ok(reply)),
+            Err((query, fault)) => {
+                put_back(&mut self.queries, index, (number, query));
+                Some(Err(fault))
+            }
+        }
+    }
+
+    /// Takes the query of a number out, if it waits, and says whether it did. Takes no memory.
+    pub(crate) fn forget(&mut self, number: u64) -> bool
+        ensures known { (q : Handed) → waiting_at number self.old.queries.items ≡ Some q
+            → result ≡ true }
+        ensures unknown { waiting_at number self.old.queries.items ≡ None → result ≡ false }
+        ensures left { numbered self.new ≡ without number (numbered self.old) }
+        ensures same { result ≡ false → numbered self.new ≡ numbered self.old }
+    {
+        match place_of(self.queries.as_slice(), number) {
+            Some(index) => {
+                drop(self.queries.remove(index));
+                true
+            }
+            None => false,
+        }
+    }
+
+    /// Takes out the queries whose deadline is before a moment. Takes no memory.
+    pub(crate) fn forget_late(&mut self, now: u64)
+        ensures left { numbered self.new ≡ in_time now (numbered self.old) }
+        ensures in_time { WaitsInTime now (numbered self.new) }
+    {
+        self.queries.retain(
+            |query: &(u64, HandedQuery)| -> bool
+                ensures { result ≡ nat_le now query.now.1.deadline }
+            { now <= query.1.deadline() },
+        );
+    }
+}

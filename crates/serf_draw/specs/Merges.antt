@@ -1,0 +1,62 @@
+-- Merges that hand nothing out, and restarts.
+use Rattle.std.specs.Prelude.{ℕ, ◌==◌, ◌++◌, nat_le, if◌then◌else◌, List, [], ◌∷◌, length, codes, decimal, Option, Some, None, Result, Ok}
+use Rattle.std.specs.List.{flat_map, list_any}
+use Rattle.serf_wire.specs.declared.fault.WireFault.{WireFault}
+use Rattle.serf_wire.specs.Decoded.{decoded}
+use Rattle.serf_wire.specs.Message.{Message, push_pull}
+use Rattle.serf_wire.specs.Slots.{SlotContent, empty, held}
+use Rattle.serf_model.specs.declared.action.Act.TheVariants as acts
+use Rattle.serf_model.specs.declared.action.Action.{Action}
+use Rattle.serf_model.specs.declared.action.Action.TheVariants as actions
+use Rattle.serf_model.specs.declared.line.Answer.{Answer}
+use Rattle.serf_model.specs.declared.line.Answer.TheVariants as answers
+use Rattle.serf_model.specs.declared.line.EventLine.{EventLine}
+use Rattle.serf_schedule.specs.Show.{answer_text}
+
+-- the times of the events that a state carries, in their order: of a slot, of all slots, and of a packet
+abbrev pub slot_times : SlotContent → List ℕ
+slot_times empty = []
+slot_times (held t events) = flat_map (λ e. t ∷ []) events
+
+abbrev pub slots_times : List SlotContent → List ℕ
+slots_times slots = flat_map slot_times slots
+
+abbrev pub times_said : Result Message WireFault → List ℕ
+times_said (Ok (push_pull m)) = slots_times m.slots
+times_said _ = []
+
+abbrev pub times_given : Option (List ℕ) → List ℕ
+times_given None = []
+times_given (Some packet) = times_said (decoded packet)
+
+-- those that a merge brings, where this packet is given; another action brings none
+abbrev pub times_brought : Action → Option (List ℕ) → List ℕ
+times_brought (actions.Of agent (acts.Merge packet join)) given = times_given given
+times_brought _ given = []
+
+-- those of a merge that handed none of them out
+abbrev pub passed_over : Answer → List EventLine → List ℕ → List ℕ
+passed_over answers.Merged events times = if length events == 0 then times else []
+passed_over answer events times = []
+
+-- this least time, where all of them are below it
+unfoldable pub below_least : List ℕ → ℕ → List ℕ
+below_least times least = if list_any (λ t. nat_le least t) times then [] else codes ", below " ++ decimal least
+
+-- the least time that the agent takes, where all of them are below it
+abbrev pub below_words : List ℕ → Option ℕ → List ℕ
+below_words times None = []
+below_words times (Some least) = below_least times least
+
+-- nothing of so many events
+unfoldable pub nothing_of : ℕ → List ℕ
+nothing_of n = codes ": nothing of " ++ decimal n
+
+-- how many there are, and why
+abbrev pub passed_words : List ℕ → Option ℕ → List ℕ
+passed_words times least = if length times == 0 then [] else nothing_of (length times) ++ below_words times least
+
+-- What came of an action, where its agent takes events from this time on: of a restart just that.
+abbrev pub came_words : Answer → Option ℕ → List ℕ
+came_words (answers.Restarted member_clock event_clock query_clock) (Some least) = codes "started again: events from " ++ decimal least
+came_words answer least = answer_text answer

@@ -1,0 +1,13 @@
+use Rattle.std.proofs.Common.{List, take, take_all, sym, subst}
+use Rattle.serf_judge.specs.declared.entry.EventEntry.{EventEntry}
+use Rattle.serf_judge.specs.Fired.{AreNoted}
+use Rattle.serf_judge.proofs.TallyLaws.{take-next}
+use Rattle.serf_judge.proofs.fired.all_firings.Goals as goal
+
+pub loop-entry-preserved : goal.loop-entry-preserved
+loop-entry-preserved c =
+    let next = take-next c.args.fired.now c.loop-entry.entry-index c.entry-item.result c.loop-entry-test.true c.entry-item.is in
+    subst (λ (fs : List EventEntry). AreNoted c.args.starts.now fs c.note.new.table) (sym next) (c.in_ok-note.ensures (take c.loop-entry.entry-index c.args.fired.now) c.loop-entry.invariant)
+
+pub returns : goal.returns
+returns c = subst (λ (fs : List EventEntry). AreNoted c.args.starts.now fs c.loop-entry.table) (take_all c.loop-entry.entry-index c.args.fired.now c.loop-entry-test.false) c.loop-entry.invariant

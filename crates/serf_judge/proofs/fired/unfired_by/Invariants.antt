@@ -1,0 +1,8 @@
+use Rattle.std.proofs.Common.{◌≡◌, ℕ, ◌<◌, Some, List, true}
+use Rattle.std.specs.Prelude.{slice_get}
+use Rattle.serf_judge.specs.declared.entry.EventEntry.{EventEntry}
+use Rattle.serf_judge.specs.Fired.{AreNoted, was_fired}
+use Rattle.serf_judge.proofs.fired.unfired_by.Given as goal
+
+abbrev pub invariant-loop-place : goal.invariant-loop-place
+invariant-loop-place l = (fired : List EventEntry) → AreNoted l.starts fired l.table → (k : ℕ) (e : EventEntry) → k < l.place → slice_get l.events k ≡ Some e → was_fired l.starts fired e ≡ true

@@ -1,0 +1,12 @@
+use Rattle.std.proofs.Common.{◌≡◌, length}
+use Rattle.std.specs.List.{list_any}
+use Rattle.serf_text.specs.Lines.{lines_of}
+use Rattle.serf_judge.specs.Kept.{is_line_wanted}
+use Rattle.serf_judge.proofs.kept.has_line.Given as goal
+
+-- what is left has such a line just where all has one
+abbrev pub invariant-lines : goal.invariant-lines
+invariant-lines l = list_any (is_line_wanted l.own) (lines_of l.rest) ≡ list_any (is_line_wanted l.fn.own) (lines_of l.fn.text)
+
+abbrev pub decreases-lines : goal.decreases-lines
+decreases-lines l = length l.rest

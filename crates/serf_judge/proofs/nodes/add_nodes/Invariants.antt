@@ -1,0 +1,6 @@
+use Rattle.std.proofs.Common.{◌≡◌, ◌++◌, take}
+use Rattle.serf_judge.specs.Nodes.{nodes_in, texts_of}
+use Rattle.serf_judge.proofs.nodes.add_nodes.Given as goal
+
+abbrev pub invariant-loop-entry : goal.invariant-loop-entry
+invariant-loop-entry g l = texts_of l.nodes.items ≡ texts_of l.fn.nodes.items ++ nodes_in g.E.HandedOut.seen (take l.entry-index l.entries)

@@ -1,0 +1,134 @@
+//! `decode`: the message that a packet spells, of one packet in hex or of one a line; and `encode`: texts of messages to
+//! packets, with an empty line after each text.
+
+use crate::fault::{Ended, Fault, Status, stream_fault};
+use crate::io::Io;
+use crate::options::Takes::Place;
+use crate::options::{CommandRow, rows};
+use clap::ArgMatches;
+use hex::FromHexError;
+use serf_packets::{Framing, FramingNotes, decode_lines, encode_blocks, framing_of};
+use serf_text::{DecodeTextFault, decode_text};
+
+/// What `decode` takes.
+pub(crate) const DECODE: CommandRow = CommandRow {
+    name: "decode",
+    about: "Prints the message that a packet spells",
+    example: "Example: serf-replay decode 0381a44e616d65a178, or serf-replay decode < packets",
+    rows: rows! {
+        "HEX" Place => "The packet in hex digits; where it is left out or `-`, each line of standard input is one";
+    },
+};
+
+/// What `encode` takes: nothing.
+pub(crate) const ENCODE: CommandRow = CommandRow {
+    name: "encode",
+    about: "Writes the canonical packet of each message on standard input, as decode writes them",
+    example: "Example: serf-replay decode < packets | serf-replay encode",
+    rows: &[],
+};
+
+/// Reports framing on standard error, a line for each packet.
+#[derive(Drop)]
+struct Told<'a>(Io<'a>);
+
+/// What is said of a packet.
+fn said_of(framing: Framing) -> &'static str {
+    match framing {
+        Framing::Probe => "looks like memberlist's own: a ping or an ack",
+        Framing::Rumour => "looks like memberlist's own: that a node is suspect, alive or dead",
+        Framing::Compound => "begins as memberlist's framing: 7, a compound message",
+        Framing::User => "begins as memberlist's framing: 8, a user message",
+        Framing::Compressed => "begins as memberlist's framing: 9, a compressed message",
+        Framing::Checksum => "begins as memberlist's framing: 12, a checksum",
+    }
+}
+
+impl FramingNotes for Told<'_> {
+    fn framed(&mut self, line: u64, framing: Framing) {
+        let said = said_of(framing);
+        let _ = eprintln!(self.0.rt; "line {line} {said}");
+    }
+}
+
+/// Writes the answer to each line of standard input.
+fn decode_all<'a>(io: Io) -> Ended<'a> {
+    let mut output = io.output();
+    let mut source = io.source(None)?;
+    let outcome = decode_lines(io.alloc(), &mut source, &mut output, &mut Told(io));
+    let is_refused = outcome.map_err(|fault| stream_fault(fault, "BadHex"))?;
+    Ok(Status::refused_if(is_refused))
+}
+
+/// Prints the message of a packet.
+fn print_message<'a>(io: Io, packet: &[u8]) -> Ended<'a> {
+    let text = match decode_text(io.alloc(), packet) {
+        Ok(text) => text,
+        Err(DecodeTextFault::Refused(fault)) => {
+            let _ = eprintln!(io.rt; "refused {fault}");
+            return Ok(Status::Refused);
+        }
+        Err(DecodeTextFault::OutOfMemory) => return Err(Fault::NoMemory),
+    };
+    io.finish(&text)
+}
+
+/// The place of the first character that is no hex digit, counted from 1.
+fn other_place(text: &str) -> Option<u64> {
+    let mut place: u64 = 0;
+    for character in text.chars() {
+        place = place.saturating_add(1);
+        if !character.is_ascii_hexdigit() {
+            return Some(place);
+        }
+    }
+    None
+}
+
+/// Says why a word is no packet in hex. Of one that names a file the second line says how a file is read.
+fn tell_bad_hex(io: Io, text: &str) -> Status {
+    let count = text.len();
+    let _ = match other_place(text) {
+        Some(place) => eprintln!(io.rt; "bad hex: character {place} is no hex digit"),
+        None => eprintln!(io.rt; "bad hex: an odd number of digits, {count}"),
+    };
+    if io.file(text).is_ok() {
+        let _ = eprintln!(io.rt; "a file? serf-replay decode < {text}");
+    }
+    Status::Refused
+}
+
+/// Prints the message of a packet in hex, after a line on standard error where it has framing.
+fn decode_word<'a>(io: Io, text: &str) -> Ended<'a> {
+    let packet = match hex::decode(io.alloc(), text) {
+        Ok(packet) => packet,
+        Err(FromHexError::OutOfMemory) => return Err(Fault::NoMemory),
+        Err(_) => return Ok(tell_bad_hex(io, text)),
+    };
+    if let Some(framing) = framing_of(&packet) {
+        let said = said_of(framing);
+        let _ = eprintln!(io.rt; "the packet {said}");
+    }
+    print_message(io, &packet)
+}
+
+/// Prints the message of the packet that is given, or of each on standard input.
+pub(super) fn decode<'a>(io: Io, matches: &ArgMatches<'a>) -> Ended<'a> {
+    match matches.get_str("HEX") {
+        None | Some("-") => decode_all(io),
+        Some(text) => decode_word(io, text),
+    }
+}
+
+/// Writes the answer to each text on standard input. One that the end of the input cuts off gets a line on standard
+/// error.
+pub(super) fn encode<'a>(io: Io, _matches: &ArgMatches<'a>) -> Ended<'a> {
+    let mut output = io.output();
+    let mut source = io.source(None)?;
+    let outcome = encode_blocks(io.alloc(), &mut source, &mut output);
+    let blocks = outcome.map_err(|fault| stream_fault(fault, "BadText"))?;
+    if blocks.is_cut {
+        let _ = eprintln!(io.rt; "the last text is cut off: its last line has no newline");
+    }
+    Ok(Status::refused_if(blocks.is_cut || blocks.is_refused))
+}

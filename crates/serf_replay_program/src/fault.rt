@@ -1,0 +1,239 @@
+//! How a command ends: its status, and the line on standard error where it ends at a fault.
+
+use crate::io::{Io, name_of};
+use serf_draw::DrawFault;
+use serf_schedule::{ReplayFault, ScheduleFault};
+use serf_text::{Cause, InputFault, StreamFault};
+use serf_write::Fault as BadWord;
+use std::alloc::AllocError;
+use std::io;
+
+/// The status of the program.
+#[derive(Clone, Copy, PartialEq, Eq, PartialOrd, Ord)]
+pub(crate) enum Status {
+    /// The command is done, or help was asked for.
+    Done,
+    /// The input was refused, or a promise is broken, or an agent disagrees.
+    Refused,
+    /// The command line was refused.
+    CommandLine,
+    /// A device failed, or memory ran out.
+    Device,
+}
+
+impl Status {
+    /// The number with which the program ends: 0 to 3, as they stand.
+    pub(crate) fn code(self) -> u8 {
+        self as u8
+    }
+
+    /// That of a job which refused a part of its input, or none.
+    pub(crate) fn refused_if(is_refused: bool) -> Status {
+        if is_refused {
+            Status::Refused
+        } else {
+            Status::Done
+        }
+    }
+}
+
+/// Why a command ends. The input is that of its word `FILE`, or else standard input.
+#[derive(Clone, Copy)]
+pub(crate) enum Fault<'a> {
+    NoMemory,
+    /// The input could not be read.
+    ReadFault,
+    /// The file of this name, or standard input, could not be read.
+    ReadFaultOf(&'a str),
+    /// The input is too long.
+    TooLong,
+    /// Standard output, or a file, could not be written.
+    WriteFault,
+    /// The line of a schedule with this number is bad.
+    BadLine(u64, Cause),
+    /// The line of a stream with this number is bad, for what the word says.
+    BadStreamLine(u64, &'static str),
+    /// In the line of a written schedule with this number a word is none of those that are wanted.
+    BadWord(u64, BadWord),
+    /// The line of a log with this number has too many bytes. A log alone has no name.
+    LongLogLine(Option<&'a str>, u64),
+    /// What is wrong with the file of this name.
+    File(&'a str, &'static str, Status),
+    /// The command line is refused for what these texts say, one after another.
+    CommandLine(&'a str, &'a str, &'a str, &'a str, &'a str),
+    /// The word names an agent by a number that is none of so many.
+    NoAgent(&'a str, u64),
+}
+
+/// What a command comes to.
+pub(crate) type Ended<'a> = Result<Status, Fault<'a>>;
+
+/// The command line is refused for what a sentence says.
+pub(crate) fn command_line<'a>(why: &'a str) -> Fault<'a> {
+    Fault::CommandLine(why, "", "", "", "")
+}
+
+/// A stream ends at a fault. This word says why its lines are bad.
+pub(crate) fn stream_fault<'a, F: Copy>(fault: StreamFault<F>, word: &'static str) -> Fault<'a> {
+    match fault {
+        StreamFault::ReadFault => Fault::ReadFault,
+        StreamFault::BadLine { line, .. } => Fault::BadStreamLine(line, word),
+        StreamFault::LineTooLong { line } => Fault::BadStreamLine(line, "TooLong"),
+        StreamFault::OutOfMemory => Fault::NoMemory,
+        StreamFault::WriteFault => Fault::WriteFault,
+    }
+}
+
+impl From<AllocError> for Fault<'_> {
+    fn from(_: AllocError) -> Self {
+        Fault::NoMemory
+    }
+}
+
+impl From<InputFault> for Fault<'_> {
+    fn from(fault: InputFault) -> Self {
+        match fault {
+            InputFault::ReadFault => Fault::ReadFault,
+            InputFault::ReadTooLong => Fault::TooLong,
+            InputFault::OutOfMemory => Fault::NoMemory,
+        }
+    }
+}
+
+impl From<ScheduleFault> for Fault<'_> {
+    fn from(fault: ScheduleFault) -> Self {
+        match fault {
+            ScheduleFault::BadLine { line, cause } => Fault::BadLine(line, cause),
+            ScheduleFault::OutOfMemory => Fault::NoMemory,
+        }
+    }
+}
+
+impl From<ReplayFault> for Fault<'_> {
+    fn from(fault: ReplayFault) -> Self {
+        match fault {
+            ReplayFault::BadLine { line, cause } => Fault::BadLine(line, cause),
+            ReplayFault::ReadTooLong => Fault::TooLong,
+            ReplayFault::ReadFault => Fault::ReadFault,
+            ReplayFault::WriteFault => Fault::WriteFault,
+            ReplayFault::OutOfMemory => Fault::NoMemory,
+        }
+    }
+}
+
+impl From<StreamFault<Cause>> for Fault<'_> {
+    fn from(fault: StreamFault<Cause>) -> Self {
+        match fault {
+            StreamFault::BadLine { line, fault } => Fault::BadLine(line, fault),
+            other => stream_fault(other, ""),
+        }
+    }
+}
+
+impl From<DrawFault> for Fault<'_> {
+    fn from(fault: DrawFault) -> Self {
+        match fault {
+            DrawFault::BadLine { line, cause } => Fault::BadLine(line, cause),
+            DrawFault::NoAgent { .. } => command_line("--agent: no agent of the schedule"),
+            DrawFault::OutOfMemory => Fault::NoMemory,
+        }
+    }
+}
+
+/// What the cause of a bad line of a schedule means.
+fn meaning_of(cause: Cause) -> &'static str {
+    match cause {
+        Cause::UnknownWord => {
+            "a line begins with agent, fire, deliver, state, merge, query, respond, restart, break, inject, close, save or compact; a text with labels goes through serf-replay write first"
+        }
+        Cause::LateAgent => "all agents stand before the first action",
+        Cause::WordCount => {
+            "the line has more or fewer words than its command takes; a text with names goes through serf-replay write first"
+        }
+        Cause::BadWord(_) => {
+            "this word, with the command counted as 1, isn't as its command takes it (docs/SPEC.md, Schedules); a text with names goes through serf-replay write first"
+        }
+        Cause::BadConfig => {
+            "a name has 1 to 128 bytes, the limit is at most 9216, and the other numbers of an agent are 1 to 65536"
+        }
+        Cause::NameTwice => "an agent above has this name",
+    }
+}
+
+/// Writes the line of a device that failed, with the cause where the system told one.
+fn put_device_fault(io: Io, name: &str, what: &str) -> io::Result<()> {
+    match io.cause.get() {
+        Some(cause) => eprintln!(io.rt; "{name}{what}: {cause}"),
+        None => eprintln!(io.rt; "{name}{what}"),
+    }
+}
+
+impl Fault<'_> {
+    /// The status of a command that ends so.
+    fn status(self) -> Status {
+        match self {
+            Fault::NoMemory | Fault::ReadFault | Fault::ReadFaultOf(_) | Fault::WriteFault => {
+                Status::Device
+            }
+            Fault::CommandLine(..) | Fault::NoAgent(..) => Status::CommandLine,
+            Fault::File(_, _, status) => status,
+            _ => Status::Refused,
+        }
+    }
+
+    /// What a person reads behind the fault's line; empty where there is no more to say.
+    fn meaning(self) -> &'static str {
+        match self {
+            Fault::BadLine(_, cause) => meaning_of(cause),
+            Fault::BadStreamLine(_, "BadHex") => "a packet stands in hex digits, two for each byte",
+            Fault::BadStreamLine(..) => "a line has at most 16777216 bytes",
+            _ => "",
+        }
+    }
+
+    /// Writes the fault's line on standard error, of the input in this file.
+    fn put_line(self, io: Io, file: Option<&str>) {
+        let rt = io.rt;
+        let name = name_of(file);
+        let _ = match self {
+            Fault::NoMemory => eprintln!(rt; "no memory"),
+            Fault::ReadFault => put_device_fault(io, name, ": read fault"),
+            Fault::ReadFaultOf(path) => put_device_fault(io, name_of(Some(path)), ": read fault"),
+            Fault::TooLong => eprintln!(rt; "too long"),
+            Fault::WriteFault if io.has_no_reader() => Ok(()),
+            Fault::WriteFault => put_device_fault(io, "", "write fault"),
+            Fault::BadLine(line, cause) => eprintln!(rt; "bad line {line} {cause}"),
+            Fault::BadStreamLine(line, word) => eprintln!(rt; "bad line {line} {word}"),
+            Fault::BadWord(line, BadWord { place, wanted }) => {
+                eprintln!(rt; "bad line {line} word {place}: {wanted}")
+            }
+            Fault::LongLogLine(None, line) => eprintln!(rt; "bad line {line} TooLong"),
+            Fault::LongLogLine(Some(log), line) => eprintln!(rt; "{log}: bad line {line} TooLong"),
+            Fault::File(path, what, _) => eprintln!(rt; "{path}: {what}"),
+            Fault::CommandLine(a, b, c, d, e) => eprintln!(rt; "error: {a}{b}{c}{d}{e}"),
+            Fault::NoAgent(agent, count) => eprintln!(rt;
+                "error: --agent {agent}: the schedule has {count} agents, counted from 0"
+            ),
+        };
+    }
+
+    /// Says on standard error why a command ends, and gives its status. Where the reader of standard output has gone, as
+    /// `head` does, nothing is said: it has what it wanted. On a terminal a second line says what a bad line
+    /// means: programs read the first. A file that is called a written schedule gets a line that says what reads it.
+    pub(crate) fn tell(self, io: Io, file: Option<&str>) -> Status {
+        self.put_line(io, file);
+        let meaning = self.meaning();
+        if io.is_terminal && !meaning.is_empty() {
+            let _ = eprintln!(io.rt; "{meaning}");
+        }
+        if let Fault::BadLine(..) = self
+            && let Some(path) = file
+            && path.as_bytes().ends_with(b".written")
+        {
+            let _ = eprintln!(io.rt;
+                "a written schedule? serf-replay write {path} | serf-replay replay"
+            );
+        }
+        self.status()
+    }
+}

@@ -1,0 +1,220 @@
+//! What a command reads and writes: files, the standard streams, and memory.
+
+use crate::fault::{Ended, Fault, Status};
+use crate::progress::Progress;
+use serf_schedule::Watch;
+use serf_text::{read_input, write_output};
+use std::alloc::Global;
+use std::cell::Cell;
+use std::fs::{self, File};
+use std::io::{self, ErrorKind, IsTerminal, Printer, Read, StdinLock, Write};
+
+/// Files, the standard streams and memory, and whether a person reads standard error.
+#[derive(Clone, Copy)]
+pub(crate) struct Io<'a> {
+    pub(crate) rt: &'a HostRuntime,
+    /// Whether standard error is a terminal.
+    pub(crate) is_terminal: bool,
+    /// Why a call of a device failed at last; `None` where none has.
+    pub(crate) cause: &'a Cell<Option<io::Error>>,
+}
+
+/// Where a command reads from.
+#[derive(Drop)]
+enum Input {
+    Standard(StdinLock<'static>),
+    Opened(File),
+}
+
+impl Read for Input {
+    fn read(&mut self, buf: &mut [u8]) -> io::Result<usize> {
+        match self {
+            Input::Standard(input) => input.read(buf),
+            Input::Opened(file) => file.read(buf),
+        }
+    }
+}
+
+/// What a command reads, opened. It shows how much was read. Of a schedule a byte order mark before it is passed over, and
+/// a carriage return counts as a space.
+#[derive(Drop)]
+pub(crate) struct Source<'a> {
+    io: Io<'a>,
+    input: Input,
+    is_schedule: bool,
+    /// How many bytes were read.
+    count: u64,
+    progress: Progress<'a>,
+}
+
+impl Read for Source<'_> {
+    fn read(&mut self, buf: &mut [u8]) -> io::Result<usize> {
+        let outcome = self.input.read(buf);
+        self.io.note(&outcome);
+        let mut read = outcome?;
+        let begins = self.is_schedule && self.count == 0;
+        if begins && read >= 3 && buf[..read].starts_with(b"\xef\xbb\xbf") {
+            buf.copy_within(3..read, 0);
+            read -= 3;
+            if read == 0 {
+                read = self.input.read(buf)?;
+            }
+        }
+        self.count = self.count.saturating_add(read as u64);
+        self.progress.acted(self.count, u64::MAX);
+        if self.is_schedule {
+            for byte in buf[..read].iter_mut() {
+                if *byte == b'\r' {
+                    *byte = b' ';
+                }
+            }
+        }
+        Ok(read)
+    }
+}
+
+impl<'a> Source<'a> {
+    /// The same, of which is known that it is a schedule.
+    pub(crate) fn of_schedule(mut self) -> Source<'a> {
+        self.is_schedule = true;
+        self
+    }
+
+    /// All its bytes.
+    pub(crate) fn text<'b>(mut self) -> Result<Vec<u8>, Fault<'b>> {
+        let alloc = self.io.alloc();
+        Ok(read_input(alloc, &mut self)?)
+    }
+}
+
+/// Standard output.
+#[derive(Drop)]
+pub(crate) struct Output<'a> {
+    io: Io<'a>,
+    printer: Printer<'a, HostRuntime>,
+    /// Whether an agent's calls go there. One that takes no more of them has ended, which its replies show.
+    has_calls: bool,
+}
+
+impl Write for Output<'_> {
+    fn write(&mut self, buf: &[u8]) -> io::Result<usize> {
+        let outcome = self.printer.write(buf);
+        self.io.note(&outcome);
+        match outcome {
+            Err(_) if self.has_calls && self.io.has_no_reader() => Ok(buf.len()),
+            outcome => outcome,
+        }
+    }
+
+    fn flush(&mut self) -> io::Result<()> {
+        let outcome = self.printer.flush();
+        self.io.note(&outcome);
+        match outcome {
+            Err(_) if self.has_calls && self.io.has_no_reader() => Ok(()),
+            outcome => outcome,
+        }
+    }
+}
+
+/// How a file is called, or standard input.
+pub(crate) fn name_of(file: Option<&str>) -> &str {
+    match file {
+        None | Some("-") => "standard input",
+        Some(path) => path,
+    }
+}
+
+impl<'a> Io<'a> {
+    pub(crate) fn alloc(self) -> Global {
+        self.rt.alloc()
+    }
+
+    /// Remembers why a call of a device failed, where it did.
+    pub(crate) fn note<T>(self, outcome: &io::Result<T>) {
+        if let Err(error) = outcome {
+            self.cause.set(Some(*error));
+        }
+    }
+
+    /// Whether a pipe was to be written that nobody reads any more.
+    pub(crate) fn has_no_reader(self) -> bool {
+        matches!(self.cause.get(), Some(error) if error.kind() == ErrorKind::BrokenPipe)
+    }
+
+    fn output_of(self, has_calls: bool) -> Output<'a> {
+        Output {
+            io: self,
+            printer: io::writer(self.rt),
+            has_calls,
+        }
+    }
+
+    pub(crate) fn output(self) -> Output<'a> {
+        self.output_of(false)
+    }
+
+    /// Standard output, where an agent reads it.
+    pub(crate) fn calls(self) -> Output<'a> {
+        self.output_of(true)
+    }
+
+    fn source_of(self, input: Input) -> Source<'a> {
+        Source {
+            io: self,
+            input,
+            is_schedule: false,
+            count: 0,
+            progress: Progress::of_bytes(self),
+        }
+    }
+
+    /// A file, opened to be read.
+    pub(crate) fn file<'b>(self, path: &'b str) -> Result<Source<'a>, Fault<'b>> {
+        let outcome = fs::open(self.rt, path);
+        self.note(&outcome);
+        match outcome {
+            Ok(file) => Ok(self.source_of(Input::Opened(file))),
+            Err(error) => match error.kind() {
+                ErrorKind::NotFound => Err(Fault::File(path, "no such file", Status::Device)),
+                ErrorKind::PermissionDenied => {
+                    Err(Fault::File(path, "permission denied", Status::Device))
+                }
+                _ => Err(Fault::ReadFaultOf(path)),
+            },
+        }
+    }
+
+    /// A file, or standard input where none is named or it is `-`, opened to be read.
+    pub(crate) fn source<'b>(self, file: Option<&'b str>) -> Result<Source<'a>, Fault<'b>> {
+        match file {
+            None | Some("-") => {
+                let reader = self.rt.reader();
+                // A person who types knows how much that is.
+                let is_terminal = self.is_terminal && !reader.is_terminal();
+                let io = Io {
+                    is_terminal,
+                    ..self
+                };
+                Ok(io.source_of(Input::Standard(reader)))
+            }
+            Some(path) => self.file(path),
+        }
+    }
+
+    /// Writes a text to standard output.
+    pub(crate) fn finish<'b>(self, text: &[u8]) -> Ended<'b> {
+        let mut output = self.output();
+        write_output(&mut output, text).map_err(|_| Fault::WriteFault)?;
+        Ok(Status::Done)
+    }
+
+    /// Writes a file, and gives the status of that, or else this one.
+    pub(crate) fn save<'b>(self, path: &str, text: &[u8], status: Status) -> Ended<'b> {
+        let outcome = fs::write(self.rt, path, text);
+        self.note(&outcome);
+        match outcome {
+            Ok(()) => Ok(status),
+            Err(_) => Err(Fault::WriteFault),
+        }
+    }
+}

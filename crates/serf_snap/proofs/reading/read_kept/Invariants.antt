@@ -1,0 +1,14 @@
+use Rattle.serf_snap.proofs.Names.{◌≡◌, ◌++◌, length}
+use Rattle.serf_snap.specs.Clocks.{lines_of}
+use Rattle.serf_snap.specs.EventLines.{events_of_lines, queries_of_lines}
+use Rattle.serf_snap.proofs.reading.read_kept.Given as goal
+
+-- those so far, and then those of what is left
+abbrev pub invariant-lines : goal.invariant-lines
+invariant-lines l = record {
+  events : l.kept.events.items ++ events_of_lines l.events (lines_of l.left) ≡ events_of_lines l.events (lines_of l.fn.text);
+  queries : l.kept.queries.items ++ queries_of_lines l.queries (lines_of l.left) ≡ queries_of_lines l.queries (lines_of l.fn.text);
+}
+
+abbrev pub decreases-lines : goal.decreases-lines
+decreases-lines l = length l.left

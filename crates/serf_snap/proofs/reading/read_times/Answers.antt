@@ -1,0 +1,30 @@
+use Rattle.serf_snap.proofs.Names.{◌≡◌, ℕ, ◌-◌, ◌^◌, ◌<◌, max, List, [], ap, arith}
+use Rattle.serf_snap.specs.declared.kind.ClockKind.{ClockKind}
+use Rattle.serf_snap.specs.declared.kind.ClockKind.TheVariants.{Member, Event, Query}
+use Rattle.serf_snap.specs.Clocks.{greatest, lines_of}
+use Rattle.serf_snap.proofs.ClockLaws.{last_clock-below}
+use Rattle.serf_snap.proofs.LeastTimeLaws.{least-some}
+use Rattle.serf_snap.proofs.reading.read_times.Goals as goal
+
+pub lines-init : goal.lines-init
+lines-init c = record {
+  member = omega arith;
+  event = omega arith;
+  query = omega arith;
+  events = omega (arith, least-some Event (lines_of c.args.text.now));
+  queries = omega (arith, least-some Query (lines_of c.args.text.now));
+  events_some = omega arith;
+  queries_some = omega arith;
+}
+
+-- the greatest of a whole text is a time
+below : (k : ClockKind) (best : ℕ) (left text : List ℕ) → lines_of left ≡ [] → max best (greatest k (lines_of left)) ≡ greatest k (lines_of text) → best < 2 ^ 64 - 1
+below k best left text none is = omega (arith, ap (greatest k) none, is, last_clock-below k text)
+
+pub returns-in_default-clause-times : goal.returns-in_default-clause-times
+returns-in_default-clause-times c =
+    let none = c.in_default.ensures.line in (
+      below Member c.lines.times.clocks.member_clock c.lines.left.now c.args.text.now none c.lines.invariant.member,
+      below Event c.lines.times.clocks.event_clock c.lines.left.now c.args.text.now none c.lines.invariant.event,
+      below Query c.lines.times.clocks.query_clock c.lines.left.now c.args.text.now none c.lines.invariant.query,
+    )

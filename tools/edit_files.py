@@ -1,0 +1,117 @@
+"""The files of wrong bodies, crates/NAME/mutants/*.edits: what each says of its edits. How an edit is tried and judged is
+decided elsewhere (tools/edits.py, tools/edit_checks.py).
+
+A file has a block of lines for each edit:
+
+    edit: NAME      its name, which no other edit of the crate has
+    why: WORDS      what the wrong body does
+    turns: PATH     a function whose contract has to refuse it; there may be none, or several
+    old: TEXT       a line's text that stands once in the source
+    new: TEXT       what stands there instead
+    twin: TEXT      what stands there in its neutral twin; there may be none
+
+A line `file: src/lib.rt` (or a file of specs/) says where the texts below it stand, up to the next such line. An edit may
+have several pairs of `old:` and `new:`. Blank lines mean nothing, and no other line may stand in a file.
+"""
+
+import os
+import re
+
+LINE = re.compile(r"(file|edit|why|turns|old|new|twin):(?: (.*))?$")
+
+
+class BadEdit(Exception):
+    """Why an edit can't be read, or can't be tried."""
+
+
+class Written:
+    """What a file says of an edit: its name, what it does, its texts with their file and their twins, and the functions
+    that it names."""
+
+    def __init__(self, name):
+        self.name = name
+        self.why = ""
+        self.pairs = []
+        self.twins = []
+        self.turns = []
+
+
+class Reader:
+    """Reads the lines of one file in turn."""
+
+    def __init__(self, name):
+        self.name = name
+        self.file = self.old = None
+        self.edits = []
+
+    def fault(self, what):
+        return BadEdit(f"{self.edits[-1].name if self.edits else self.name}: {what}")
+
+    def take(self, line):
+        if not line:
+            return
+        found = LINE.match(line)
+        if not found:
+            raise self.fault(f"this is no line of an edit: {line[:80]}")
+        key, text = found[1], found[2] or ""
+        if key == "file":
+            self.file = text.strip()
+        elif key == "edit":
+            self.end()
+            self.edits.append(Written(text.strip()))
+        elif not self.edits:
+            raise self.fault(f"a '{key}:' line stands before any 'edit:' line")
+        else:
+            self.take_of_edit(self.edits[-1], key, text)
+
+    def take_of_edit(self, edit, key, text):
+        if key == "why":
+            edit.why = text.strip()
+        elif key == "turns":
+            edit.turns.append(text.strip())
+        elif key == "old":
+            self.end_pair()
+            self.old = text
+        elif key == "new":
+            if self.file is None or self.old is None:
+                raise self.fault("a 'new:' line stands before any 'file:' or 'old:' line")
+            edit.pairs.append((self.file, self.old, text))
+            edit.twins.append(None)
+            self.old = None
+        elif not edit.pairs or self.old is not None:
+            raise self.fault("a 'twin:' line stands before any 'new:' line")
+        else:
+            edit.twins[-1] = text
+
+    def end_pair(self):
+        if self.old is not None:
+            raise self.fault("an 'old:' line has no 'new:' line")
+
+    def end(self):
+        """The block of an edit ends."""
+        self.end_pair()
+        if self.edits and not self.edits[-1].why:
+            raise self.fault("no line 'why:' says what it does")
+
+
+def read(name, text):
+    """The edits of a file's text, as they stand."""
+    reader = Reader(name)
+    for line in text.split("\n"):
+        reader.take(line)
+    reader.end()
+    return reader.edits
+
+
+def written_in(folder):
+    """The edits of the files of a folder, by name; none where it isn't there."""
+    found = {}
+    for name in sorted(os.listdir(folder)) if os.path.isdir(folder) else []:
+        if not name.endswith(".edits"):
+            raise BadEdit(f"{name}: edits stand in files whose names end in .edits")
+        with open(os.path.join(folder, name), encoding="utf-8") as file:
+            for edit in read(name, file.read()):
+                if edit.name in found:
+                    raise BadEdit(f"{edit.name}: two edits of a crate have this name")
+                found[edit.name] = edit
+    return [found[name] for name in sorted(found)]

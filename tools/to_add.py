@@ -1,0 +1,63 @@
+#!/usr/bin/env python3
+"""tools/to_add.py THING: prints the files that name the nearest thing of its kind: who adds another one looks at these.
+
+THING is `reason` (why a packet is ignored, as Oversize; one of the window as TimeFull), `refusal` (as RespondersFull), `word` (of
+a schedule, as save) or `field` (of the query, as relay_factor).
+"""
+
+import os
+import re
+import subprocess
+import sys
+
+TOP = os.path.dirname(os.path.dirname(os.path.abspath(__file__)))
+
+# How a file names each thing.
+THINGS = {
+    "reason": re.compile(r"\b(?:Oversize|OVERSIZE|TimeFull|TIME_FULL)\b"),
+    "refusal": re.compile(r"\b(?:RespondersFull|RESPONDERS_FULL)\b"),
+    "word": re.compile(r"\b(?:[Ss]aves?|Saved|saves_so|\w*save_member_clock|SaveMemberClock)\b"),
+    "field": re.compile(r"relay_factor|RelayFactor"),
+}
+
+# What names a thing only to try it, or is made of the sources.
+LEFT_OUT = re.compile(r"/mutants/|/CALLING\.md$|^CHANGELOG\.md$|^tests/refused/|^examples/.*\.(?:svg|trace|log)$|^conformance/schedules/|^docs/completions/|\.1$|\.3$")
+
+
+def files():
+    """The files that git tracks, by their paths from the top."""
+    ran = subprocess.run(["git", "ls-files"], cwd=TOP, stdout=subprocess.PIPE, text=True, check=True)
+    return [path for path in ran.stdout.splitlines() if not LEFT_OUT.search(path)]
+
+
+def files_of(thing):
+    """The files that name a thing."""
+    for path in files():
+        try:
+            with open(os.path.join(TOP, path), encoding="utf-8") as file:
+                if THINGS[thing].search(file.read()):
+                    yield path
+        except (UnicodeDecodeError, FileNotFoundError):
+            continue
+
+
+def place_of(path):
+    """The crate, or the folder, that a path is listed under."""
+    parts = path.split("/")
+    return "/".join(parts[:2]) if len(parts) > 2 else parts[0] if len(parts) > 1 else "the top"
+
+
+def main(words):
+    if len(words) != 1 or words[0] not in THINGS:
+        print(__doc__.strip(), file=sys.stderr)
+        return 2
+    places = {}
+    for path in files_of(words[0]):
+        places.setdefault(place_of(path), []).append(path)
+    for place, own in places.items():
+        print(f"{place}: {', '.join(os.path.relpath(path, place) if path.startswith(place + '/') else path for path in own)}")
+    return 0
+
+
+if __name__ == "__main__":
+    sys.exit(main(sys.argv[1:]))
