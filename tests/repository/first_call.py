@@ -34,8 +34,8 @@ UNPROVED = "this program is compiled without its proofs"
 # How many processor seconds a second call may take, over what the first one compiled.
 SECOND_SECONDS = 10
 
-# (what `./test --quick` sets is not for the clones)
-os.environ.pop("SERF_UNPROVED", None)
+# `./test --quick` has compiled the program already, for the scripts that run it. (What it sets is not for the clones.)
+IS_COMPILED = bool(os.environ.pop("SERF_UNPROVED", None))
 
 
 class Clone:
@@ -305,7 +305,10 @@ def first_calls(count):
         clone = Clone(root)
         for part in (unproved, at_once, builds, asked_for, sources, changing, broken_off, refused):
             part(count, clone)
-        fresh_clone(count, root)
+        if IS_COMPILED:
+            print("not run: the first call of a fresh clone, which compiles the program once more")
+        else:
+            fresh_clone(count, root)
 
 
 if __name__ == "__main__":

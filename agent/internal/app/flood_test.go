@@ -3,7 +3,6 @@ package app
 import (
 	"bytes"
 	"fmt"
-	"math"
 	"net"
 	"os"
 	"path/filepath"
@@ -130,7 +129,12 @@ func TestAFloodOfQueries(t *testing.T) {
 
 // Above the limit the collector runs at less growth.
 func TestGrowthOfTheHeap(t *testing.T) {
-	if at, above := growthAt(math.MaxInt64), growthAt(1); at != growth || above != growthAbove {
-		t.Errorf("%d in a hundred below the limit, and %d above it", at, above)
+	for has, wanted := range map[int64]int{1000: growth, 1001: growthAbove, 1500: growthAbove, 1501: growthFar} {
+		if at := growthAt(has, 1000); at != wanted {
+			t.Errorf("%d in a hundred where Go has %d bytes of 1,000", at, has)
+		}
+	}
+	if has := memory(); has < 1<<20 || has > 1<<40 {
+		t.Errorf("Go has %d bytes", has)
 	}
 }

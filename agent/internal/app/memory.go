@@ -25,19 +25,27 @@ func (a *App) memoryLimit() int64 {
 	return limit
 }
 
-// By how many parts in a hundred the heap may grow before the collector runs: as Go has it, and where the process has more than the
-// limit. There the collector takes half of the processor at most, and a flood that goes on would grow the heap meanwhile. GOGC stands in
-// its place where it is there.
-const growth, growthAbove = 100, 40
+// By how many parts in a hundred the heap may grow before the collector runs: as Go has it, where the process has more than the limit, and
+// where it has more by a half. By the limit alone the collector takes half of the processor at most, and a flood that goes on would grow the
+// heap meanwhile. GOGC stands in its place where it is there.
+const growth, growthAbove, growthFar = 100, 40, 20
 
-// growthAt is that number, beside a limit.
-func growthAt(limit int64) int {
-	has := []metrics.Sample{{Name: "/memory/classes/total:bytes"}, {Name: "/memory/classes/heap/released:bytes"}}
-	metrics.Read(has)
-	if int64(has[0].Value.Uint64()-has[1].Value.Uint64()) > limit {
+// growthAt is that number for a process of so many bytes.
+func growthAt(has, limit int64) int {
+	switch {
+	case has > limit+limit/2:
+		return growthFar
+	case has > limit:
 		return growthAbove
 	}
 	return growth
+}
+
+// memory is how many bytes Go has of the system.
+func memory() int64 {
+	has := []metrics.Sample{{Name: "/memory/classes/total:bytes"}, {Name: "/memory/classes/heap/released:bytes"}}
+	metrics.Read(has)
+	return int64(has[0].Value.Uint64() - has[1].Value.Uint64())
 }
 
 // limitMemory sets the collector's limit until the agent ends.
@@ -49,7 +57,7 @@ func (a *App) limitMemory() {
 		limit := a.memoryLimit()
 		debug.SetMemoryLimit(limit)
 		if os.Getenv("GOGC") == "" {
-			debug.SetGCPercent(growthAt(limit))
+			debug.SetGCPercent(growthAt(memory(), limit))
 		}
 		select {
 		case <-a.ending:
