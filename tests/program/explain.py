@@ -512,4 +512,4 @@ def long_runs(count):
 
 
 if __name__ == "__main__":
-    sys.exit(checks.over_program(examples, random_schedules, incident, partition, ranges, any_bytes, said_rows, kept, of_earlier_actions, refusals, streams, while_it_runs, to_full_device, long_runs))
+    sys.exit(checks.by_speed([long_runs], [examples, random_schedules, incident, partition, ranges, any_bytes, said_rows, kept, of_earlier_actions, refusals, streams, while_it_runs, to_full_device]))

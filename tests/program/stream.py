@@ -222,4 +222,4 @@ def devices(count):
 
 
 if __name__ == "__main__":
-    sys.exit(checks.over_program(beside, small, summed_up, long_ones, long_ones_summed_up, while_it_runs, driven, marks, devices))
+    sys.exit(checks.by_speed([long_ones, long_ones_summed_up], [beside, small, summed_up, while_it_runs, driven, marks, devices]))

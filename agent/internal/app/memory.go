@@ -11,8 +11,8 @@ import (
 // the events that the snapshot keeps. Without a limit a flood lets the heap grow to several times of what is in use. It is set anew each
 // so often, and GOMEMLIMIT stands in its place where it is there.
 const (
-	memoryBase   = 16 << 20
-	memoryMember = 2 << 10
+	memoryBase   = 24 << 20
+	memoryMember = 1 << 10
 	memoryKept   = 3
 	memoryTime   = time.Second
 )
