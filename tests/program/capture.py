@@ -1,9 +1,10 @@
-"""`examples/capture/schedule_of.py`: the capture that stands there, against its handlers' log; frames, connections and files
-that the test makes itself; and captures that are cut or changed.
+"""`examples/capture/schedule_of.py`: the capture that stands there, against its handlers' log, and pictures of it with its
+senders; frames, connections and files that the test makes itself; and captures that are cut or changed.
 """
 
 import os
 import random
+import re
 import struct
 import subprocess
 import sys
@@ -25,11 +26,11 @@ import memberlist
 EVENT = b"\x03\x84\xa5LTime\x01\xa4Name\xa6deploy\xa7Payload\xa2v1\xa2CC\xc2"
 ALPHA, BETA = "10.0.0.1", "10.0.0.2"
 NAMES = ("--node", f"alpha={ALPHA}", "--node", f"beta={BETA}")
-BOTH = f'agent "alpha"\nagent "beta"\ngive "alpha" {EVENT.hex()} at 0us\ngive "beta" {EVENT.hex()} at 0us\n'
+BOTH = f'agent "alpha"\nagent "beta"\ngive "alpha" {EVENT.hex()} at 0us # its own\ngive "beta" {EVENT.hex()} at 0us # from "alpha"\n'
 
 
-def script(path, *words):
-    done = subprocess.run([sys.executable, SCRIPT, path, *words], capture_output=True, text=True, timeout=checks.LIMIT)
+def script(path, *words, given=""):
+    done = subprocess.run([sys.executable, SCRIPT, path, *words], input=given, capture_output=True, text=True, timeout=checks.LIMIT)
     return done.returncode, done.stdout, done.stderr
 
 
@@ -57,12 +58,12 @@ def capture(packets, link=1, order="<", magic=0xA1B2C3D4):
     return data
 
 
-def read(data, *words):
+def read(data, *words, given=""):
     with tempfile.TemporaryDirectory() as folder:
         path = os.path.join(folder, "it.pcap")
         with open(path, "wb") as file:
             file.write(data)
-        return script(path, *words)
+        return script(path, *words, given=given)
 
 
 # memberlist's frames
@@ -148,7 +149,7 @@ def files(count):
     count.check("nodes without names", got[:2] == (0, "") and "--node" in got[2], got)
     alive = b"\x04\x83\xa4Node\xa5gamma\xa4Addr" + raw(bytes((10, 0, 0, 2))) + b"\xa4Port\xcd\x1f\x0a"
     got = read(capture([(5, udp(summed(compound(alive, USER))))]))
-    count.check("a name that memberlist tells", got[1] == f'agent "gamma"\ngive "gamma" {EVENT.hex()} at 0us\n', got)
+    count.check("a name that memberlist tells", got[1] == f'agent "gamma"\ngive "gamma" {EVENT.hex()} at 0us # from "{ALPHA}:7946"\n', got)
 
 
 def connections(count):
@@ -223,7 +224,7 @@ def restarted(count):
             with open(file, "wb") as to:
                 to.write(text)
             got = run("--down", "beta=2.5-6", "--kept", f"beta={file}", *words)
-            wanted = f'agent "beta"\nrestart "beta" tail {tail.hex() or "-"} # at 6000000us\ngive "beta" {EVENT.hex()} at 9000000us\n'
+            wanted = f'agent "beta"\nrestart "beta" tail {tail.hex() or "-"} # at 6000000us\ngive "beta" {EVENT.hex()} at 9000000us # from "{ALPHA}:7946"\n'
             count.check(f"started on {name}", got[:2] == (0, wanted), got)
         got = run("--kept", f"beta={file}")
         count.check("a file of a node that was never down", got[0] == 1 and "--kept wants" in got[2], got)
@@ -245,7 +246,7 @@ def one_address(count):
     packets = [(0, tcp(b"", 99, flags=2, **ends)), (1, tcp(alone, 100, **ends))]
     answer = [(2, ip(back["sender"], back["receiver"], 6, struct.pack(">2H2IBBHHH", 7946, 40000, seq, 0, 0x50, flags, 0, 0, 0) + part)) for seq, flags, part in ((49, 18, b""), (50, 16, state(content)))]
     got = read(capture(packets + answer), "--node", "alpha=127.0.0.51")
-    wanted = f'agent "alpha"\nagent "beta"\ntake "alpha" {content.hex()} join # at 1us\ntake "beta" {content.hex()} join # at 2us\n'
+    wanted = f'agent "alpha"\nagent "beta"\ntake "alpha" {content.hex()} join # at 1us from "beta"\ntake "beta" {content.hex()} join # at 2us from "alpha"\n'
     count.check("several nodes on one address", got[:2] == (0, wanted), got)
 
 
@@ -277,6 +278,59 @@ def story(count):
     count.check("without --down beta would have it", len(list(handed(trace, names))) == len(ran) + 1, trace[-300:])
 
 
+# A step of a written schedule: who gets the packet, and who sent it.
+STEP = re.compile(r'(?:give|take) "(\w+)" .* (?:from "(\w+)"|its own)$')
+
+
+def told(written):
+    """From which lane to which the packet of each action came, as a written schedule says it; a node's own came from none."""
+    lanes, number, found = {"alpha": 500, "beta": 1500, "gamma": 2500}, 0, {}
+    for line in written.splitlines():
+        number += {"agent": 0, "restart": 1}.get(line.split(" ")[0], 2)
+        step = STEP.match(line)
+        if step and step[2]:
+            found[number] = (lanes[step[2]], lanes[step[1]])
+    return found
+
+
+def arrows(picture):
+    """From where to where the arrows of a picture go, by the action in whose row they end."""
+    numbers = dict(re.findall(r"<text class='n' x='-680' y='(\d+)75'>(\d+)</text>", picture))
+    found = re.findall(r"<path class='[tir]' d='M(-?\d+) \d+50L(-?\d+) (\d+)50'/>", picture)
+    return {int(numbers[line]): (int(begin), int(end)) for begin, end, line in found}
+
+
+def senders(count):
+    """--senders: the arrows of a picture begin in the lanes of those that sent the packets; nothing else of it changes."""
+    written = checks.text_of(FOLDER, "gossip.written")
+    schedule, sent = checks.ran(["write"], written.encode())[1], told(written)
+    own = [line.split(" ")[1] for line in written.splitlines() if line.endswith("its own")]
+    count.check("who fired or asked", own == ['"alpha"', '"beta"', '"gamma"', '"alpha"'], own)
+    for words in ([], ["--taken"], ["--event", "reload"], ["--from", "91", "--to", "100"], ["--from", "12", "--to", "13"]):
+        drawn = checks.ran(["draw", *words], schedule)[1].decode()
+        status, picture, said = script(CAPTURE, *DOWN, "--senders", given=drawn)
+        name, wanted = f"senders {' '.join(words)}", {number: sent[number] for number in arrows(drawn) if number in sent}
+        count.check(f"{name}: the arrows", status == 0 and wanted and arrows(picture) == wanted, (arrows(picture), wanted, said))
+        count.check(f"{name}: nothing is outside", "'-500'" in drawn and "-500" not in picture, picture[-300:])
+        texts, dots = r"<text class='[tirn]'.*", r"<g class='.' transform='translate\((?!-500).*|<path class='w' d='M(?!-500).*"
+        count.check(f"{name}: its texts", re.findall(texts, picture) == re.findall(texts, drawn), picture[-300:])
+        count.check(f"{name}: its dots", set(re.findall(dots, picture)) >= set(re.findall(dots, drawn)), picture[-300:])
+        count.check(f"{name}: no cross", "<path class='x' transform" not in picture, picture[-300:])
+    drawn = checks.ran(["draw", "--agent", "beta"], schedule)[1].decode()
+    picture = script(CAPTURE, *DOWN, "--senders", given=drawn)[1]
+    wanted = {number: ends for number, ends in arrows(drawn).items() if number in sent}
+    count.check("senders without lanes", wanted and arrows(picture) == wanted and ">outside<" in picture, (arrows(picture), wanted))
+    unnamed = capture([(5, udp(USER))]), "--node", f"beta={BETA}"
+    drawn = checks.ran(["draw"], checks.ran(["write"], read(*unnamed)[1].encode())[1])[1].decode()
+    picture = read(*unnamed, "--senders", given=drawn)[1]
+    count.check("a sender without a name", arrows(picture) == {2: (-500, 500)} and ">outside<" in picture, picture)
+    mermaid = checks.ran(["draw", "--as", "mermaid"], schedule)[1].decode()
+    others = [checks.text_of(checks.EXAMPLES, f"{one}.svg") for one in ("deploy_gossiped_twice", "what_is_refused", "partition/as_it_ran")]
+    for number, other in enumerate(["", "serf", mermaid, *others]):
+        got = script(CAPTURE, *DOWN, "--senders", given=other)
+        count.check(f"another picture {number}", got[:2] == (2, "") and got[2].count("\n") == 1, got)
+
+
 def shown(count):
     """What its page shows, run as it stands, but that it writes elsewhere."""
     with tempfile.TemporaryDirectory() as folder:
@@ -300,4 +354,4 @@ def changed(count):
 
 
 if __name__ == "__main__":
-    sys.exit(checks.over_program(frames, files, connections, restarted, one_address, keys, story, shown, changed))
+    sys.exit(checks.over_program(frames, files, connections, restarted, one_address, keys, story, senders, shown, changed))

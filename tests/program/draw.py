@@ -1,5 +1,5 @@
 """`draw`: each example beside its stored picture, any bytes in names and payloads, what leaves actions out, what a merge
-handed out, and that no labels overlap and none covers an arrow.
+handed out, the name of what is left of all lanes, and that no labels overlap and none covers an arrow.
 
 A label's box is an estimate: 45 units a character, which is 0.6 of the size of the font. Mermaid itself is not run
 here: its text is held against the part of its grammar of sequence diagrams that is used, as Mermaid's documents have
@@ -19,6 +19,9 @@ import checks
 SVG = "{http://www.w3.org/2000/svg}"
 GLYPH = 45
 NAMED_ROWS = 40
+
+# Where what has no lane is.
+OUTSIDE = "-500"
 PLACE = re.compile(r"translate\((-?\d+) (\d+)\)")
 
 # A participant with its alias; a message between two participants, or a note over one, with a text to the line's end.
@@ -58,8 +61,21 @@ def heads(root):
     """The lanes' names, by their lines."""
     found = {}
     for text in root.findall(f"{SVG}text[@class='h']"):
-        found.setdefault(int(text.get("y")), []).append(text.text)
+        if text.get("x") != OUTSIDE:
+            found.setdefault(int(text.get("y")), []).append(text.text)
     return found
+
+
+def outside_heads(root):
+    """What stands above the place left of all lanes, and on which lines."""
+    return [(int(text.get("y")), text.text) for text in root.findall(f"{SVG}text[@class='h']") if text.get("x") == OUTSIDE]
+
+
+def has_outside(root):
+    """Whether a dot, a cross or the begin of an arrow is left of all lanes."""
+    places = [group.get("transform") for group in dots(root)] + crosses(root)
+    begins = [f"translate({x} {y})" for _, ((x, y), _) in paths(root)]
+    return any(place.startswith(f"translate({OUTSIDE} ") for place in places + begins)
 
 
 def lanes_of(root):
@@ -133,6 +149,8 @@ def lines_are_sound(count, name, root):
     found = heads(root)
     count.check(f"{name}: the names above each 40 rows", list(found) == (above if lanes_of(root) else []), list(found))
     count.check(f"{name}: all names each time", all(names == found[65] for names in found.values()), found)
+    wanted = [(y, "outside") for y in above] if has_outside(root) else []
+    count.check(f"{name}: outside is named where something is there, and nowhere else", outside_heads(root) == wanted, outside_heads(root))
     legend = [group for group in root.findall(f"{SVG}g") if not group.get("class")]
     wanted = f"translate(-680 {line_of(len(numbers))}50)"
     count.check(f"{name}: the legend below", [group.get("transform") for group in legend] == [wanted], wanted)
@@ -218,6 +236,31 @@ def root_of(words, schedule):
     return tree.fromstring(drawn(words, schedule).stdout)
 
 
+def outsides(count, text):
+    """The place left of all lanes has a name where something is there: in the run of `arrows`, and in others."""
+    late = AGENTS + b"fire 0 78 79 0\n" * 45 + b"inject ff\n" + b"fire 0 78 79 0\n" * 40
+    for name, words, schedule, lines in (
+        ("what is injected, and what was never sent", [], text, [65]),
+        ("an injection alone", ["--from", "4", "--to", "4"], text, [65]),
+        ("an arrow whose sender has no lane", ["--agent", "1"], text, [65]),
+        ("an arrow of what was never sent", ["--from", "6"], text, [65]),
+        ("senders with lanes", ["--from", "2", "--to", "3"], text, []),
+        ("nothing but what was taken", ["--taken"], text, []),
+        ("no action", ["--from", "100"], text, []),
+        ("an agent that isn't there", [], AGENTS + b"fire 7 78 79 0\n", [65]),
+        ("no lanes", [], b"inject ff\n", [65]),
+        ("one row of many", [], late, [65, 4165, 8265]),
+        ("rows before it", ["--to", "45"], late, []),
+    ):
+        root = root_of(words, schedule)
+        count.check(f"outside: {name}", outside_heads(root) == [(y, "outside") for y in lines], outside_heads(root))
+        lines_are_sound(count, f"outside: {name}", root)
+        nothing_overlaps(count, f"outside: {name}", root)
+    named = drawn([], b"agent 6f757473696465 4 4 512 8 keep\nfire 0 78 79 0\n")
+    root = tree.fromstring(named.stdout)
+    count.check("outside: an agent of this name", (heads(root), outside_heads(root)) == ({65: ["outside"]}, []), named.stdout)
+
+
 def arrows(count):
     text = (
         AGENTS
@@ -235,6 +278,7 @@ def arrows(count):
     wanted_crosses = ["translate(1500 250)"]
     count.check("a packet that nobody gets has a cross", crosses(root) == wanted_crosses, crosses(root))
     mermaid_is_sound(count, "arrows", [], text, root)
+    outsides(count, text)
     root = tree.fromstring(drawn(["--from", "2", "--to", "3"], text).stdout)
     wanted = [("t", ((500, 150), (1500, 150))), ("i", ((500, 150), (1500, 250)))]
     count.check("a range has its arrows, on its own lines", paths(root) == wanted, paths(root))

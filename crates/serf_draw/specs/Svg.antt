@@ -1,7 +1,7 @@
 -- The text of an SVG file. A lane is 1,000 units wide and a line 100 units high, so that each place is a number with two or
 -- three digits after it.
-use Rattle.std.specs.Prelude.{ℕ, ◌==◌, ◌+◌, ◌-◌, ◌*◌, ◌/◌, ◌++◌, ◌^◌, min, nat_lt, Bool, if◌then◌else◌, List, [], ◌∷◌, length, map, codes, decimal, position, Option, Some, None}
-use Rattle.std.specs.List.{flat_map, fold, range_with_len}
+use Rattle.std.specs.Prelude.{ℕ, ◌==◌, ◌+◌, ◌-◌, ◌*◌, ◌/◌, ◌++◌, ◌^◌, ◌||◌, min, nat_lt, Bool, true, false, is_none, if◌then◌else◌, List, [], ◌∷◌, length, map, codes, decimal, position, Option, Some, None}
+use Rattle.std.specs.List.{flat_map, fold, list_any, range_with_len}
 use Rattle.serf_draw.specs.declared.picture.Arrow.{Arrow}
 use Rattle.serf_draw.specs.declared.picture.Arrow.TheVariants.{NoPacket, Unsent, From}
 use Rattle.serf_draw.specs.declared.picture.Lane.{Lane}
@@ -59,6 +59,23 @@ abbrev pub agent_thousands : List Lane → Option ℕ → List ℕ
 agent_thousands lanes None = codes "-"
 agent_thousands lanes (Some a) = thousands (lane_place lanes a)
 
+-- what is left of all lanes: it is of no agent, or of one that has none
+abbrev pub is_outside : List Lane → Option ℕ → Bool
+is_outside lanes None = true
+is_outside lanes (Some a) = is_none (lane_place lanes a)
+
+abbrev pub begins_outside : List Lane → Arrow → Bool
+begins_outside lanes NoPacket = false
+begins_outside lanes Unsent = true
+begins_outside lanes (From sender) = is_outside lanes sender.agent
+
+abbrev pub row_is_outside : List Lane → Row → Bool
+row_is_outside lanes row = is_outside lanes row.agent || begins_outside lanes row.arrow
+
+-- a row, or the begin of its arrow (a cross stands in the row of what was sent)
+abbrev pub has_outside : List Lane → List Row → Bool
+has_outside lanes rows = list_any (row_is_outside lanes) rows
+
 -- The middle of an agent's lane on the line below so many rows; left of all lanes where it has none.
 unfoldable pub place_text : List Lane → Option ℕ → ℕ → List ℕ
 place_text lanes agent above = agent_thousands lanes agent ++ codes "500 " ++ decimal (line_of above) ++ codes "50"
@@ -87,8 +104,15 @@ names_text line i (lane ∷ lanes) = name_text line i lane ++ names_text line (i
 abbrev pub head_lines : ℕ → List ℕ
 head_lines rows = map (λ k. line_above (40 * k)) (range_with_len 0 ((rows - 1) / 40 + 1))
 
-abbrev pub heads_text : ℕ → List Lane → List ℕ
-heads_text rows lanes = flat_map (λ line. names_text line 0 lanes) (head_lines rows)
+-- the name of the place left of all lanes, where something is there
+abbrev pub outside_text : Bool → ℕ → List ℕ
+outside_text outside line = if outside then between (codes "<text class='h' x='-500' y='") line (codes "65'>outside</text>\n") else []
+
+unfoldable pub head_text : Bool → List Lane → ℕ → List ℕ
+head_text outside lanes line = outside_text outside line ++ names_text line 0 lanes
+
+abbrev pub heads_text : Bool → ℕ → List Lane → List ℕ
+heads_text outside rows lanes = flat_map (head_text outside lanes) (head_lines rows)
 
 -- a lane's line
 unfoldable pub lane_line : ℕ → ℕ → List ℕ
@@ -178,9 +202,9 @@ frame_text columns lines = OPENING.now ++ view_text columns lines ++ size_text c
 abbrev pub legend_text : ℕ → List ℕ
 legend_text line = between (codes "<g transform='translate(-680 ") line (codes "50)'>") ++ LEGEND.now
 
--- what stands behind all else: the lanes with their names, and the lines to the labels
+-- what stands behind all else: the lanes, the names, and the lines to the labels
 unfoldable pub back_text : List Lane → List Row → List ℕ
-back_text lanes rows = lanes_text (line_above (length rows)) 0 lanes ++ heads_text (length rows) lanes ++ flat_map (guide_text lanes) rows
+back_text lanes rows = lanes_text (line_above (length rows)) 0 lanes ++ heads_text (has_outside lanes rows) (length rows) lanes ++ flat_map (guide_text lanes) rows
 
 -- above it the arrows, the crosses and the rows
 unfoldable pub front_text : List Lane → List Row → List Sender → List ℕ

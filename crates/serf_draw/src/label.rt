@@ -4,8 +4,10 @@ ghost use Rattle.std.specs.Prelude.{◌≡◌, ◌++◌, IfOk, Ok, OnOk};
 ghost use Rattle.std.specs.Option.{option_copied};
 ghost use Rattle.serf_wire.specs.Message.{message_of};
 ghost use Rattle.serf_draw.specs.Label.{act_words, action_words, at_time, clock_words, count_words, cut_to, event_behind, event_words, first_two, given_words, joined as joined_words, label_of, message_words, outcome_words, packet_words, short, texts};
+ghost use Rattle.serf_draw.specs.Svg.{label_columns as columns_of_labels, longest as longest_of};
 
 use crate::merges::{put_came, put_passed_over};
+use crate::picture::Row;
 use serf_model::{Act, Action, Answer, EventLine};
 use serf_text::put_number;
 use serf_wire::{Bytes, Message, decode};
@@ -32,6 +34,14 @@ pub(crate) fn put_short(out: &mut Vec<u8>, text: &[u8]) -> Result<(), AllocError
     out.extend_from_slice(b"..(")?;
     put_number(out, text.len() as u64)?;
     out.extend_from_slice(b")")
+}
+
+pub(crate) fn short_name(alloc: Global, name: &[u8]) -> Result<Vec<u8>, AllocError>
+    ensures { IfOk result (λ text. text.items ≡ short name.now) }
+{
+    let mut text = Vec::new(alloc);
+    put_short(&mut text, name)?;
+    Ok(text)
 }
 
 #[tactic(auto, unfolding(crate::specs::Label::texts))]
@@ -275,4 +285,31 @@ pub(crate) fn label(
     put_count(&mut end, events.len().saturating_sub(2))?;
     put_clock(&mut end, clock)?;
     joined(front, &end)
+}
+
+/// How many bytes the longest label has.
+pub(crate) fn longest(rows: &[Row]) -> usize
+    ensures { result ≡ longest_of rows.now }
+{
+    let mut longest: usize = 0;
+    for row in rows {
+        let length = row.label.as_slice().len();
+        if longest < length {
+            longest = length;
+        }
+    }
+    longest
+}
+
+/// How many columns labels take, of which the longest has so many bytes.
+pub(crate) fn label_columns(longest: usize) -> u64
+    ensures { result ≡ columns_of_labels longest }
+{
+    if longest > 49 {
+        3
+    } else if longest > 27 {
+        2
+    } else {
+        1
+    }
 }

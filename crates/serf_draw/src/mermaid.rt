@@ -4,8 +4,9 @@ ghost use Rattle.std.specs.Prelude.{◌≡◌, ◌++◌, ◌==◌, ℕ, List, If
 ghost use Rattle.std.specs.List.{flat_map, list_all, list_any};
 ghost use Rattle.serf_draw.specs.Mermaid.{arrow_word as word_of, coded, coded_byte, is_coded, is_plain as is_plain_byte, mermaid_of, message_line, note_line, participant, participant_line, row_line, words_of};
 
+use crate::label::short_name;
 use crate::picture::{Arrow, Lane, Picture, Row, Tone};
-use crate::svg::{put_between, short_name};
+use crate::svg::put_between;
 use std::alloc::{AllocError, Global};
 
 /// A letter, a digit, a space, a full stop, an `@` or a `_`.

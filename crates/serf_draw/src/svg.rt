@@ -2,12 +2,12 @@
 
 ghost use Rattle.std.specs.Prelude.{◌≡◌, ◌++◌, ◌+◌, ◌-◌, IfOk, OnOk};
 ghost use Rattle.std.specs.List.{flat_map};
-ghost use Rattle.serf_draw.specs.Label.{short};
-ghost use Rattle.serf_draw.specs.Svg.{agent_thousands, arrow_line, arrow_of_text, arrow_text, back_text, between, class_text, columns as columns_of, cross_text, dot_text, frame_text, front_text, guide_text, heads_text, label_columns as columns_of_labels, label_place, label_text, lane_line, lane_place as place_among, lanes_text, legend_text, line_above as above, line_of, longest as longest_of, mark_text, name_text, names_text, number_text, place_text, placed_text, row_text, size_text, svg_of, text_element, thousands, tone_word as word_of, view_text};
+ghost use Rattle.serf_draw.specs.Svg.{agent_thousands, arrow_line, arrow_of_text, arrow_text, back_text, between, class_text, columns as columns_of, cross_text, dot_text, frame_text, front_text, guide_text, head_text, heads_text, label_place, label_text, lane_line, lanes_text, legend_text, line_above as above, line_of, mark_text, name_text, names_text, number_text, outside_text, place_text, placed_text, row_text, size_text, svg_of, thousands, tone_word as word_of, view_text};
 
-use crate::escape::put_escaped;
-use crate::label::put_short;
+use crate::escape::put_text_element;
+use crate::label::{label_columns, longest, short_name};
 use crate::picture::{Arrow, Lane, Picture, Row, Sender, Tone};
+use crate::row::{has_outside, lane_place};
 use crate::style::{LEGEND, OPENING, STYLE};
 use serf_text::put_number;
 use std::alloc::{AllocError, Global};
@@ -40,16 +40,6 @@ pub(crate) fn put_between(
     out.extend_from_slice(behind)
 }
 
-/// Appends the end of an element whose start is given: a text of any bytes, escaped, and the end tag.
-#[tactic(auto, unfolding(crate::specs::Svg::text_element))]
-fn put_text_element(out: &mut Vec<u8>, opening: &[u8], text: &[u8]) -> Result<(), AllocError>
-    ensures { OnOk result (out.new.items ≡ out.old.items ++ text_element opening.now text.now) }
-{
-    out.extend_from_slice(opening)?;
-    put_escaped(out, text)?;
-    out.extend_from_slice(b"</text>\n")
-}
-
 /// Appends a tone's class between two texts.
 #[tactic(auto, unfolding(crate::specs::Svg::class_text))]
 fn put_class(out: &mut Vec<u8>, before: &[u8], tone: Tone, behind: &[u8]) -> Result<(), AllocError>
@@ -72,13 +62,6 @@ fn line(rows: u64) -> u64
     ensures { result ≡ line_of rows }
 {
     line_above(rows).saturating_add(1)
-}
-
-/// Where an agent's lane stands among these.
-fn lane_place(lanes: &[Lane], agent: u64) -> Option<usize>
-    ensures { result ≡ place_among lanes.now agent }
-{
-    lanes.iter().position(|lane| lane.agent == agent)
 }
 
 fn put_thousands(out: &mut Vec<u8>, place: Option<usize>) -> Result<(), AllocError>
@@ -137,14 +120,6 @@ fn put_placed(
     out.extend_from_slice(behind)
 }
 
-pub(crate) fn short_name(alloc: Global, name: &[u8]) -> Result<Vec<u8>, AllocError>
-    ensures { IfOk result (λ text. text.items ≡ short name.now) }
-{
-    let mut text = Vec::new(alloc);
-    put_short(&mut text, name)?;
-    Ok(text)
-}
-
 /// Appends where all labels begin.
 fn put_label_place(out: &mut Vec<u8>, lanes: &[Lane]) -> Result<(), AllocError>
     ensures { OnOk result (out.new.items ≡ out.old.items ++ label_place lanes.now) }
@@ -184,13 +159,50 @@ fn put_names(alloc: Global, out: &mut Vec<u8>, line: u64, lanes: &[Lane]) -> Res
     Ok(())
 }
 
+/// Appends the name of the place left of all lanes on a line, where something is there.
+fn put_outside(out: &mut Vec<u8>, outside: bool, line: u64) -> Result<(), AllocError>
+    ensures { OnOk result (out.new.items ≡ out.old.items ++ outside_text outside line) }
+{
+    if outside {
+        put_between(
+            out,
+            b"<text class='h' x='-500' y='",
+            line,
+            b"65'>outside</text>\n",
+        )
+    } else {
+        Ok(())
+    }
+}
+
+/// Appends all names on a line.
+#[tactic(auto, unfolding(crate::specs::Svg::head_text))]
+fn put_head(
+    alloc: Global,
+    out: &mut Vec<u8>,
+    outside: bool,
+    line: u64,
+    lanes: &[Lane],
+) -> Result<(), AllocError>
+    ensures { OnOk result (out.new.items ≡ out.old.items ++ head_text outside lanes.now line) }
+{
+    put_outside(out, outside, line)?;
+    put_names(alloc, out, line, lanes)
+}
+
 /// Appends the names above all of so many rows, and again between each 40 of them.
-fn put_heads(alloc: Global, out: &mut Vec<u8>, rows: u64, lanes: &[Lane]) -> Result<(), AllocError>
-    ensures { OnOk result (out.new.items ≡ out.old.items ++ heads_text rows lanes.now) }
+fn put_heads(
+    alloc: Global,
+    out: &mut Vec<u8>,
+    outside: bool,
+    rows: u64,
+    lanes: &[Lane],
+) -> Result<(), AllocError>
+    ensures { OnOk result (out.new.items ≡ out.old.items ++ heads_text outside rows lanes.now) }
 {
     let last = rows.saturating_sub(1) / NAMED_ROWS;
     for part in 0..last + 1 {
-        put_names(alloc, out, line_above(NAMED_ROWS * part), lanes)?;
+        put_head(alloc, out, outside, line_above(NAMED_ROWS * part), lanes)?;
     }
     Ok(())
 }
@@ -370,33 +382,6 @@ fn put_rows(out: &mut Vec<u8>, lanes: &[Lane], rows: &[Row]) -> Result<(), Alloc
     Ok(())
 }
 
-/// How many bytes the longest label has.
-fn longest(rows: &[Row]) -> usize
-    ensures { result ≡ longest_of rows.now }
-{
-    let mut longest: usize = 0;
-    for row in rows {
-        let length = row.label.as_slice().len();
-        if longest < length {
-            longest = length;
-        }
-    }
-    longest
-}
-
-/// How many columns labels take, of which the longest has so many bytes.
-fn label_columns(longest: usize) -> u64
-    ensures { result ≡ columns_of_labels longest }
-{
-    if longest > 49 {
-        3
-    } else if longest > 27 {
-        2
-    } else {
-        1
-    }
-}
-
 /// How many columns there are: one for each lane, and those of the labels.
 fn columns(lanes: &[Lane], rows: &[Row]) -> u64
     ensures { result ≡ columns_of lanes.now rows.now }
@@ -451,7 +436,7 @@ fn put_back(
 {
     let count = rows.len() as u64;
     put_lanes(out, line_above(count), lanes)?;
-    put_heads(alloc, out, count, lanes)?;
+    put_heads(alloc, out, has_outside(lanes, rows), count, lanes)?;
     put_guides(out, lanes, rows)
 }
 
@@ -475,7 +460,7 @@ fn put_front(
 ///
 /// Each row has one label, right of all lanes, so that no label cuts an arrow; and each packet that is given has one arrow,
 /// from where it was sent. A packet that nobody got ends in a small cross. The lanes' names stand above all rows, and
-/// again between each 40 of them; a legend stands below. Names and labels are escaped. It is an `AllocError` only where there is no
+/// again between each 40 of them, with `outside` over what is left of all lanes, where something is; a legend stands below. Names and labels are escaped. It is an `AllocError` only where there is no
 /// memory for the text.
 #[tactic(auto, unfolding(crate::specs::Svg::svg_of))]
 pub fn svg_text(alloc: Global, picture: &Picture) -> Result<Vec<u8>, AllocError>

@@ -1,10 +1,10 @@
 use Rattle.std.proofs.Common.{ℕ, ◌*◌, arith}
 use Rattle.std.proofs.lemmas.Grind.{common_steps}
-use Rattle.serf_draw.specs.Svg.{line_above, names_text}
+use Rattle.serf_draw.specs.Svg.{head_text, line_above}
 use Rattle.serf_draw.proofs.HeadLemmas.{heads_more}
 use Rattle.serf_draw.proofs.svg.put_heads.Goals as goal
 
 pub loop-part-preserved : goal.loop-part-preserved
 loop-part-preserved c =
-    let more = heads_more (λ (k : ℕ). line_above (40 * k)) (λ (line : ℕ). names_text line 0 c.args.lanes.now) c.args.out.now.items c.loop-part.part in
+    let more = heads_more (λ (k : ℕ). line_above (40 * k)) (head_text c.args.outside c.args.lanes.now) c.args.out.now.items c.loop-part.part in
     first_of (cc, grind (arith, common_steps, more))

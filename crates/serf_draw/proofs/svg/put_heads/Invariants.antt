@@ -1,9 +1,9 @@
 use Rattle.std.proofs.Common.{◌≡◌, ◌++◌, ◌*◌, map}
 use Rattle.std.specs.List.{flat_map, range_with_len}
-use Rattle.serf_draw.specs.Svg.{line_above, names_text}
+use Rattle.serf_draw.specs.Svg.{head_text, line_above}
 use Rattle.serf_draw.proofs.svg.put_heads.Given as goal
 
 -- the names on as many lines as there were so far
 abbrev pub invariant-loop-part : goal.invariant-loop-part
 invariant-loop-part l = l.out.items ≡ l.fn.out.items
-    ++ flat_map (λ line. names_text line 0 l.lanes) (map (λ k. line_above (40 * k)) (range_with_len 0 l.part))
+    ++ flat_map (head_text l.outside l.lanes) (map (λ k. line_above (40 * k)) (range_with_len 0 l.part))

@@ -1,7 +1,7 @@
 use Rattle.std.proofs.Common.{◌≡◌, drop, length}
 use Rattle.std.specs.List.{fold}
 use Rattle.serf_draw.specs.Svg.{greater, longest}
-use Rattle.serf_draw.proofs.svg.longest.Given as goal
+use Rattle.serf_draw.proofs.label.longest.Given as goal
 
 -- the rows that are left make the longest so far the longest of all
 abbrev pub invariant-loop-row : goal.invariant-loop-row
