@@ -19,6 +19,9 @@ ACTIONS = "150"
 STREAM = ["explain", "--stream"]
 AGENTS = b"agent 61 4 4 512 2 keep 2\nagent 62 4 4 512 2 keep 2\n"
 
+# What is said of a join that raises the least time.
+RISES = b"the join ignores old events: the least time rises to %d"
+
 # Agents that keep their events over a restart.
 KEEPING = b"agent 61 4 4 512 8 keep+events\nagent 62 4 4 512 8 ignore+events\n"
 
@@ -90,8 +93,24 @@ class Story:
         self.actions, agents = actions_of(schedule)
         self.names = [bytes_of(words[1]) for words in agents]
         self.keeps = [any(word.endswith(b"+events") for word in words) for words in agents]
+        self.ignores = [words[6].startswith(b"ignore") for words in agents]
         self.turns = turns_of(text)
         self.sent = decoded([line[2] for lines, _ in self.turns.values() for line in lines if line[0] == b"sent"])
+        self.raised = dict(self.raising())
+
+    def raising(self):
+        """Each whole merge that raises its agent's least time of events, and to what: as the states' event clocks say, and
+        what each restart says that it takes."""
+        least = [1] * len(self.names)
+        for number, words in enumerate(self.actions, 1):
+            lines, reasons = self.turns[number]
+            if words[0] == b"restart" and lines[0][0] == b"restarted":
+                least[int(words[1])] = int(re.search(rb": it takes events from (\d+) and queries from ", reasons[0])[1])
+            if words[0] == b"merge" and words[3] == b"join" and lines[0] == [b"merged"] and self.ignores[int(words[1])]:
+                clock = int(next(line[1] for line in self.sent[int(words[2])] if line[0] == b"EventLTime"))
+                if clock > least[int(words[1])]:
+                    least[int(words[1])] = clock
+                    yield number, clock
 
     def handed(self, number):
         """The events that an action handed out: agent, time, name, payload."""
@@ -118,9 +137,14 @@ class Story:
         )
 
     def merge_fault(self, number):
-        """What is wrong with the reasons of a merge, or None: each event that it carried has a line and a verdict."""
+        """What is wrong with the reasons of a merge, or None: where it raises the least time, the first says so, and each
+        event that it carried has a line and a verdict."""
         _, agent, packet, *_ = self.actions[number - 1]
         wanted, reasons, new = carried(self.sent[int(packet)]), self.turns[number][1], []
+        if number in self.raised:
+            first, *reasons = reasons
+            if first != RISES % self.raised[number]:
+                return first
         if wanted == []:
             return None if reasons == [b"the state carries no event"] else reasons
         if len(wanted) != len(reasons):
@@ -169,7 +193,8 @@ def event_in(lines):
 
 
 def what_is_said(count, name, story):
-    """What was seen was handed out before, and a merge has its verdicts."""
+    """What was seen was handed out before, and a merge has its verdicts. The answer is how many were seen, how many merged,
+    and how many of these raised the least time."""
     seen = merges = 0
     for number, words in enumerate(story.actions, 1):
         lines, reasons = story.turns[number]
@@ -189,7 +214,7 @@ def what_is_said(count, name, story):
             fault = story.merge_fault(number)
             count.check(f"{name}: action {number} merges", fault is None, fault)
             merges += 1
-    return seen, merges
+    return seen, merges, len(story.raised)
 
 
 def examples(count):
@@ -202,15 +227,16 @@ def examples(count):
 
 
 def random_schedules(count):
-    seen = merges = 0
+    total = (0, 0, 0)
     for kind in checks.KINDS:
         for seed in SEEDS:
             schedule = ran(["random", str(seed), "--kind", kind, "--actions", ACTIONS])[1]
             story = taken_apart(count, f"{kind} {seed}", schedule)
             if story:
                 some = what_is_said(count, f"{kind} {seed}", story)
-                seen, merges = seen + some[0], merges + some[1]
-    count.check("some were seen, and some merged", seen >= 30 and merges >= 30, (seen, merges))
+                total = tuple(a + b for a, b in zip(total, some))
+    seen, merges, raised = total
+    count.check("some were seen, some merged, and some raised", seen >= 30 and merges >= 30 and raised >= 10, total)
 
 
 def incident(count):
@@ -396,7 +422,7 @@ def of_earlier_actions(count):
     turns = turns_of(ran(["explain"], schedule)[1])
     for number, *wanted in (
         (4, b'query 1 has an ack of "a"'),
-        (8, *(b'slot %d brings event %d "%s" "": below the least time 3, which stands since action 8' % row for row in ((1, 1, b"a"), (2, 2, b"b")))),
+        (8, RISES % 3, *(b'slot %d brings event %d "%s" "": below the least time 3, which stands since action 8' % row for row in ((1, 1, b"a"), (2, 2, b"b")))),
         (9, b'event 1 "a" "": below the least time 3, which stands since action 8'),
         (14, b"query 1 with ID 7: below the least time 2, which stands since action 10"),
         (16, b'"a" asked query 1 at action 1 and closed it at action 15'),
@@ -412,6 +438,40 @@ def of_earlier_actions(count):
     brings = b'slot 1 brings event 1 "a" "": '
     wanted = [brings + b"new, and handed out", brings + b'seen: "a" was handed event 1 "a" "" at action 2']
     count.check("an event twice in a merge", got == wanted, got)
+
+
+def least_times(count):
+    """A join that raises the least time of events says so first, a state without events too, and no other merge does; where
+    the disk fails behind that, it is said, and where nothing was heard of, it isn't."""
+    none = b"the state carries no event"
+    clocks = b"".join(b"inject 0281aa4576656e744c54696d65%02x\n" % clock for clock in (9, 7, 9, 12, 0))
+    schedule = b"agent 61 4 4 512 8 ignore 2\nagent 62 4 4 512 8 keep 2\n" + clocks
+    schedule += b"merge 0 0 sync\nmerge 0 0 join\nmerge 0 1 join\nmerge 0 2 join\nmerge 1 3 join\nmerge 0 3 join\nmerge 0 4 join\n"
+    schedule += b"restart 0 -\nmerge 0 2 join\nrestart 0 %s\nmerge 0 2 join\n" % b"event-clock: 9\n".hex().encode()
+    turns = turns_of(ran(["explain"], schedule)[1])
+    for number, *rises in ((6,), (7, 9), (8,), (9,), (10,), (11, 12), (12,), (14, 9), (16,)):
+        got = turns[number][1] if turns else None
+        count.check(f"a least time: action {number}", got == [*(RISES % least for least in rises), none], got)
+    # a state with the clock 2 and events of the times 1 and 2: at the second the disk fails
+    fires = b"fire 0 6465706c6f79 7631 0\nfire 0 6465706c6f79 7632 0\n"
+    state = ran(["replay"], KEEPING + fires + b"state 0\n")[1].split()[-1].replace(b"4576656e744c54696d6503", b"4576656e744c54696d6502")
+    below = b'slot 1 brings event 1 "deploy" "v1": below the least time 2, which stands since action 3'
+    failed = b'slot 2 brings event 2 "deploy" "v2": new, but the disk of "b" failed at %s, as action 2 had planned of number %d from then on; it is stopped until it is opened again'
+    unheard = b'nothing of the state was heard of: at the line of the least time 2 the disk of "b" failed at an append, as action 2 had planned of number 1 from then on; it is stopped until it is opened again'
+    for setting, call, failing, *wanted in (
+        (b"ignore", b"append", 1, RISES % 2, below, failed % (b"an append", 1)),
+        (b"ignore+events", b"flush", 2, RISES % 2, below, failed % (b"a flush", 2)),
+        (b"ignore+events", b"append", 1, unheard),
+        (b"keep", b"append", 1, b'slot 1 brings event 1 "deploy" "v1": ' + failed[len(b'slot 2 brings event 2 "deploy" "v2": ') :] % (b"an append", 1)),
+    ):
+        agents = b"agent 61 4 4 512 8 keep\nagent 62 4 4 512 8 %s\n" % setting
+        got = reasons_of(agents + b"inject %s\nbreak 1 %s %d\nmerge 1 0 join\n" % (state, call, failing), 3)
+        count.check(f"a least time, and a disk that fails: {setting}, {call} {failing}", got == wanted, got)
+    # schedules with joins, and what they say
+    names = [name for name in checks.names_in(checks.ROWS) if b" join\n" in read(checks.ROWS, name + ".schedule")]
+    stories = [taken_apart(count, name, read(checks.ROWS, name + ".schedule")) for name in names]
+    raised = sum(what_is_said(count, name, story)[2] for name, story in zip(names, stories) if story)
+    count.check("some joins of rows raise it", len(names) >= 5 and raised >= 5, (names, raised))
 
 
 def refusals(count):
@@ -512,4 +572,5 @@ def long_runs(count):
 
 
 if __name__ == "__main__":
-    sys.exit(checks.by_speed([long_runs], [examples, random_schedules, incident, partition, ranges, any_bytes, said_rows, kept, of_earlier_actions, refusals, streams, while_it_runs, to_full_device]))
+    parts = [examples, random_schedules, incident, partition, ranges, any_bytes, said_rows, kept, of_earlier_actions, least_times, refusals]
+    sys.exit(checks.by_speed([long_runs], [*parts, streams, while_it_runs, to_full_device]))

@@ -1,5 +1,5 @@
 -- What is told of events, one part of them after another.
-use Rattle.std.proofs.Common.{◌≡◌, ◌<◌, ℕ, codes, decimal, length, length-append, arith, List, [], ◌∷◌, ◌++◌, Option, refl, sym, ap, subst, ◌∙◌, append_assoc, append-nil}
+use Rattle.std.proofs.Common.{◌≡◌, ◌<◌, ℕ, codes, decimal, length, length-append, arith, List, [], ◌∷◌, ◌++◌, Option, Some, None, refl, sym, ap, subst, ◌∙◌, append_assoc, append-nil}
 use Rattle.serf_wire.specs.declared.texts.EventBody.{EventBody}
 use Rattle.serf_window.specs.Window.{TimedEntry}
 use Rattle.serf_agent.specs.Ideal.{IdealAgent}
@@ -11,8 +11,8 @@ use Rattle.serf_agent.specs.Events.{admission}
 use Rattle.serf_model.specs.declared.action.Action.{Action}
 use Rattle.serf_model.specs.Cluster.{Cluster}
 use Rattle.serf_explain.specs.Because.{AddsSuch, because_line, byte_text}
-use Rattle.serf_explain.specs.Carried.{AreCarried, AreMerged, TellsMerge, TellsMerged, after_events, carried_words}
-use Rattle.serf_explain.specs.Judging.{AddsCarried, AddsLines, HasJudged, IsJudging, TellsText}
+use Rattle.serf_explain.specs.Carried.{AreCarried, AreOfState, TellsMerge, TellsMerged, after_events, carried_words, raised_least, raised_reasons}
+use Rattle.serf_explain.specs.Judging.{AddsCarried, AddsLines, AddsState, HasJudged, IsJudging, TellsText, merged_of}
 use Rattle.serf_explain.proofs.ReasonLaws.{lines-append}
 
 carried-append : (xs ys : List (TimedEntry EventBody)) (j : IdealAgent) (before behind : List (List ℕ)) → AreCarried xs j before → AreCarried ys (after_events xs j) behind → AreCarried (xs ++ ys) j (before ++ behind)
@@ -75,26 +75,31 @@ judged-lines n i j all old new judge h = subst (λ es. AddsLines n es j old new)
 pub judged-agent : (n : ℕ) (i j : IdealAgent) (all : List (TimedEntry EventBody)) (old new : List ℕ) (judge : Judge) → HasJudged n i j all [] old new judge → IsJudging i (after_events all j) judge
 judged-agent n i j all old new judge h = subst (λ es. IsJudging i (after_events es j) judge) (sym (append-nil h.done) ∙ h.split) h.judging
 
--- what is told of a merge, where this is told of its events
-abbrev pub merged_of : List (List ℕ) → List (List ℕ)
-merged_of [] = codes "the state carries no event" ∷ []
-merged_of (r ∷ rs) = r ∷ rs
+-- all of a merge was judged, and this is the least time that it raises, if it does
+pub adds_state : (n : ℕ) (i j : IdealAgent) (all : List (TimedEntry EventBody)) (old new : List ℕ) (judge : Judge) (raised : Option ℕ) → HasJudged n i j all [] old new judge
+    → ((k : IdealAgent) → IsJudging i k judge → raised ≡ raised_least i k) → AddsState n all i j raised old new
+adds_state n i j all old new judge raised h is = record {
+  lines = judged-lines n i j all old new judge h;
+  raises = is (after_events all j) (judged-agent n i j all old new judge h);
+}
 
-pub some-merged : (carried : List (List ℕ)) → 0 < length (merged_of carried)
-some-merged [] = omega arith
-some-merged (r ∷ rs) = omega arith
+-- what is told of a merge, where this is told of its events, and it raises this least time
+abbrev pub whole_of : Option ℕ → List (List ℕ) → List (List ℕ)
+whole_of raised carried = raised_reasons raised ++ merged_of carried
 
-pub told-merged : (carried : List (List ℕ)) → TellsMerged carried (merged_of carried)
-told-merged [] = λ es i h. by es i h
-  where
-    by : (es : List (TimedEntry EventBody)) (i : IdealAgent) → AreCarried es i [] → AreMerged es i (merged_of [])
-    by [] i h = refl
-    by (e ∷ es) i h = absurd (cc (h.2))
-told-merged (r ∷ rs) = λ es i h. by es i h
-  where
-    by : (es : List (TimedEntry EventBody)) (i : IdealAgent) → AreCarried es i (r ∷ rs) → AreMerged es i (merged_of (r ∷ rs))
-    by [] i h = absurd (cc (h))
-    by (e ∷ es) i h = h
+pub some-merged : (raised : Option ℕ) (carried : List (List ℕ)) → 0 < length (whole_of raised carried)
+some-merged None [] = omega arith
+some-merged None (r ∷ rs) = omega arith
+some-merged (Some least) carried = omega arith
+
+told-events : (carried : List (List ℕ)) (es : List (TimedEntry EventBody)) (i : IdealAgent) → AreCarried es i carried → AreOfState es i (merged_of carried)
+told-events [] [] i h = refl
+told-events [] (e ∷ es) i h = absurd (cc (h.2))
+told-events (r ∷ rs) [] i h = absurd (cc (h))
+told-events (r ∷ rs) (e ∷ es) i h = h
+
+pub told-merged : (raised : Option ℕ) (carried : List (List ℕ)) → TellsMerged raised carried (whole_of raised carried)
+told-merged raised carried = λ es before i h. (merged_of carried, ap (λ (o : Option ℕ). whole_of o carried) h.0, told-events carried es i h.1)
 
 -- no line is empty
 some-line : (n : ℕ) (reason : List ℕ) → 0 < length (because_line n reason)
@@ -103,21 +108,28 @@ some-line n reason =
     let whole = length-append (decimal n ++ codes " because " ++ flat_map byte_text reason) (codes "\n") in
     omega (arith, whole)
 
--- a text grew by what is told of a merge
-pub adds-merged : (n : ℕ) (carried : List (List ℕ)) (a b : List ℕ) → b ≡ a ++ flat_map (because_line n) (merged_of carried) → AddsSuch (TellsMerged carried) n a b
-adds-merged n carried a b is = record { reasons = merged_of carried; some = some-merged carried; added = is; such = told-merged carried }
-
-pub adds-no-event : (n : ℕ) (carried : List (List ℕ)) (text a b : List ℕ) → text ≡ flat_map (because_line n) carried → length text ≡ 0 → b ≡ a ++ because_line n (codes "the state carries no event") → AddsSuch (TellsMerged carried) n a b
-adds-no-event n [] text a b lines none is = adds-merged n [] a b (is ∙ ap (λ t. a ++ t) (sym (append-nil (because_line n (codes "the state carries no event")))))
+-- a text grew by what is told of the events of a merge that carries none
+pub adds-no-event : (n : ℕ) (carried : List (List ℕ)) (text a b : List ℕ) → text ≡ flat_map (because_line n) carried → length text ≡ 0 → b ≡ a ++ because_line n (codes "the state carries no event")
+    → b ≡ a ++ flat_map (because_line n) (merged_of carried)
+adds-no-event n [] text a b lines none is = is ∙ ap (λ t. a ++ t) (sym (append-nil (because_line n (codes "the state carries no event"))))
 adds-no-event n (r ∷ rs) text a b lines none is =
     let long = ap (λ (t : List ℕ). length t) lines in
     let sum = length-append (because_line n r) (flat_map (because_line n) rs) in
     absurd (omega (arith, none, long, sum, some-line n r))
 
-pub adds-events : (n : ℕ) (carried : List (List ℕ)) (text a b : List ℕ) → text ≡ flat_map (because_line n) carried → (length text ≡ 0 → ⊥) → b ≡ a ++ text → AddsSuch (TellsMerged carried) n a b
-adds-events n [] text a b lines some is = absurd (some (ap (λ (t : List ℕ). length t) lines))
-adds-events n (r ∷ rs) text a b lines some is = adds-merged n (r ∷ rs) a b (is ∙ ap (λ (t : List ℕ). a ++ t) lines)
+-- a text grew by what is told of a merge: the least time, and then the events
+pub adds_merged : (n : ℕ) (raised : Option ℕ) (carried : List (List ℕ)) (a mid b : List ℕ) → mid ≡ a ++ flat_map (because_line n) (raised_reasons raised) → b ≡ mid ++ flat_map (because_line n) (merged_of carried)
+    → AddsSuch (TellsMerged raised carried) n a b
+adds_merged n raised carried a mid b first second = record {
+  reasons = whole_of raised carried;
+  some = some-merged raised carried;
+  added = second
+      ∙ ap (λ (t : List ℕ). t ++ flat_map (because_line n) (merged_of carried)) first
+      ∙ append_assoc a (flat_map (because_line n) (raised_reasons raised)) (flat_map (because_line n) (merged_of carried))
+      ∙ ap (λ (t : List ℕ). a ++ t) (sym (lines-append n (raised_reasons raised) (merged_of carried)));
+  such = told-merged raised carried;
+}
 
 -- where nothing is merged, nothing is told
-pub tells-none : (n : ℕ) (c : Cluster) (action : Action) (text : List ℕ) → text ≡ [] → TellsMerge c action [] → TellsText n c action text
-tells-none n c action text empty h = record { carried = []; text_is = empty; tells = h }
+pub tells-none : (n : ℕ) (c : Cluster) (action : Action) (raised : Option ℕ) (text : List ℕ) → text ≡ [] → TellsMerge c action raised [] → TellsText n c action raised text
+tells-none n c action raised text empty h = record { carried = []; text_is = empty; tells = h }

@@ -1,5 +1,4 @@
 pub mod ReasonLaws
-pub mod WorldLaws
 pub mod CarriedLaws
 pub mod SlotLaws
 pub mod StandingLaws

@@ -1,30 +1,72 @@
--- What is told of a merge, by what its packet says.
-use Rattle.std.proofs.Common.{◌≡◌, ℕ, Bool, List, [], Some, Result, Ok, Err, refl, sym, ap, subst, ◌∙◌}
+-- An agent that a world stores is a sound one's view; and what is told of a merge into it, by what its packet says.
+use Rattle.std.proofs.Common.{◌≡◌, ℕ, zero, suc, Bool, List, [], ◌∷◌, Option, Some, None, Result, Ok, Err, refl, sym, ap, subst, ◌∙◌}
 use Rattle.std.specs.Prelude.{slice_get}
+use Rattle.std.specs.List.{AllByRecursion}
+use Rattle.std.specs.Option.{option_map}
+use Rattle.std.proofs.lemmas.Option.{slice_get-map}
 use Rattle.serf_wire.specs.Decoded.{decoded}
 use Rattle.serf_wire.specs.Message.{Message, PushPull, push_pull}
 use Rattle.serf_wire.specs.declared.fault.WireFault.{WireFault}
+use Rattle.serf_agent.specs.Sound.{IsSound}
 use Rattle.serf_agent.specs.States.{events_of}
+use Rattle.serf_agent.specs.View.{ConcreteState, view_of}
 use Rattle.serf_model.specs.declared.action.Act.TheVariants as acts
 use Rattle.serf_model.specs.declared.action.Action.TheVariants as actions
 use Rattle.serf_model.specs.Cluster.{Cluster, IdealNode}
-use Rattle.serf_explain.specs.Carried.{AreCarried, heard}
-use Rattle.serf_explain.specs.Judging.{AddsLines, AddsMerge, TellsText}
+use Rattle.serf_model.specs.Ready.{AreRepresentable, IsRepresentable}
+use Rattle.serf_world.specs.View.{IsViewed, NodeState, WorldState, agent_at, node_of}
+use Rattle.serf_explain.specs.Carried.{IsFound, heard}
+use Rattle.serf_explain.specs.Judging.{AddsMerge, AddsState, TellsText}
 
-module _ (n : ℕ) (c : Cluster) (agent packet : ℕ) (join : Bool) (m : IdealNode) (bytes new : List ℕ) (at : slice_get c.nodes agent ≡ Some m) (sent : slice_get c.sent packet ≡ Some bytes) where
-  merges : (p : PushPull) → decoded bytes ≡ Ok (push_pull p) → AddsLines n (events_of p.slots) (heard p join m.agent) [] new → TellsText n c (actions.Of agent (acts.Merge packet join)) new
+mapped : (o : Option IdealNode) → option_map (λ s. s.concrete) (option_map node_of o) ≡ option_map (λ m. view_of m.agent) o
+mapped None = refl
+mapped (Some m) = refl
+
+agent-viewed : (c : Cluster) (w : WorldState) (a : ℕ) → IsViewed c w → agent_at w a ≡ option_map (λ m. view_of m.agent) (slice_get c.nodes a)
+agent-viewed c w a h =
+    ap (λ (ns : List NodeState). option_map (λ s. s.concrete) (slice_get ns a)) (sym h.nodes)
+    ∙ ap (λ (o : Option NodeState). option_map (λ s. s.concrete) o) (slice_get-map node_of c.nodes a)
+    ∙ mapped (slice_get c.nodes a)
+
+pub agent-is : (c : Cluster) (w : WorldState) (a : ℕ) (m : IdealNode) → IsViewed c w → slice_get c.nodes a ≡ Some m → agent_at w a ≡ Some (view_of m.agent)
+agent-is c w a m h at = agent-viewed c w a h ∙ ap (λ (o : Option IdealNode). option_map (λ m. view_of m.agent) o) at
+
+at-index : (ms : List IdealNode) (a : ℕ) (m : IdealNode) → AllByRecursion (λ m. IsRepresentable m.agent) ms → slice_get ms a ≡ Some m → IsSound m.agent
+at-index [] a m h at = absurd (cc)
+at-index (x ∷ xs) zero m h at = let same : x ≡ m = cc in subst (λ (y : IdealNode). IsSound y.agent) same h.0.consistent.sound
+at-index (x ∷ xs) (suc a) m h at = at-index xs a m h.1 at
+
+pub agent-sound : (c : Cluster) (a : ℕ) (m : IdealNode) → AreRepresentable c → slice_get c.nodes a ≡ Some m → IsSound m.agent
+agent-sound c a m h at = at-index c.nodes a m h at
+
+-- an agent that a world stores is one of the cluster
+pub node-of : (c : Cluster) (w : WorldState) (a : ℕ) (s : ConcreteState) → IsViewed c w → agent_at w a ≡ Some s → (m : IdealNode) × (slice_get c.nodes a ≡ Some m) × (s ≡ view_of m.agent)
+node-of c w a s h at = by (slice_get c.nodes a) refl
+  where
+    by : (o : Option IdealNode) → slice_get c.nodes a ≡ o → (m : IdealNode) × (slice_get c.nodes a ≡ Some m) × (s ≡ view_of m.agent)
+    by None is =
+        let none : Some s ≡ None = sym at ∙ agent-viewed c w a h ∙ ap (λ (o : Option IdealNode). option_map (λ m. view_of m.agent) o) is in
+        absurd (cc none)
+    by (Some m) is =
+        let some : Some s ≡ Some (view_of m.agent) = sym at ∙ agent-viewed c w a h ∙ ap (λ (o : Option IdealNode). option_map (λ m. view_of m.agent) o) is in
+        (m, is, cc some)
+
+-- ---- what is told
+
+module _ (n : ℕ) (c : Cluster) (agent packet : ℕ) (join : Bool) (m : IdealNode) (raised : Option ℕ) (bytes new : List ℕ) (at : slice_get c.nodes agent ≡ Some m) (sent : slice_get c.sent packet ≡ Some bytes) where
+  merges : (p : PushPull) → decoded bytes ≡ Ok (push_pull p) → AddsState n (events_of p.slots) m.agent (heard p join m.agent) raised [] new → TellsText n c (actions.Of agent (acts.Merge packet join)) raised new
   merges p is adds = record {
-    carried = adds.added;
-    text_is = adds.new_is;
+    carried = adds.lines.added;
+    text_is = adds.lines.new_is;
     tells = λ node given q here there reads.
         let one : m ≡ node = cc (sym at ∙ here) in
         let packets : bytes ≡ given = cc (sym sent ∙ there) in
         let same : p ≡ q = cc (sym is ∙ ap decoded packets ∙ reads) in
-        subst (λ (x : IdealNode). AreCarried (events_of q.slots) (heard q join x.agent) adds.added) one
-        (subst (λ (r : PushPull). AreCarried (events_of r.slots) (heard r join m.agent) adds.added) same adds.carried);
+        subst (λ (x : IdealNode). IsFound raised (events_of q.slots) x.agent (heard q join x.agent) adds.lines.added) one
+        (subst (λ (r : PushPull). IsFound raised (events_of r.slots) m.agent (heard r join m.agent) adds.lines.added) same (adds.raises, adds.lines.carried));
   }
 
-  nothing : ((p : PushPull) → decoded bytes ≡ Ok (push_pull p) → ⊥) → new ≡ [] → TellsText n c (actions.Of agent (acts.Merge packet join)) new
+  nothing : ((p : PushPull) → decoded bytes ≡ Ok (push_pull p) → ⊥) → new ≡ [] → TellsText n c (actions.Of agent (acts.Merge packet join)) raised new
   nothing other is = record {
     carried = [];
     text_is = is;
@@ -34,10 +76,10 @@ module _ (n : ℕ) (c : Cluster) (agent packet : ℕ) (join : Bool) (m : IdealNo
   }
 
   -- the packet says a state, or something else
-  pub tells-merge : AddsMerge n m.agent join (decoded bytes) [] new → TellsText n c (actions.Of agent (acts.Merge packet join)) new
+  pub tells-merge : AddsMerge n m.agent join (decoded bytes) raised [] new → TellsText n c (actions.Of agent (acts.Merge packet join)) raised new
   tells-merge h = by (decoded bytes) refl h
     where
-      by : (r : Result Message WireFault) → decoded bytes ≡ r → AddsMerge n m.agent join r [] new → TellsText n c (actions.Of agent (acts.Merge packet join)) new
+      by : (r : Result Message WireFault) → decoded bytes ≡ r → AddsMerge n m.agent join r raised [] new → TellsText n c (actions.Of agent (acts.Merge packet join)) raised new
       by (Ok (push_pull p)) is adds = merges p is adds
       by (Ok _) is none = nothing (λ p e. let other = sym is ∙ e in cc other) none
       by (Err _) is none = nothing (λ p e. let other = sym is ∙ e in cc other) none

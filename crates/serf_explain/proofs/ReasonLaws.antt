@@ -1,8 +1,9 @@
 -- A text that grows by reasons.
-use Rattle.std.proofs.Common.{◌≡◌, ℕ, ◌<◌, List, [], ◌∷◌, ◌++◌, refl, sym, ap, ◌∙◌, append_assoc, length, arith}
+use Rattle.std.proofs.Common.{◌≡◌, ℕ, ◌<◌, List, [], ◌∷◌, ◌++◌, Option, refl, sym, ap, ◌∙◌, append_assoc, length, arith}
 use Rattle.std.specs.List.{flat_map}
 use Rattle.std.proofs.lemmas.List.{append-nil}
 use Rattle.serf_explain.specs.Because.{AddsReasons, AddsSome, because_line}
+use Rattle.serf_explain.specs.Carried.{raised_reasons}
 
 pub lines-append : (n : ℕ) (xs ys : List (List ℕ)) → flat_map (because_line n) (xs ++ ys) ≡ flat_map (because_line n) xs ++ flat_map (because_line n) ys
 lines-append n [] ys = refl
@@ -42,3 +43,7 @@ adds-behind n a b c h k = by h.reasons h.added
           ∙ append_assoc a (flat_map (because_line n) rs) (flat_map (because_line n) k.reasons)
           ∙ ap (λ t. a ++ t) (sym (lines-append n rs k.reasons));
     }
+
+-- what is told of a least time, and reasons behind it
+pub adds_raised : (n : ℕ) (raised : Option ℕ) (a b c : List ℕ) → b ≡ a ++ flat_map (because_line n) (raised_reasons raised) → AddsSome n b c → AddsSome n a c
+adds_raised n raised a b c is some = adds-behind n a b c (record { reasons = raised_reasons raised; added = is }) some

@@ -1,4 +1,4 @@
--- The line of an event that was seen, whose bytes all stand as they are.
+-- The lines of an event that was seen, and of a least time, whose bytes all stand as they are.
 use Rattle.std.proofs.Common.{◌≡◌, ℕ, ◌+◌, ◌%◌, ◌^◌, ◌<◌, ◌++◌, List, [], ◌∷◌, Some, codes, decimal, length, nat_le, true, refl, sym, ap, subst, ◌∙◌, append_assoc, arith}
 use Rattle.std.specs.List.{list_all}
 use Rattle.std.proofs.lemmas.Bool.Decides.{nat_tests}
@@ -8,7 +8,7 @@ use Rattle.serf_window.specs.Texts.{event_of}
 use Rattle.serf_wire.specs.declared.texts.EventBody.{EventBody}
 use Rattle.serf_agent.specs.declared.outcome.Reason.TheVariants.{Seen}
 use Rattle.serf_explain.specs.Because.{because_line, is_printable}
-use Rattle.serf_explain.specs.Carried.{carried_words, slot_words}
+use Rattle.serf_explain.specs.Carried.{carried_words, raised_words, slot_words}
 use Rattle.serf_explain.specs.Judging.{AddsCarried, seen_behind, seen_front}
 use Rattle.serf_explain.specs.Words.{event_words, is_plain, quoted, standing_texts, stands, whole_quoted}
 use Rattle.serf_explain.proofs.TextLaws.{and-left, and-right, plain-is_printable, plain-text, printable-text}
@@ -104,3 +104,23 @@ adds-standing n slot time action name payload front named words old mid new slot
           ∙ (λ q. old ++ (seen_front (front_is q) slot (words_are q) ++ seen_behind named (words_are q) action))
           ∙ ap (λ (t : List ℕ). old ++ t) (line-parts n slot time action what named ∙ sym line);
     }
+
+-- ---- the line of a least time
+
+raised-printable : (least : ℕ) → least < 2 ^ 64 → printable (raised_words least)
+unfolding raised_words
+raised-printable least fits = both (codes "the join ignores old events: the least time rises to ") (decimal least) refl (number least fits)
+
+least-law : (o n b w d e : List ℕ) → o ++ n ++ b ++ w ++ d ++ e ≡ o ++ (n ++ b ++ (w ++ d) ++ e)
+least-law o n b w d e = simp append_assoc
+
+-- a text grew by the parts of the line of a least time, one after another
+pub adds-least : (n least : ℕ) (a one two three new : List ℕ) → least < 2 ^ 64 → one ≡ a ++ decimal n → two ≡ one ++ codes " because "
+    → three ≡ two ++ codes "the join ignores old events: the least time rises to " ++ decimal least → new ≡ three ++ codes "\n" → new ≡ a ++ because_line n (raised_words least)
+unfolding raised_words
+adds-least n least a one two three new fits first second third last =
+    let words : List ℕ = codes "the join ignores old events: the least time rises to " in
+    last
+    ∙ ap (λ (t : List ℕ). t ++ codes "\n") (third ∙ ap (λ (t : List ℕ). t ++ words ++ decimal least) (second ∙ ap (λ (t : List ℕ). t ++ codes " because ") first))
+    ∙ least-law a (decimal n) (codes " because ") words (decimal least) (codes "\n")
+    ∙ ap (λ (t : List ℕ). a ++ t) (sym (line-said n (raised_words least) (raised-printable least fits)))

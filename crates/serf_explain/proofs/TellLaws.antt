@@ -26,7 +26,7 @@ use Rattle.serf_explain.proofs.KnownLaws.{still-sent, turn-action}
 use Rattle.serf_explain.proofs.NoteLaws.{lines-push, of-seen}
 use Rattle.serf_wire.specs.declared.texts.EventBody.{EventBody}
 use Rattle.serf_window.specs.Window.{TimedEntry}
-use Rattle.serf_explain.proofs.CarriedLaws.{merged_of, some-merged, told-merged}
+use Rattle.serf_explain.proofs.CarriedLaws.{some-merged, told-merged, whole_of}
 use Rattle.serf_explain.specs.Explained.{AddsTurn, Explained, HasTold, IsReasoned, IsTold, NameHandOuts, NamesHandOut, TellsAll, TellsRun, cluster_behind, clusters_before, clusters_from, lines_text, turn_text, turns_text}
 
 turns-push : (range : Range) (sent : List (List ℕ)) (n : ℕ) (es : List Explained) (e : Explained)
@@ -41,9 +41,9 @@ turns-push range sent n (x ∷ xs) e =
     ∙ sym (append_assoc (turn_text range sent n x.turn.action x.turn.line x.reasons) (turns_text range sent (n + 1) xs) (turn_text range sent (n + length (x ∷ xs)) e.turn.action e.turn.line e.reasons))
 
 -- an action's reasons are those of what it merges
-of-merge : (c : Cluster) (action : Action) (carried reasons : List (List ℕ)) → TellsMerge c action carried → TellsMerged carried reasons → OfMerge AreMerged c action reasons
-of-merge c (actions.Of agent (acts.Merge packet join)) carried reasons h tells = λ m bytes p at sent spells. tells (events_of p.slots) (heard p join m.agent) (h m bytes p at sent spells)
-of-merge c _ carried reasons h tells = tt
+of-merge : (c : Cluster) (action : Action) (raised : Option ℕ) (carried reasons : List (List ℕ)) → TellsMerge c action raised carried → TellsMerged raised carried reasons → OfMerge AreMerged c action reasons
+of-merge c (actions.Of agent (acts.Merge packet join)) raised carried reasons h tells = λ m bytes p at sent spells. tells (events_of p.slots) m.agent (heard p join m.agent) (h m bytes p at sent spells)
+of-merge c _ raised carried reasons h tells = tt
 
 -- what was delivered stays it
 still-delivered : (sent more : List (List ℕ)) (action : Action) (a : ℕ) (e : TimedEntry EventBody) → event_delivered sent action ≡ Some (a, e) → event_delivered (sent ++ more) action ≡ Some (a, e)
@@ -69,14 +69,14 @@ lines-of [] = refl
 lines-of (e ∷ es) = ap (λ (ls : List Line). e.turn.line ∷ ls) (lines-of es)
 
 -- one more turn
-pub told-after : (configs : List Config) (range : Range) (r : Run) (clusters : List Cluster) (action : Action) (new : WorldState) (line : Line) (carried : List (List ℕ)) (past noted : List Note) (text added : List ℕ) (n : ℕ)
+pub told-after : (configs : List Config) (range : Range) (r : Run) (clusters : List Cluster) (action : Action) (new : WorldState) (line : Line) (raised : Option ℕ) (carried : List (List ℕ)) (past noted : List Note) (text added : List ℕ) (n : ℕ)
     → ((step r.cluster action).cluster.sent ≡ r.cluster.sent ++ (step r.cluster action).turn.packets)
     → ((more : List (List ℕ)) → action_text ((step r.cluster action).cluster.sent ++ more) n (step r.cluster action).turn.line ≡ action_text (step r.cluster action).cluster.sent n (step r.cluster action).turn.line)
-    → IsTold configs range r clusters past text → n ≡ length r.turns + 1 → TellsMerge r.cluster action carried → TakesStep (step r.cluster action) new line → KnowsSeen configs past new.sent action line
-    → AddsTurn (TellsAll (is_shown range n (actor_of action)) carried past new action line) (is_shown range n (actor_of action)) new.sent n line text added
+    → IsTold configs range r clusters past text → n ≡ length r.turns + 1 → TellsMerge r.cluster action raised carried → TakesStep (step r.cluster action) new line → KnowsSeen configs past new.sent action line
+    → AddsTurn (TellsAll (is_shown range n (actor_of action)) raised carried past new action line) (is_shown range n (actor_of action)) new.sent n line text added
     → noted ≡ past ++ map (note_of n) line.events
     → IsTold configs range (after r action) (clusters ++ r.cluster ∷ []) noted added
-told-after configs range r clusters action new line carried past noted text added n sends stays h count told takes known adds grows =
+told-after configs range r clusters action new line raised carried past noted text added n sends stays h count told takes known adds grows =
     let turn : Turn = (step r.cluster action).turn in
     let sent : List (List ℕ) = (step r.cluster action).cluster.sent in
     let one : Explained = record { before = r.cluster; turn = turn; reasons = adds.reasons } in
@@ -84,7 +84,7 @@ told-after configs range r clusters action new line carried past noted text adde
     let reasoned : IsReasoned r.cluster turn.action turn.line adds.reasons = record {
       some = adds.some;
       merged = λ answers. subst (λ (a : Action). OfMerge AreMerged r.cluster a adds.reasons) (sym (turn-action r.cluster action))
-          (of-merge r.cluster action carried adds.reasons told (adds.such.merged (ap (λ (l : Line). l.answer) takes.line_is ∙ answers)));
+          (of-merge r.cluster action raised carried adds.reasons told (adds.such.merged (ap (λ (l : Line). l.answer) takes.line_is ∙ answers)));
     } in
     let lines : List Line = map (λ (t : Turn). t.line) r.turns in
     let before : map (λ (e : Explained). e.turn.line) h.explained ≡ lines =
@@ -139,11 +139,11 @@ lines-added P sent n line a b d is h = record {
 }
 
 -- an action that isn't shown
-pub nothing-added : (carried : List (List ℕ)) (past : List Note) (w : WorldState) (action : Action) (n : ℕ) (line : Line) (a : List ℕ) → AddsTurn (TellsAll false carried past w action line) false w.sent n line a a
-nothing-added carried past w action n line a = record {
-  reasons = merged_of carried;
-  some = some-merged carried;
-  such = record { merged = λ answers. told-merged carried; seen = λ shown. absurd (cc (shown)) };
+pub nothing-added : (raised : Option ℕ) (carried : List (List ℕ)) (past : List Note) (w : WorldState) (action : Action) (n : ℕ) (line : Line) (a : List ℕ) → AddsTurn (TellsAll false raised carried past w action line) false w.sent n line a a
+nothing-added raised carried past w action n line a = record {
+  reasons = whole_of raised carried;
+  some = some-merged raised carried;
+  such = record { merged = λ answers. told-merged raised carried; seen = λ shown. absurd (cc (shown)) };
   added = sym (append-nil a);
 }
 

@@ -1,5 +1,5 @@
 -- What is said of the events that a merged state carries.
-use Rattle.std.specs.Prelude.{◌≡◌, ℕ, ◌++◌, Bool, List, [], ◌∷◌, Option, Some, None, Ok, codes, decimal, slice_get}
+use Rattle.std.specs.Prelude.{◌≡◌, ℕ, ◌++◌, Bool, nat_lt, if◌then◌else◌, List, [], ◌∷◌, Option, Some, None, Ok, codes, decimal, slice_get}
 use Rattle.serf_snap.specs.Notes.{Kept}
 use Rattle.serf_wire.specs.declared.texts.EventBody.{EventBody}
 use Rattle.serf_window.specs.Window.{TimedEntry}
@@ -55,20 +55,42 @@ unfoldable pub heard : PushPull → Bool → IdealAgent → IdealAgent
 heard p is_join i = (ended i (hear i p is_join) Kept).agent
 
 -- the same of a merge: where a state carries no event, one reason says so
-abbrev pub AreMerged : List (TimedEntry EventBody) → IdealAgent → List (List ℕ) → Type 0
-AreMerged [] i reasons = reasons ≡ codes "the state carries no event" ∷ []
-AreMerged (e ∷ es) i reasons = AreCarried (e ∷ es) i reasons
+abbrev pub AreOfState : List (TimedEntry EventBody) → IdealAgent → List (List ℕ) → Type 0
+AreOfState [] i reasons = reasons ≡ codes "the state carries no event" ∷ []
+AreOfState (e ∷ es) i reasons = AreCarried (e ∷ es) i reasons
 
--- what is said of events once they were merged
-abbrev pub TellsMerged : List (List ℕ) → List (List ℕ) → Type 0
-TellsMerged carried reasons = (es : List (TimedEntry EventBody)) (i : IdealAgent) → AreCarried es i carried → AreMerged es i reasons
+-- what is said where a join raises the least time of events to this
+unfoldable pub raised_words : ℕ → List ℕ
+raised_words least = codes "the join ignores old events: the least time rises to " ++ decimal least
+
+-- the least time of events behind a merge, where it is above that before
+abbrev pub raised_least : IdealAgent → IdealAgent → Option ℕ
+raised_least before behind = if nat_lt before.events.minimum behind.events.minimum then Some behind.events.minimum else None
+
+-- one reason says it, where the least time is raised, and none where it isn't
+abbrev pub raised_reasons : Option ℕ → List (List ℕ)
+raised_reasons None = []
+raised_reasons (Some least) = raised_words least ∷ []
+
+-- The reasons of a merge into an agent, which is the second one once it has heard of the state: that of the least time, where the
+-- merge raises it, and then those of the state's events.
+abbrev pub AreMerged : List (TimedEntry EventBody) → IdealAgent → IdealAgent → List (List ℕ) → Type 0
+AreMerged es before i reasons = (others : List (List ℕ)) × (reasons ≡ raised_reasons (raised_least before (after_events es i)) ++ others) × AreOfState es i others
+
+-- what is found of a merge: the least time that it raises, if it does, and what is said of its events
+abbrev pub IsFound : Option ℕ → List (TimedEntry EventBody) → IdealAgent → IdealAgent → List (List ℕ) → Type 0
+IsFound raised es before i carried = (raised ≡ raised_least before (after_events es i)) × AreCarried es i carried
+
+-- what is said of it once it is done
+abbrev pub TellsMerged : Option ℕ → List (List ℕ) → List (List ℕ) → Type 0
+TellsMerged raised carried reasons = (es : List (TimedEntry EventBody)) (before i : IdealAgent) → IsFound raised es before i carried → AreMerged es before i reasons
 
 -- the reasons are those of the state that an action merges in a cluster, if it merges one, said so
-abbrev pub OfMerge : (List (TimedEntry EventBody) → IdealAgent → List (List ℕ) → Type 0) → Cluster → Action → List (List ℕ) → Type 0
+abbrev pub OfMerge : (List (TimedEntry EventBody) → IdealAgent → IdealAgent → List (List ℕ) → Type 0) → Cluster → Action → List (List ℕ) → Type 0
 OfMerge Told c (actions.Of agent (acts.Merge packet join)) reasons =
     (m : IdealNode) (bytes : List ℕ) (p : PushPull) → slice_get c.nodes agent ≡ Some m → slice_get c.sent packet ≡ Some bytes → decoded bytes ≡ Ok (push_pull p)
-    → Told (events_of p.slots) (heard p join m.agent) reasons
+    → Told (events_of p.slots) m.agent (heard p join m.agent) reasons
 OfMerge Told c _ reasons = Unit {0}
 
-abbrev pub TellsMerge : Cluster → Action → List (List ℕ) → Type 0
-TellsMerge c action reasons = OfMerge AreCarried c action reasons
+abbrev pub TellsMerge : Cluster → Action → Option ℕ → List (List ℕ) → Type 0
+TellsMerge c action raised carried = OfMerge (IsFound raised) c action carried

@@ -1,5 +1,5 @@
 -- A trace with its reasons.
-use Rattle.std.specs.Prelude.{◌≡◌, ℕ, ◌+◌, ◌<◌, ◌++◌, Bool, true, if◌then◌else◌, List, [], ◌∷◌, Ok, All, length, map}
+use Rattle.std.specs.Prelude.{◌≡◌, ℕ, ◌+◌, ◌<◌, ◌++◌, Bool, true, if◌then◌else◌, List, [], ◌∷◌, Option, Ok, All, length, map}
 use Rattle.std.specs.List.{flat_map}
 use Rattle.serf_agent.specs.declared.config.Config.{Config}
 use Rattle.serf_agent.specs.declared.outcome.Reason.TheVariants.{Seen}
@@ -26,8 +26,10 @@ pub record Explained : Type 0 where
   pub turn : Turn
   pub reasons : List (List ℕ)
 
--- There is a reason at least. Those of a merge are one for each event that its state carries, in their order, with the
--- verdict of the ideal agent that receives one after another.
+-- There is a reason at least. Those of a merge are first one that says to what the least time of events rises, just where it is
+-- greater behind the merge than before it; and then one for each event that its state carries, in their order, with the verdict of
+-- the ideal agent that receives one after another. Where the disk failed in a merge, its reasons are tested alone: they begin with
+-- that of the least time too, where it rises, but for a join that heard of nothing, since the line of its least time failed.
 pub record IsReasoned (before : Cluster) (action : Action) (line : Line) (reasons : List (List ℕ)) : Type 0 where
   pub some : 0 < length reasons
   pub merged : line.answer ≡ answers.Merged → OfMerge AreMerged before action reasons
@@ -103,10 +105,10 @@ pub record IsTold (configs : List Config) (range : Range) (r : Run) (clusters : 
 abbrev pub HasTold : Range → List Config → List Action → List Note → List ℕ → Type 0
 HasTold range configs done notes text = IsTold configs range (run_of configs done) (clusters_before configs done) notes text
 
--- What is said of an action: of a merge what was said of its events; of an event that was seen which action handed it out, or
--- that its agent was opened on its line.
-pub record TellsAll (shown : Bool) (carried : List (List ℕ)) (notes : List Note) (w : WorldState) (action : Action) (line : Line) (reasons : List (List ℕ)) : Type 0 where
-  pub merged : line.answer ≡ answers.Merged → TellsMerged carried reasons
+-- What is said of an action: of a merge to what it raised the least time, and what was said of its events; of an event that was
+-- seen which action handed it out, or that its agent was opened on its line.
+pub record TellsAll (shown : Bool) (raised : Option ℕ) (carried : List (List ℕ)) (notes : List Note) (w : WorldState) (action : Action) (line : Line) (reasons : List (List ℕ)) : Type 0 where
+  pub merged : line.answer ≡ answers.Merged → TellsMerged raised carried reasons
   pub seen : shown ≡ true → line.answer ≡ answers.Ignored Seen → OfNoted notes w action reasons
 
 -- a text grew by an action's lines and its reasons, of which there are some, or by nothing where it isn't shown

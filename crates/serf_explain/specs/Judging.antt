@@ -1,5 +1,5 @@
 -- What is kept while the events of a merge are judged: private to the crate.
-use Rattle.std.specs.Prelude.{◌≡◌, ℕ, ◌<◌, ◌≤◌, ◌++◌, Bool, if◌then◌else◌, List, map, Option, Some, None, Result, Ok, All, codes, decimal}
+use Rattle.std.specs.Prelude.{◌≡◌, ℕ, ◌<◌, ◌≤◌, ◌++◌, Bool, if◌then◌else◌, List, [], ◌∷◌, map, Option, Some, None, Result, Ok, All, codes, decimal}
 use Rattle.std.specs.List.{flat_map}
 use Rattle.serf_wire.specs.declared.fault.WireFault.{WireFault}
 use Rattle.serf_wire.specs.declared.texts.EventBody.{EventBody}
@@ -15,7 +15,7 @@ use Rattle.serf_explain.specs.declared.judge.Judge.{Judge}
 use Rattle.serf_model.specs.declared.action.Action.{Action}
 use Rattle.serf_model.specs.Cluster.{Cluster}
 use Rattle.serf_explain.specs.Because.{because_line}
-use Rattle.serf_explain.specs.Carried.{AreCarried, TellsMerge, after_events, carried_words, heard}
+use Rattle.serf_explain.specs.Carried.{AreCarried, TellsMerge, after_events, carried_words, heard, raised_least}
 
 abbrev pub past : ℕ → TimedEntry EventBody → Past EventBody
 past life e = record { life = life; entry = e }
@@ -48,16 +48,28 @@ pub record HasJudged (n : ℕ) (i j : IdealAgent) (all left : List (TimedEntry E
   pub lines : AddsLines n done j old new
   pub judging : IsJudging i (after_events done j) judge
 
--- it grew by those of what a packet merges in an agent, if that says a state
-abbrev pub AddsMerge : ℕ → IdealAgent → Bool → Result Message WireFault → List ℕ → List ℕ → Type 0
-AddsMerge n i join (Ok (push_pull p)) old new = AddsLines n (events_of p.slots) (heard p join i) old new
-AddsMerge n i join _ old new = new ≡ old
+-- it grew by those of a state's events, as they come to the second of these agents, which is the first once it has heard of the
+-- state; and to this the least time rises
+pub record AddsState (n : ℕ) (es : List (TimedEntry EventBody)) (i j : IdealAgent) (raised : Option ℕ) (old new : List ℕ) : Type 0 where
+  pub lines : AddsLines n es j old new
+  pub raises : raised ≡ raised_least i (after_events es j)
 
--- a text is the lines of the reasons of what the action of this number merges in a cluster, if it merges something
-pub record TellsText (n : ℕ) (c : Cluster) (action : Action) (text : List ℕ) : Type 0 where
+-- it grew by those of what a packet merges in an agent, if that says a state
+abbrev pub AddsMerge : ℕ → IdealAgent → Bool → Result Message WireFault → Option ℕ → List ℕ → List ℕ → Type 0
+AddsMerge n i join (Ok (push_pull p)) raised old new = AddsState n (events_of p.slots) i (heard p join i) raised old new
+AddsMerge n i join _ raised old new = new ≡ old
+
+-- a text is the lines of the reasons of what the action of this number merges in a cluster, if it merges something, and this is
+-- the least time that it raises, if it does
+pub record TellsText (n : ℕ) (c : Cluster) (action : Action) (raised : Option ℕ) (text : List ℕ) : Type 0 where
   pub carried : List (List ℕ)
   pub text_is : text ≡ flat_map (because_line n) carried
-  pub tells : TellsMerge c action carried
+  pub tells : TellsMerge c action raised carried
+
+-- what is said of the events of a state that was merged, where this was said of each
+abbrev pub merged_of : List (List ℕ) → List (List ℕ)
+merged_of [] = codes "the state carries no event" ∷ []
+merged_of (reason ∷ reasons) = reason ∷ reasons
 
 -- a text grew by the line of an event of the action of this number
 pub record AddsCarried (n slot time : ℕ) (what : EventBody) (verdict : Option Reason) (old new : List ℕ) : Type 0 where

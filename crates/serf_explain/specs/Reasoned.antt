@@ -15,4 +15,4 @@ Reasoned range r configs done text = (r.range ≡ range) × HasTold range config
 
 -- and the lines of what the next action merges are there
 abbrev pub FoundMerge : Range → Reasoning → List Config → List Action → Action → List ℕ → Type 0
-FoundMerge range r configs done action text = Reasoned range r configs done text × TellsText (length done + 1) (run_of configs done).cluster action r.lines.text.items
+FoundMerge range r configs done action text = Reasoned range r configs done text × TellsText (length done + 1) (run_of configs done).cluster action r.lines.raised r.lines.text.items

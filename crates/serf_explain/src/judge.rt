@@ -13,7 +13,7 @@ ghost use Rattle.serf_agent.specs.Ideal.{IdealAgent};
 ghost use Rattle.serf_agent.specs.Sound.{IsSound};
 ghost use Rattle.serf_agent.specs.States.{after_event};
 ghost use Rattle.serf_agent.specs.View.{view_of};
-ghost use Rattle.serf_explain.specs.Carried.{heard};
+ghost use Rattle.serf_explain.specs.Carried.{heard, raised_least};
 ghost use Rattle.serf_explain.specs.Judging.{IsJudging, both_verdicts};
 
 use crate::hand_outs::Event;
@@ -81,6 +81,19 @@ impl Judge {
                 .max(least(is_join, config.ignore_old, clock)),
             entered,
         })
+    }
+
+    /// The least time of events that the agent takes behind the merge, where that is above what it takes before it.
+    pub(crate) fn raised(&self, agent: &Agent<MemSink>) -> Option<u64>
+        ensures { (i j : IdealAgent) → agent.now.concrete ≡ view_of i → IsJudging i j self.now
+            → result ≡ raised_least i j }
+    {
+        let before = agent.event_minimum();
+        if before < self.minimum {
+            Some(self.minimum)
+        } else {
+            None
+        }
     }
 
     /// Whether as many events of a time as are taken entered before the merge and in it.

@@ -10,7 +10,7 @@ ghost use Rattle.serf_agent.specs.Sound.{IsSound};
 ghost use Rattle.serf_agent.specs.States.{after_event, at_time, events_of, events_of_slot};
 ghost use Rattle.serf_agent.specs.View.{view_of};
 ghost use Rattle.serf_explain.specs.Carried.{carried_words, heard, slot_words, verdict_words};
-ghost use Rattle.serf_explain.specs.Judging.{AddsCarried, AddsLines, HasJudged, IsJudging, seen_behind, seen_front};
+ghost use Rattle.serf_explain.specs.Judging.{AddsCarried, AddsLines, AddsState, HasJudged, IsJudging, seen_behind, seen_front};
 ghost use Rattle.serf_explain.specs.Words.{stands};
 
 use crate::because::put_because;
@@ -51,6 +51,8 @@ struct Near {
 #[derive(Drop)]
 pub(crate) struct MergeLines {
     pub(crate) text: Vec<u8>,
+    /// The least time of events behind the merge, where the merge raises it.
+    pub(crate) raised: Option<u64>,
     /// An event's words.
     words: Vec<u8>,
     /// What is said of a verdict beside its first words.
@@ -64,6 +66,7 @@ impl MergeLines {
     pub(crate) fn new(alloc: Global) -> MergeLines {
         MergeLines {
             text: Vec::new(alloc),
+            raised: None,
             words: Vec::new(alloc),
             detail: Vec::new(alloc),
             reason: Vec::new(alloc),
@@ -407,7 +410,9 @@ fn add_slots(
     Ok(())
 }
 
-/// Adds a line for each event that a state carries, in its order, where it is merged on a disk that works.
+/// Adds a line for each event that a state carries, in its order, where it is merged on a disk that works; and finds whether the
+/// merge raises the least time of events.
+#[tactic(auto, using(crate::proofs::CarriedLaws::adds_state))]
 pub(crate) fn add_carried_lines(
     alloc: Global,
     merging: &Merging,
@@ -419,9 +424,11 @@ pub(crate) fn add_carried_lines(
     ensures { (i : IdealAgent) (m : PushPull) → IsSound i
         → merging.now.agent.now.concrete ≡ view_of i → m.event_clock ≡ event_clock
         → m.slots ≡ slots_left slots.entry
-        → OnOk result (AddsLines merging.now.phrases.now.number (events_of m.slots)
-        (heard m is_join i) lines.old.text.items lines.new.text.items) }
+        → OnOk result (AddsState merging.now.phrases.now.number (events_of m.slots)
+        i (heard m is_join i) lines.new.raised lines.old.text.items lines.new.text.items) }
 {
     let mut judge = Judge::new(alloc, merging.agent, event_clock, is_join)?;
-    add_slots(alloc, merging, &mut judge, lines, slots)
+    add_slots(alloc, merging, &mut judge, lines, slots)?;
+    lines.raised = judge.raised(merging.agent);
+    Ok(())
 }

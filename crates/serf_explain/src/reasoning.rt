@@ -22,9 +22,10 @@ use std::alloc::{AllocError, Global};
 fn put_turn(alloc: Global, out: &mut Vec<u8>, is_shown: bool, told: &Told) -> Result<(), AllocError>
     ensures { (carried : List (List ℕ))
         → told.now.carried.now ≡ flat_map (because_line told.now.number) carried
-        → OnOk result (AddsTurn (TellsAll is_shown carried (notes_in told.now.past.now.outs.items)
-        told.now.world.now told.now.action.now told.now.line.now) is_shown told.now.world.now.sent
-        told.now.number told.now.line.now out.old.items out.new.items) }
+        → OnOk result (AddsTurn (TellsAll is_shown told.now.raised carried
+        (notes_in told.now.past.now.outs.items) told.now.world.now told.now.action.now
+        told.now.line.now) is_shown told.now.world.now.sent told.now.number
+        told.now.line.now out.old.items out.new.items) }
 {
     if !is_shown {
         return Ok(());
@@ -108,6 +109,7 @@ impl Turns for Reasoning {
             past: &self.history.hand_outs,
             action,
             line: &line,
+            raised: self.lines.raised,
             carried: &self.lines.text,
         };
         put_turn(alloc, out, self.range.shows(number, action.actor()), &told)?;

@@ -11,24 +11,24 @@ ghost use Rattle.serf_model.specs.Cluster.{Cluster};
 ghost use Rattle.serf_model.specs.Ready.{AreRepresentable};
 ghost use Rattle.serf_world.specs.View.{IsViewed};
 ghost use Rattle.serf_explain.specs.Because.{AddsReasons, AddsSome, AddsSuch, because_line};
-ghost use Rattle.serf_explain.specs.Carried.{TellsMerged};
+ghost use Rattle.serf_explain.specs.Carried.{TellsMerged, raised_reasons, raised_words};
 ghost use Rattle.serf_explain.specs.Explained.{TellsAll};
 ghost use Rattle.serf_explain.specs.HandOuts.{notes_in};
-ghost use Rattle.serf_explain.specs.Judging.{AddsMerge, TellsText};
+ghost use Rattle.serf_explain.specs.Judging.{AddsMerge, TellsText, merged_of};
 
 use crate::answers::put_reason;
 use crate::because::put_because;
 use crate::history::History;
 use crate::merges::{MergeLines, Merging, add_carried_lines};
 use crate::phrases::Phrases;
-use crate::quoted::{Part, put_parts};
+use crate::quoted::{Part, put_parts, say};
 use crate::refusals::put_sink_fault;
 use crate::seen::put_seen;
 use crate::told::{Actor, Told, actor_at, message_of};
 use serf_agent::{Agent, Reason};
 use serf_model::{Act, Action, Answer, Refusal, packet_at};
 use serf_snap::MemSink;
-use serf_text::cut;
+use serf_text::{cut, put_number};
 use serf_wire::{Message, decode};
 use serf_world::World;
 use std::alloc::{AllocError, Global};
@@ -49,7 +49,8 @@ fn add_message(
 ) -> Result<(), AllocError>
     ensures { (i : IdealAgent) → IsSound i → merging.now.agent.now.concrete ≡ view_of i
         → OnOk result (AddsMerge merging.now.phrases.now.number i is_join
-        (Ok (message_of message.now)) lines.old.text.items lines.new.text.items) }
+        (Ok (message_of message.now)) lines.new.raised
+        lines.old.text.items lines.new.text.items) }
 {
     match message {
         Message::PushPull(state) => {
@@ -73,7 +74,7 @@ fn add_packet(
 ) -> Result<(), AllocError>
     ensures { (i : IdealAgent) → IsSound i → merging.now.agent.now.concrete ≡ view_of i
         → OnOk result (AddsMerge merging.now.phrases.now.number i is_join (decoded packet.now)
-        lines.old.text.items lines.new.text.items) }
+        lines.new.raised lines.old.text.items lines.new.text.items) }
 {
     match decode(packet) {
         Ok(message) => add_message(alloc, merging, &message, is_join, lines),
@@ -94,7 +95,7 @@ fn add_merge(
 ) -> Result<(), AllocError>
     ensures { (i : IdealAgent) → IsSound i → agent.now.concrete ≡ view_of i
         → OnOk result (AddsMerge number i is_join (decoded packet.now)
-        lines.old.text.items lines.new.text.items) }
+        lines.new.raised lines.old.text.items lines.new.text.items) }
 {
     let phrases = Phrases::new(alloc, number, agent)?;
     let merging = Merging {
@@ -120,7 +121,7 @@ fn add_merge_at(
 ) -> Result<(), AllocError>
     ensures { (c : Cluster) → IsViewed c world.now → AreRepresentable c → lines.old.text.items ≡ []
         → OnOk result (TellsText number c (Action.Of agent (Act.Merge packet join))
-        lines.new.text.items) }
+        lines.new.raised lines.new.text.items) }
 {
     match world.agent(agent) {
         Some(at) => match packet_at(world.sent(), packet) {
@@ -141,9 +142,10 @@ pub(crate) fn lines_before(
     lines: &mut MergeLines,
 ) -> Result<(), AllocError>
     ensures { (c : Cluster) → IsViewed c world.now → AreRepresentable c
-        → OnOk result (TellsText number c action.now lines.new.text.items) }
+        → OnOk result (TellsText number c action.now lines.new.raised lines.new.text.items) }
 {
     lines.text.clear();
+    lines.raised = None;
     match action {
         Action::Of {
             agent,
@@ -169,16 +171,59 @@ pub(crate) fn put_lone(alloc: Global, out: &mut Vec<u8>, told: &Told) -> Result<
     put_one(out, told.number, reason.as_slice())
 }
 
+/// Appends the line that says to what a join raises the least time: each byte of it stands as it is.
+fn put_least_line(out: &mut Vec<u8>, number: u64, least: u64) -> Result<(), AllocError>
+    ensures { OnOk result (out.new.items
+        ≡ out.old.items ++ because_line number (raised_words least)) }
+{
+    put_number(out, number)?;
+    out.extend_from_slice(b" because ")?;
+    say(
+        out,
+        b"the join ignores old events: the least time rises to ",
+        least,
+    )?;
+    out.extend_from_slice(b"\n")?;
+    Ok(())
+}
+
+/// Appends that line, where the least time is raised.
+fn put_raised(out: &mut Vec<u8>, number: u64, raised: Option<u64>) -> Result<(), AllocError>
+    ensures { OnOk result (out.new.items
+        ≡ out.old.items ++ flat_map (because_line number) (raised_reasons raised)) }
+{
+    match raised {
+        Some(least) => put_least_line(out, number, least),
+        None => Ok(()),
+    }
+}
+
 /// Appends the lines of what is said of the events that a merged state carries; a line that says so where it carries none.
-fn put_merged(out: &mut Vec<u8>, number: u64, lines: &[u8]) -> Result<(), AllocError>
+fn put_events(out: &mut Vec<u8>, number: u64, lines: &[u8]) -> Result<(), AllocError>
     ensures { (carried : List (List ℕ)) → lines.now ≡ flat_map (because_line number) carried
-        → OnOk result (AddsSuch (TellsMerged carried) number out.old.items out.new.items) }
+        → OnOk result (out.new.items
+        ≡ out.old.items ++ flat_map (because_line number) (merged_of carried)) }
 {
     if lines.len() == 0 {
         return put_because(out, number, b"the state carries no event");
     }
     out.extend_from_slice(lines)?;
     Ok(())
+}
+
+/// Appends the lines of a state that was merged: that of the least time, where it is raised, and those of its events.
+#[tactic(auto, using(crate::proofs::CarriedLaws::adds_merged))]
+fn put_merged(
+    out: &mut Vec<u8>,
+    number: u64,
+    raised: Option<u64>,
+    lines: &[u8],
+) -> Result<(), AllocError>
+    ensures { (carried : List (List ℕ)) → lines.now ≡ flat_map (because_line number) carried
+        → OnOk result (AddsSuch (TellsMerged raised carried) number out.old.items out.new.items) }
+{
+    put_raised(out, number, raised)?;
+    put_events(out, number, lines)
 }
 
 /// The reason that a line says: what stands behind its number and `because`.
@@ -271,7 +316,9 @@ fn unheard_reason(alloc: Global, actor: &Actor, least: u64) -> Result<Vec<u8>, A
     Ok(reason)
 }
 
-/// Appends a line for each reason of a merge at which the disk failed.
+/// Appends a line for each reason of a merge at which the disk failed: where the state was heard of, that of the least time is the
+/// first, if it is raised.
+#[tactic(auto, using(crate::proofs::ReasonLaws::adds_raised))]
 fn put_broken_merge(
     alloc: Global,
     out: &mut Vec<u8>,
@@ -285,7 +332,10 @@ fn put_broken_merge(
             let reason = unheard_reason(alloc, actor, least)?;
             put_one(out, told.number, &reason)
         }
-        None => put_failed_merge(alloc, out, told, actor),
+        None => {
+            put_raised(out, told.number, told.raised)?;
+            put_failed_merge(alloc, out, told, actor)
+        }
     }
 }
 
@@ -314,12 +364,13 @@ fn put_unmerged(alloc: Global, out: &mut Vec<u8>, told: &Told) -> Result<(), All
 pub(crate) fn put_reasons(alloc: Global, out: &mut Vec<u8>, told: &Told) -> Result<(), AllocError>
     ensures { (carried : List (List ℕ))
         → told.now.carried.now ≡ flat_map (because_line told.now.number) carried
-        → OnOk result (AddsSuch (TellsAll true carried (notes_in told.now.past.now.outs.items)
+        → OnOk result (AddsSuch (TellsAll true told.now.raised carried
+        (notes_in told.now.past.now.outs.items)
         told.now.world.now told.now.action.now told.now.line.now)
         told.now.number out.old.items out.new.items) }
 {
     match told.line.answer {
-        Answer::Merged => put_merged(out, told.number, told.carried),
+        Answer::Merged => put_merged(out, told.number, told.raised, told.carried),
         Answer::Ignored(Reason::Seen) => put_seen(alloc, out, told),
         _ => put_unmerged(alloc, out, told),
     }

@@ -21,6 +21,8 @@ pub(crate) struct Told<'a> {
     pub(crate) past: &'a HandOuts,
     pub(crate) action: &'a Action,
     pub(crate) line: &'a Line,
+    /// The least time of events behind a merge that raises it.
+    pub(crate) raised: Option<u64>,
     /// A line of what is said of each event, where a state is merged on a disk that works.
     pub(crate) carried: &'a [u8],
 }

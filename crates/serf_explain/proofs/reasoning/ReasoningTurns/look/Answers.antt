@@ -7,4 +7,4 @@ pub returns : goal.returns
 returns c = λ range configs done lines text told h counted.
     let cluster = (run_of configs done).cluster in
     let merge = c.in_ok-lines_before.ensures cluster h.view h.representable in
-    (told, subst (λ n. TellsText n cluster c.args.action.now c.lines_before.new.lines.text.items) counted merge)
+    (told, subst (λ n. TellsText n cluster c.args.action.now c.lines_before.new.lines.raised c.lines_before.new.lines.text.items) counted merge)

@@ -1,9 +1,0 @@
-use Rattle.std.proofs.lemmas.Result.{on_ok_weaker}
-use Rattle.serf_explain.proofs.CarriedLaws.{adds-events, adds-no-event}
-use Rattle.serf_explain.proofs.reasons.put_merged.Goals as goal
-
-pub returns-then-lines-eq0 : goal.returns-then-lines-eq0
-returns-then-lines-eq0 c = λ carried lines. on_ok_weaker c.put_because.result (λ is. adds-no-event c.args.number carried c.args.lines.now c.args.out.now.items c.put_because.new.out.items lines c.if-lines-eq0.true is) c.put_because.ensures
-
-pub returns : goal.returns
-returns c = λ carried lines. adds-events c.args.number carried c.args.lines.now c.args.out.now.items c.extend_from_slice.new.self.items lines c.if-lines-eq0.false c.in_ok-extend_from_slice.ensures.items
