@@ -12,7 +12,7 @@ import (
 // so often, and GOMEMLIMIT stands in its place where it is there.
 const (
 	memoryBase   = 24 << 20
-	memoryMember = 1 << 10
+	memoryMember = 2 << 10
 	memoryKept   = 3
 	memoryTime   = time.Second
 )
@@ -25,17 +25,14 @@ func (a *App) memoryLimit() int64 {
 	return limit
 }
 
-// By how many parts in a hundred the heap may grow before the collector runs: as Go has it, where the process has more than the limit, and
-// where it has more by a half. By the limit alone the collector takes half of the processor at most, and a flood that goes on would grow the
-// heap meanwhile. GOGC stands in its place where it is there.
-const growth, growthAbove, growthFar = 100, 40, 20
+// By how many parts in a hundred the heap may grow before the collector runs: as Go has it, and where the process has more than the limit. By
+// the limit alone the collector takes half of the processor at most, and a flood that goes on would grow the heap meanwhile. GOGC stands in
+// its place where it is there.
+const growth, growthAbove = 100, 20
 
 // growthAt is that number for a process of so many bytes.
 func growthAt(has, limit int64) int {
-	switch {
-	case has > limit+limit/2:
-		return growthFar
-	case has > limit:
+	if has > limit {
 		return growthAbove
 	}
 	return growth
