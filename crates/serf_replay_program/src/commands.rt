@@ -56,9 +56,7 @@ fn refuse_command_line<'a>(io: Io, error: &Error) -> Ended<'a> {
     if error.kind() == ErrorKind::OutOfMemory {
         return Err(Fault::NoMemory);
     }
-    let printed = error.print(io.rt);
-    io.note(&printed);
-    match printed {
+    match io.noted(error.print(io.rt)) {
         Err(_) => Err(Fault::WriteFault),
         Ok(()) if error.use_stderr() => Ok(Status::CommandLine),
         Ok(()) => Ok(Status::Done),

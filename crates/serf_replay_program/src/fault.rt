@@ -1,6 +1,7 @@
 //! How a command ends: its status, and the line on standard error where it ends at a fault.
 
 use crate::io::{Io, name_of};
+use serf_conform::ConformFault;
 use serf_draw::DrawFault;
 use serf_schedule::{ReplayFault, ScheduleFault};
 use serf_text::{Cause, InputFault, StreamFault};
@@ -41,10 +42,8 @@ impl Status {
 #[derive(Clone, Copy)]
 pub(crate) enum Fault<'a> {
     NoMemory,
-    /// The input could not be read.
-    ReadFault,
-    /// The file of this name, or standard input, could not be read.
-    ReadFaultOf(&'a str),
+    /// The file of this name, or standard input, could not be read; the input where none is named.
+    ReadFault(Option<&'a str>),
     /// The input is too long.
     TooLong,
     /// Standard output, or a file, could not be written.
@@ -63,6 +62,12 @@ pub(crate) enum Fault<'a> {
     CommandLine(&'a str, &'a str, &'a str, &'a str, &'a str),
     /// The word names an agent by a number that is none of so many.
     NoAgent(&'a str, u64),
+    /// What was held, as a word and a number say it, can't be held to its end.
+    Held(&'static str, u64, ConformFault),
+    /// The calls at which an agent fails can't be made fewer.
+    NotShrunk(ConformFault),
+    /// All is said already, and this is the status.
+    Told(Status),
 }
 
 /// What a command comes to.
@@ -76,7 +81,7 @@ pub(crate) fn command_line<'a>(why: &'a str) -> Fault<'a> {
 /// A stream ends at a fault. This word says why its lines are bad.
 pub(crate) fn stream_fault<'a, F: Copy>(fault: StreamFault<F>, word: &'static str) -> Fault<'a> {
     match fault {
-        StreamFault::ReadFault => Fault::ReadFault,
+        StreamFault::ReadFault => Fault::ReadFault(None),
         StreamFault::BadLine { line, .. } => Fault::BadStreamLine(line, word),
         StreamFault::LineTooLong { line } => Fault::BadStreamLine(line, "TooLong"),
         StreamFault::OutOfMemory => Fault::NoMemory,
@@ -93,7 +98,7 @@ impl From<AllocError> for Fault<'_> {
 impl From<InputFault> for Fault<'_> {
     fn from(fault: InputFault) -> Self {
         match fault {
-            InputFault::ReadFault => Fault::ReadFault,
+            InputFault::ReadFault => Fault::ReadFault(None),
             InputFault::ReadTooLong => Fault::TooLong,
             InputFault::OutOfMemory => Fault::NoMemory,
         }
@@ -114,7 +119,7 @@ impl From<ReplayFault> for Fault<'_> {
         match fault {
             ReplayFault::BadLine { line, cause } => Fault::BadLine(line, cause),
             ReplayFault::ReadTooLong => Fault::TooLong,
-            ReplayFault::ReadFault => Fault::ReadFault,
+            ReplayFault::ReadFault => Fault::ReadFault(None),
             ReplayFault::WriteFault => Fault::WriteFault,
             ReplayFault::OutOfMemory => Fault::NoMemory,
         }
@@ -172,11 +177,16 @@ impl Fault<'_> {
     /// The status of a command that ends so.
     fn status(self) -> Status {
         match self {
-            Fault::NoMemory | Fault::ReadFault | Fault::ReadFaultOf(_) | Fault::WriteFault => {
-                Status::Device
-            }
+            // A reply that is too long is a disagreement.
+            Fault::Held(_, _, ConformFault::ReplyTooLong)
+            | Fault::NotShrunk(ConformFault::ReplyTooLong) => Status::Refused,
+            Fault::NoMemory
+            | Fault::ReadFault(_)
+            | Fault::WriteFault
+            | Fault::Held(..)
+            | Fault::NotShrunk(_) => Status::Device,
             Fault::CommandLine(..) | Fault::NoAgent(..) => Status::CommandLine,
-            Fault::File(_, _, status) => status,
+            Fault::File(_, _, status) | Fault::Told(status) => status,
             _ => Status::Refused,
         }
     }
@@ -194,11 +204,11 @@ impl Fault<'_> {
     /// Writes the fault's line on standard error, of the input in this file.
     fn put_line(self, io: Io, file: Option<&str>) {
         let rt = io.rt;
-        let name = name_of(file);
         let _ = match self {
             Fault::NoMemory => eprintln!(rt; "no memory"),
-            Fault::ReadFault => put_device_fault(io, name, ": read fault"),
-            Fault::ReadFaultOf(path) => put_device_fault(io, name_of(Some(path)), ": read fault"),
+            Fault::ReadFault(path) => {
+                put_device_fault(io, name_of(path.or(file)), ": read fault")
+            }
             Fault::TooLong => eprintln!(rt; "too long"),
             Fault::WriteFault if io.has_no_reader() => Ok(()),
             Fault::WriteFault => put_device_fault(io, "", "write fault"),
@@ -214,6 +224,9 @@ impl Fault<'_> {
             Fault::NoAgent(agent, count) => eprintln!(rt;
                 "error: --agent {agent}: the schedule has {count} agents, counted from 0"
             ),
+            Fault::Held(what, number, fault) => eprintln!(rt; "{what} {number}: {fault}"),
+            Fault::NotShrunk(fault) => eprintln!(rt; "no shorter schedule: {fault}"),
+            Fault::Told(_) => Ok(()),
         };
     }
 

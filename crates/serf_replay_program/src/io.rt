@@ -1,7 +1,10 @@
 //! What a command reads and writes: files, the standard streams, and memory.
 
+ghost use Rattle.std.specs.Prelude.{◌≡◌, ◌⊎◌, IfOk, Ok};
+
 use crate::fault::{Ended, Fault, Status};
-use crate::progress::Progress;
+use crate::progress::{BYTES, Progress};
+use clap::ArgMatches;
 use serf_schedule::Watch;
 use serf_text::{read_input, write_output};
 use std::alloc::Global;
@@ -49,9 +52,7 @@ pub(crate) struct Source<'a> {
 
 impl Read for Source<'_> {
     fn read(&mut self, buf: &mut [u8]) -> io::Result<usize> {
-        let outcome = self.input.read(buf);
-        self.io.note(&outcome);
-        let mut read = outcome?;
+        let mut read = self.io.noted(self.input.read(buf))?;
         let begins = self.is_schedule && self.count == 0;
         if begins && read >= 3 && buf[..read].starts_with(b"\xef\xbb\xbf") {
             buf.copy_within(3..read, 0);
@@ -80,10 +81,20 @@ impl<'a> Source<'a> {
         self
     }
 
-    /// All its bytes.
-    pub(crate) fn text<'b>(mut self) -> Result<Vec<u8>, Fault<'b>> {
+    /// Does a job that reads it piece by piece, and may write to standard output what comes of each.
+    pub(crate) fn stream<T, E, F>(&mut self, job: F) -> Result<T, E>
+    where
+        F: FnOnce(Global, &mut Source<'_>, &mut Output<'_>) -> Result<T, E>,
+        requires { F.IsAlwaysCallable job }
+    {
         let alloc = self.io.alloc();
-        Ok(read_input(alloc, &mut self)?)
+        let mut output = self.io.output();
+        job(alloc, self, &mut output)
+    }
+
+    /// All its bytes.
+    pub(crate) fn text<'b>(&mut self) -> Result<Vec<u8>, Fault<'b>> {
+        Ok(self.stream(|alloc, source, _output| read_input(alloc, source))?)
     }
 }
 
@@ -93,26 +104,30 @@ pub(crate) struct Output<'a> {
     io: Io<'a>,
     printer: Printer<'a, HostRuntime>,
     /// Whether an agent's calls go there. One that takes no more of them has ended, which its replies show.
-    has_calls: bool,
+    pub(crate) has_calls: bool,
+}
+
+impl Output<'_> {
+    /// What came of a call, or this, as if all had been taken, where the agent that reads has ended.
+    fn taken<T: Copy>(&self, outcome: io::Result<T>, all: T) -> io::Result<T>
+        ensures { IfOk result (λ took. (outcome ≡ Ok took) ⊎ (took ≡ all)) }
+    {
+        match self.io.noted(outcome) {
+            Err(_) if self.has_calls && self.io.has_no_reader() => Ok(all),
+            outcome => outcome,
+        }
+    }
 }
 
 impl Write for Output<'_> {
     fn write(&mut self, buf: &[u8]) -> io::Result<usize> {
         let outcome = self.printer.write(buf);
-        self.io.note(&outcome);
-        match outcome {
-            Err(_) if self.has_calls && self.io.has_no_reader() => Ok(buf.len()),
-            outcome => outcome,
-        }
+        self.taken(outcome, buf.len())
     }
 
     fn flush(&mut self) -> io::Result<()> {
         let outcome = self.printer.flush();
-        self.io.note(&outcome);
-        match outcome {
-            Err(_) if self.has_calls && self.io.has_no_reader() => Ok(()),
-            outcome => outcome,
-        }
+        self.taken(outcome, ())
     }
 }
 
@@ -129,11 +144,14 @@ impl<'a> Io<'a> {
         self.rt.alloc()
     }
 
-    /// Remembers why a call of a device failed, where it did.
-    pub(crate) fn note<T>(self, outcome: &io::Result<T>) {
-        if let Err(error) = outcome {
+    /// What came of a call of a device: why it failed is remembered, where it did.
+    pub(crate) fn noted<T>(self, outcome: io::Result<T>) -> io::Result<T>
+        ensures { result ≡ outcome }
+    {
+        if let Err(error) = &outcome {
             self.cause.set(Some(*error));
         }
+        outcome
     }
 
     /// Whether a pipe was to be written that nobody reads any more.
@@ -141,21 +159,12 @@ impl<'a> Io<'a> {
         matches!(self.cause.get(), Some(error) if error.kind() == ErrorKind::BrokenPipe)
     }
 
-    fn output_of(self, has_calls: bool) -> Output<'a> {
+    pub(crate) fn output(self) -> Output<'a> {
         Output {
             io: self,
             printer: io::writer(self.rt),
-            has_calls,
+            has_calls: false,
         }
-    }
-
-    pub(crate) fn output(self) -> Output<'a> {
-        self.output_of(false)
-    }
-
-    /// Standard output, where an agent reads it.
-    pub(crate) fn calls(self) -> Output<'a> {
-        self.output_of(true)
     }
 
     fn source_of(self, input: Input) -> Source<'a> {
@@ -164,24 +173,19 @@ impl<'a> Io<'a> {
             input,
             is_schedule: false,
             count: 0,
-            progress: Progress::of_bytes(self),
+            progress: Progress::of(self, BYTES),
         }
     }
 
     /// A file, opened to be read.
     pub(crate) fn file<'b>(self, path: &'b str) -> Result<Source<'a>, Fault<'b>> {
-        let outcome = fs::open(self.rt, path);
-        self.note(&outcome);
-        match outcome {
-            Ok(file) => Ok(self.source_of(Input::Opened(file))),
-            Err(error) => match error.kind() {
-                ErrorKind::NotFound => Err(Fault::File(path, "no such file", Status::Device)),
-                ErrorKind::PermissionDenied => {
-                    Err(Fault::File(path, "permission denied", Status::Device))
-                }
-                _ => Err(Fault::ReadFaultOf(path)),
-            },
-        }
+        let outcome = self.noted(fs::open(self.rt, path));
+        let file = outcome.map_err(|error| match error.kind() {
+            ErrorKind::NotFound => Fault::File(path, "no such file", Status::Device),
+            ErrorKind::PermissionDenied => Fault::File(path, "permission denied", Status::Device),
+            _ => Fault::ReadFault(Some(path)),
+        })?;
+        Ok(self.source_of(Input::Opened(file)))
     }
 
     /// A file, or standard input where none is named or it is `-`, opened to be read.
@@ -201,6 +205,11 @@ impl<'a> Io<'a> {
         }
     }
 
+    /// The schedule in the file that the words name, or on standard input, opened to be read.
+    pub(crate) fn schedule<'b>(self, matches: &ArgMatches<'b>) -> Result<Source<'a>, Fault<'b>> {
+        Ok(self.source(matches.get_str("FILE"))?.of_schedule())
+    }
+
     /// Writes a text to standard output.
     pub(crate) fn finish<'b>(self, text: &[u8]) -> Ended<'b> {
         let mut output = self.output();
@@ -210,11 +219,8 @@ impl<'a> Io<'a> {
 
     /// Writes a file, and gives the status of that, or else this one.
     pub(crate) fn save<'b>(self, path: &str, text: &[u8], status: Status) -> Ended<'b> {
-        let outcome = fs::write(self.rt, path, text);
-        self.note(&outcome);
-        match outcome {
-            Ok(()) => Ok(status),
-            Err(_) => Err(Fault::WriteFault),
-        }
+        let outcome = self.noted(fs::write(self.rt, path, text));
+        outcome.map_err(|_| Fault::WriteFault)?;
+        Ok(status)
     }
 }

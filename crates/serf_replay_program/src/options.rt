@@ -2,7 +2,7 @@
 
 use crate::fault::Fault;
 use clap::builder::ValueParser;
-use clap::{Arg, ArgAction, Command};
+use clap::{Arg, ArgAction, ArgMatches, Command};
 use std::alloc::{AllocError, Global};
 
 /// What a command takes: an option, or a word in its place.
@@ -56,31 +56,40 @@ pub(crate) use rows;
 /// The help of a schedule that is given in its place.
 pub(crate) const SCHEDULE: &str = "The schedule; standard input where it is left out or `-`";
 
+/// The words that name a kind of random schedules, with these last.
+macro_rules! kinds {
+    ($last:literal) => {
+        concat!(
+            "mixed (where left out), tiny, merges, restarts, devices, injections, queries, limits, exhaustion, per-time, compactions, gossip, spellings, kept",
+            $last
+        )
+    };
+}
+
 /// The words that name a kind of random schedules.
-pub(crate) const KINDS: &str =
-    "mixed (where left out), tiny, merges, restarts, devices, injections, queries, limits, exhaustion, per-time, compactions, gossip, spellings, kept or rounds";
+pub(crate) const KINDS: &str = kinds!(" or rounds");
 
 /// The words that name a kind, or all of them.
-pub(crate) const KINDS_OR_ALL: &str =
-    "mixed (where left out), tiny, merges, restarts, devices, injections, queries, limits, exhaustion, per-time, compactions, gossip, spellings, kept, rounds or all";
+pub(crate) const KINDS_OR_ALL: &str = kinds!(", rounds or all");
 
 /// What clap has for a row.
 fn arg_of<'a>(alloc: Global, row: &Row) -> Arg<'a> {
     let Row { name, takes, help } = *row;
-    let arg = Arg::new(alloc, name).help(help);
+    let action = match takes {
+        Takes::Flag => ArgAction::SetTrue,
+        Takes::Places | Takes::Words(_) => ArgAction::Append,
+        _ => ArgAction::Set,
+    };
+    let arg = Arg::new(alloc, name).help(help).action(action);
     match takes {
-        Takes::Place => arg.action(ArgAction::Set),
-        Takes::Needed => arg.action(ArgAction::Set).required(true),
+        Takes::Place | Takes::Places => arg,
+        Takes::Needed => arg.required(true),
         Takes::NeededNumber => arg
-            .action(ArgAction::Set)
             .required(true)
             .value_parser(ValueParser::Unsigned(0, u64::MAX)),
-        Takes::Places => arg.action(ArgAction::Append),
-        Takes::Flag => arg.long(name).action(ArgAction::SetTrue),
-        Takes::Word(value) => arg.action(ArgAction::Set).long(name).value_name(value),
-        Takes::Words(value) => arg.action(ArgAction::Append).long(name).value_name(value),
+        Takes::Flag => arg.long(name),
+        Takes::Word(value) | Takes::Words(value) => arg.long(name).value_name(value),
         Takes::Number(value, least, most) => arg
-            .action(ArgAction::Set)
             .long(name)
             .value_name(value)
             .value_parser(ValueParser::Unsigned(least, most)),
@@ -114,4 +123,20 @@ pub(crate) fn with_commands<'a>(
 /// The word of an option is none of these, which it may have.
 pub(crate) fn bad_word<'a>(name: &'a str, words: &'a str) -> Fault<'a> {
     Fault::CommandLine("a bad word for --", name, ": here may stand ", words, "")
+}
+
+/// What the word of an option stands for: the first of these where it is left out. The words are those that it may have.
+pub(crate) fn chosen<'a, T: Copy>(
+    matches: &ArgMatches,
+    name: &'a str,
+    choices: &[(&str, T)],
+    words: &'a str,
+) -> Result<T, Fault<'a>> {
+    let word = matches.get_str(name);
+    for (choice, meaning) in choices {
+        if word.is_none() || word == Some(*choice) {
+            return Ok(*meaning);
+        }
+    }
+    Err(bad_word(name, words))
 }

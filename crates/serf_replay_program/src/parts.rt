@@ -14,12 +14,9 @@ pub(crate) enum Part<'a> {
     Hex(&'a [u8]),
     /// Bytes between quotes: what is no printable ASCII, a quote and a backslash as `\xNN`.
     Quoted(&'a [u8]),
-    /// The number of a line, and behind it the line's date, if it has one, as ` (2026-11-26T10:00:00Z)`.
-    Dated(u64, &'a [u8]),
-    /// A line, as `line 7`, with its date.
-    Line(u64, &'a [u8]),
-    /// A line of one log of several, as `LOG:7`, with its date.
-    LogLine(&'a str, u64, &'a [u8]),
+    /// The number of a line behind two words, as `line 7` or `LOG:7`, and then the line's date, if it has one, as
+    /// ` (2026-11-26T10:00:00Z)`.
+    Line(&'a str, &'a str, u64, &'a [u8]),
 }
 
 /// Appends bytes as they stand between quotes.
@@ -37,7 +34,10 @@ fn put_quoted(out: &mut Vec<u8>, bytes: &[u8]) -> Result<(), AllocError> {
     Ok(())
 }
 
-fn put_dated(out: &mut Vec<u8>, line: u64, date: &[u8]) -> Result<(), AllocError> {
+fn put_line(out: &mut Vec<u8>, words: [&str; 2], line: u64, date: &[u8]) -> Result<(), AllocError> {
+    let [one, other] = words;
+    out.extend_from_slice(one.as_bytes())?;
+    out.extend_from_slice(other.as_bytes())?;
     put_number(out, line)?;
     if date.is_empty() {
         return Ok(());
@@ -58,16 +58,7 @@ fn put_part(out: &mut Vec<u8>, part: Part) -> Result<(), AllocError> {
             put_quoted(out, bytes)?;
             out.extend_from_slice(b"\"")
         }
-        Part::Dated(line, date) => put_dated(out, line, date),
-        Part::Line(line, date) => {
-            out.extend_from_slice(b"line ")?;
-            put_dated(out, line, date)
-        }
-        Part::LogLine(log, line, date) => {
-            out.extend_from_slice(log.as_bytes())?;
-            out.extend_from_slice(b":")?;
-            put_dated(out, line, date)
-        }
+        Part::Line(one, other, line, date) => put_line(out, [one, other], line, date),
     }
 }
 

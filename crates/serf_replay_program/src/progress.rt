@@ -2,13 +2,31 @@
 
 use crate::io::Io;
 use serf_schedule::Watch;
+use std::io;
 use std::time::{Duration, Instant};
 
 /// A run shows a line each time that so many seconds are over, and a shorter run none.
 const PERIOD_SECONDS: u64 = 1;
 
-/// The clock is read once for so many actions.
-const ACTIONS: u64 = 1024;
+/// What a run counts, as its line says it, and for how many of them the clock is read once.
+#[derive(Clone, Copy)]
+pub(crate) struct Counted(&'static str, u64);
+
+pub(crate) const ACTIONS: Counted = Counted("actions", 1024);
+
+pub(crate) const BYTES: Counted = Counted("bytes are read", 1);
+
+pub(crate) const CALLS: Counted = Counted("calls are left out", 1);
+
+pub(crate) const SEEDS: Counted = Counted("seeds", 1);
+
+/// Says which kind of schedules a line speaks of, before the line, where that is to be said.
+pub(crate) fn say_kind(io: Io, kind: Option<&str>) -> io::Result<()> {
+    match kind {
+        Some(kind) => eprint!(io.rt; "kind {kind}: "),
+        None => Ok(()),
+    }
+}
 
 /// Shows how far a run is on standard error, once a second, where that is a terminal.
 ///
@@ -18,43 +36,23 @@ pub(crate) struct Progress<'a> {
     io: Io<'a>,
     /// When a line was shown, or the run began; `None` where nothing is to be shown.
     since: Option<Instant>,
-    /// What is counted, as the line says it.
-    things: &'static str,
-    /// The clock is read once for so many of them.
-    step: u64,
-    /// The kind of the schedules that are made; empty where the line doesn't say it.
-    kind: &'static str,
+    counted: Counted,
+    /// The kind of the schedules that are made, where the line says it.
+    kind: Option<&'static str>,
     /// How many were done before the run that reports it.
     before: u64,
 }
 
 impl<'a> Progress<'a> {
-    /// The progress of a run of actions that begins now.
-    pub(crate) fn of_actions(io: Io<'a>) -> Progress<'a> {
-        Progress::of(io, "actions", ACTIONS, "")
-    }
-
-    /// The progress of a hunt through seeds that begins now, over schedules of this kind where it is to be said.
-    pub(crate) fn of_seeds(io: Io<'a>, kind: &'static str) -> Progress<'a> {
-        Progress::of(io, "seeds", 1, kind)
-    }
-
-    /// The progress of trials of fewer calls that begin now.
-    pub(crate) fn of_calls(io: Io<'a>) -> Progress<'a> {
-        Progress::of(io, "calls are left out", 1, "")
-    }
-
-    /// The progress of what is read, in bytes, from now on.
-    pub(crate) fn of_bytes(io: Io<'a>) -> Progress<'a> {
-        Progress::of(io, "bytes are read", 1, "")
-    }
-
-    /// What is reported from here on comes after so many that were done.
-    pub(crate) fn goes_on_behind(&mut self, before: u64) {
+    /// What is reported from here on is of schedules of this kind, where it is to be said, and comes after so many that were
+    /// done.
+    pub(crate) fn goes_on(&mut self, kind: Option<&'static str>, before: u64) {
+        self.kind = kind;
         self.before = before;
     }
 
-    fn of(io: Io<'a>, things: &'static str, step: u64, kind: &'static str) -> Progress<'a> {
+    /// The progress of a run that begins now.
+    pub(crate) fn of(io: Io<'a>, counted: Counted) -> Progress<'a> {
         let since = if io.is_terminal {
             Instant::now(io.rt).ok()
         } else {
@@ -63,9 +61,8 @@ impl<'a> Progress<'a> {
         Progress {
             io,
             since,
-            things,
-            step,
-            kind,
+            counted,
+            kind: None,
             before: 0,
         }
     }
@@ -77,10 +74,8 @@ impl<'a> Progress<'a> {
         if now.duration_since(since) < Duration::from_secs(PERIOD_SECONDS) {
             return Some(since);
         }
-        let (kind, things) = (self.kind, self.things);
-        if !kind.is_empty() {
-            eprint!(rt; "kind {kind}: ").ok()?;
-        }
+        let Counted(things, _) = self.counted;
+        say_kind(self.io, self.kind).ok()?;
         if all == u64::MAX {
             eprintln!(rt; "{done} {things}").ok()?;
         } else {
@@ -96,7 +91,7 @@ impl Watch for Progress<'_> {
     }
 
     fn acted(&mut self, done: u64, all: u64) {
-        if done.is_multiple_of(self.step)
+        if done.is_multiple_of(self.counted.1)
             && let Some(since) = self.since
         {
             let done = done.saturating_add(self.before);

@@ -21,13 +21,9 @@ pub(crate) const COMMAND: CommandRow = CommandRow {
 
 /// Appends these lines, each after a few words.
 fn put_behind(text: &mut Vec<u8>, words: &[u8], lines: &[u8]) -> Result<(), AllocError> {
-    let mut begins = true;
-    for byte in lines {
-        if begins {
-            text.extend_from_slice(words)?;
-        }
-        text.push(*byte)?;
-        begins = *byte == b'\n';
+    for line in lines.split_inclusive(|byte| *byte == b'\n') {
+        text.extend_from_slice(words)?;
+        text.extend_from_slice(line)?;
     }
     Ok(())
 }

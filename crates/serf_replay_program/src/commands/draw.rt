@@ -4,8 +4,8 @@ use crate::agents::agents_of;
 use crate::fault::{Ended, Fault};
 use crate::io::Io;
 use crate::options::Takes::{Flag, Number, Place, Word, Words};
-use crate::options::{CommandRow, SCHEDULE, bad_word, rows};
-use crate::progress::Progress;
+use crate::options::{CommandRow, SCHEDULE, chosen, rows};
+use crate::progress::{ACTIONS, Progress};
 use clap::ArgMatches;
 use serf_draw::{Asked, Picture, draw_picture, mermaid_text, svg_text};
 use serf_wire::Bytes;
@@ -32,15 +32,6 @@ pub(crate) const COMMAND: CommandRow = CommandRow {
 enum Form {
     Svg,
     Mermaid,
-}
-
-/// The form that the words ask for; `None` where they name none.
-fn form_of(matches: &ArgMatches) -> Option<Form> {
-    match matches.get_str("as") {
-        None | Some("svg") => Some(Form::Svg),
-        Some("mermaid") => Some(Form::Mermaid),
-        Some(_) => None,
-    }
 }
 
 /// The name that the words ask for, if they ask for one.
@@ -88,9 +79,10 @@ fn write_picture<'a>(io: Io, picture: &Picture, form: Form) -> Ended<'a> {
 
 /// Draws the run of the schedule in a file, or on standard input, as the words ask for.
 pub(super) fn run<'a>(io: Io, matches: &ArgMatches<'a>) -> Ended<'a> {
-    let form = form_of(matches).ok_or(bad_word("as", "svg or mermaid"))?;
-    let text = io.source(matches.get_str("FILE"))?.of_schedule().text()?;
+    let forms = [("svg", Form::Svg), ("mermaid", Form::Mermaid)];
+    let form = chosen(matches, "as", &forms, "svg or mermaid")?;
+    let text = io.schedule(matches)?.text()?;
     let asked = asked_of(io.alloc(), matches, &text)?;
-    let picture = draw_picture(io.alloc(), &text, &asked, &mut Progress::of_actions(io))?;
+    let picture = draw_picture(io.alloc(), &text, &asked, &mut Progress::of(io, ACTIONS))?;
     write_picture(io, &picture, form)
 }

@@ -1,14 +1,13 @@
 //! `explain`: a schedule's trace with its reasons; or the same line by line.
 
 use crate::agents::agents_of;
-use crate::fault::{Ended, Status, command_line};
-use crate::io::Io;
+use crate::fault::{Ended, Fault, Status, command_line};
+use crate::io::{Io, Source};
 use crate::options::Takes::{Flag, Number, Place, Word};
 use crate::options::{CommandRow, SCHEDULE, rows};
-use crate::progress::Progress;
+use crate::progress::{ACTIONS, Progress};
 use clap::ArgMatches;
 use serf_explain::{Range, explain, explain_lines};
-use std::io::Read;
 
 /// What the command takes.
 pub(crate) const COMMAND: CommandRow = CommandRow {
@@ -24,18 +23,18 @@ pub(crate) const COMMAND: CommandRow = CommandRow {
     },
 };
 
-/// Which actions the words ask for, of this agent, or of all of them.
-fn range_of(matches: &ArgMatches, agent: Option<u64>) -> Range {
+/// Which actions the words ask for, of all agents.
+fn range_of(matches: &ArgMatches) -> Range {
     Range {
-        agent,
+        agent: None,
         from: matches.get_one::<u64>("from").unwrap_or(1),
         to: matches.get_one::<u64>("to").unwrap_or(u64::MAX),
     }
 }
 
 /// Reports a range that has no action of a schedule with so many.
-fn tell_empty(io: Io, range: &Range, actions: u64) {
-    let Range { from, to, .. } = *range;
+fn tell_empty(io: Io, range: Range, actions: u64) {
+    let Range { from, to, .. } = range;
     if from > actions {
         let _ = eprintln!(io.rt; "nothing to show: the schedule has {actions} actions");
     } else if to < from {
@@ -43,22 +42,18 @@ fn tell_empty(io: Io, range: &Range, actions: u64) {
     }
 }
 
-/// Writes the trace of the schedule that is read, with its reasons.
-fn explain_range<'a, I: Read>(io: Io, range: &Range, reader: &mut I) -> Ended<'a> {
-    let mut output = io.output();
-    let mut progress = Progress::of_actions(io);
-    let actions = explain(io.alloc(), reader, &mut output, range, &mut progress)?;
-    tell_empty(io, range, actions);
-    Ok(Status::Done)
-}
-
-/// Writes what one agent does, which a word names: so the schedule is read whole first.
-fn explain_agent<'a>(io: Io, matches: &ArgMatches<'a>, word: &'a str) -> Ended<'a> {
-    let text = io.source(matches.get_str("FILE"))?.of_schedule().text()?;
-    let agents = agents_of(io.alloc(), &text, &[word])?;
-    let range = range_of(matches, agents.first().copied());
-    let mut reader: &[u8] = &text;
-    explain_range(io, &range, &mut reader)
+/// Writes what one agent does, which a word names: so the schedule is read whole first. Gives how many actions it has.
+fn explain_agent<'a>(
+    io: Io,
+    source: &mut Source,
+    range: Range,
+    word: &'a str,
+) -> Result<u64, Fault<'a>> {
+    let text = source.text()?;
+    let agent = agents_of(io.alloc(), &text, &[word])?.first().copied();
+    let (range, mut reader) = (Range { agent, ..range }, text.as_slice());
+    let (mut output, mut progress) = (io.output(), Progress::of(io, ACTIONS));
+    Ok(explain(io.alloc(), &mut reader, &mut output, &range, &mut progress)?)
 }
 
 /// Whether the words ask for a part of the actions.
@@ -68,29 +63,25 @@ fn asks_for_part(matches: &ArgMatches) -> bool {
         || matches.get_one::<u64>("to").is_some()
 }
 
-/// Writes the trace line by line, with its reasons. A line that is bad ends it, after the text of those before.
-fn explain_stream<'a>(io: Io, matches: &ArgMatches<'a>) -> Ended<'a> {
-    if asks_for_part(matches) {
-        return Err(command_line(
-            "--stream explains all actions: leave out --agent, --from and --to",
-        ));
-    }
-    let mut source = io.source(matches.get_str("FILE"))?.of_schedule();
-    let mut output = io.output();
-    let actions = explain_lines(io.alloc(), &mut source, &mut output)?;
-    tell_empty(io, &range_of(matches, None), actions);
-    Ok(Status::Done)
-}
-
-/// Writes the trace of the schedule in a file, or on standard input, with its reasons, line by line where that is asked
-/// for.
+/// Writes the trace of the schedule in a file, or on standard input, with its reasons; line by line where that is asked
+/// for: then a line that is bad ends it, after the text of those before.
 pub(super) fn run<'a>(io: Io, matches: &ArgMatches<'a>) -> Ended<'a> {
-    if matches.get_flag("stream") {
-        return explain_stream(io, matches);
+    let is_streamed = matches.get_flag("stream");
+    if is_streamed && asks_for_part(matches) {
+        let why = "--stream explains all actions: leave out --agent, --from and --to";
+        return Err(command_line(why));
     }
-    if let Some(word) = matches.get_str("agent") {
-        return explain_agent(io, matches, word);
-    }
-    let mut source = io.source(matches.get_str("FILE"))?.of_schedule();
-    explain_range(io, &range_of(matches, None), &mut source)
+    let (mut source, range) = (io.schedule(matches)?, range_of(matches));
+    let actions = if is_streamed {
+        source.stream(|alloc, source, output| explain_lines(alloc, source, output))?
+    } else if let Some(word) = matches.get_str("agent") {
+        explain_agent(io, &mut source, range, word)?
+    } else {
+        source.stream(move |alloc, source, output| {
+            let mut progress = Progress::of(io, ACTIONS);
+            explain(alloc, source, output, &range, &mut progress)
+        })?
+    };
+    tell_empty(io, range, actions);
+    Ok(Status::Done)
 }

@@ -7,10 +7,12 @@ use crate::fault::{Ended, Fault, Status};
 use crate::io::Io;
 use crate::options::Takes::{Flag, Places, Words};
 use crate::options::{CommandRow, rows};
-use crate::parts::Part;
 use crate::parts::Part::{Bytes, Number, Word};
 use clap::ArgMatches;
-use serf_judge::{Log, behind_leave, first_above, has_node, is_own_snapshot, join_logs, read_log};
+use serf_judge::{
+    Handed, HandedOut, Log, behind_leave, first_above, has_node, is_own_snapshot, join_logs,
+    read_log,
+};
 use serf_snap::read_clocks;
 use serf_text::StreamFault;
 use std::alloc::AllocError;
@@ -29,33 +31,33 @@ pub(crate) const COMMAND: CommandRow = CommandRow {
     },
 };
 
-/// The line and the time of the first event that was handed to a node above this clock.
-fn open_event(log: &Log, node: &[u8], clock: u64) -> Option<(u64, u64)> {
-    let place = first_above(log.events.as_slice(), node, clock)?;
-    let entry = log.events.get(place)?;
-    Some((entry.line, entry.time))
-}
-
-/// The line and the time of the first query that was handed to a node above this clock.
-fn open_query(log: &Log, node: &[u8], clock: u64) -> Option<(u64, u64)> {
-    let place = first_above(log.queries.as_slice(), node, clock)?;
-    let entry = log.queries.get(place)?;
-    Some((entry.line, entry.time))
-}
-
 impl Verdicts<'_> {
-    /// Appends what a node keeps of a clock, and what line and time that leaves open.
-    fn put_kept(&mut self, kept: [Part; 4], open: Option<(u64, u64)>) -> Result<(), AllocError> {
+    /// Judges what a clock of a node's snapshot leaves open, where the log has such lines.
+    fn judge_clock<'b, E: HandedOut>(
+        &mut self,
+        entries: &[E],
+        node: &'b [u8],
+        how: &'b str,
+        name: &'b str,
+        clock: u64,
+    ) -> Result<(), AllocError> {
+        if entries.is_empty() {
+            return Ok(());
+        }
+        let kept = [Bytes(node), Word(how), Word(name), Number(clock)];
         self.put("~~ keeps ~ ~", &kept)?;
-        let Some((line, time)) = open else {
-            return self.put(": nothing was handed out above it\n", &[]);
-        };
-        let text = ", and ~ was handed out at ~: it can be handed out again\n";
-        let line = self.line(line);
-        self.put_broken(text, &[line, Number(time)])
+        if let Some(place) = first_above(entries, node, clock)
+            && let Some(entry) = entries.get(place)
+        {
+            let Handed { line, key } = entry.handed();
+            let text = ", and ~ was handed out at ~: it can be handed out again\n";
+            let parts = [self.line(line), Number(key.time)];
+            return self.put_broken(text, &parts);
+        }
+        self.put(": nothing was handed out above it\n", &[])
     }
 
-    /// Judges what the clocks of a node's snapshot leave open, each where the log has such lines.
+    /// Judges what the clocks of a node's snapshot leave open.
     fn judge_clocks<'b>(
         &mut self,
         log: &Log,
@@ -64,18 +66,9 @@ impl Verdicts<'_> {
         snapshot: &[u8],
     ) -> Result<(), AllocError> {
         let clocks = read_clocks(snapshot);
-        let (name, how) = (Bytes(node), Word(how));
-        if !log.events.is_empty() {
-            let clock = clocks.event_clock;
-            let kept = [name, how, Word("event-clock"), Number(clock)];
-            self.put_kept(kept, open_event(log, node, clock))?;
-        }
-        if !log.queries.is_empty() {
-            let clock = clocks.query_clock;
-            let kept = [name, how, Word("query-clock"), Number(clock)];
-            self.put_kept(kept, open_query(log, node, clock))?;
-        }
-        Ok(())
+        let (events, queries) = (log.events.as_slice(), log.queries.as_slice());
+        self.judge_clock(events, node, how, "event-clock", clocks.event_clock)?;
+        self.judge_clock(queries, node, how, "query-clock", clocks.query_clock)
     }
 
     /// Judges what a node's snapshot leaves open: of one of Serf's with a line `leave` what it does where Serf is started
@@ -99,8 +92,9 @@ impl Verdicts<'_> {
 /// The log of a file, or of standard input where it is `-`.
 fn log_of<'a>(io: Io, file: &'a str, is_alone: bool) -> Result<Log, Fault<'a>> {
     let mut source = io.source(Some(file))?;
-    read_log(io.alloc(), &mut source).map_err(|fault| match fault {
-        StreamFault::ReadFault => Fault::ReadFaultOf(file),
+    let outcome = source.stream(|alloc, source, _output| read_log(alloc, source));
+    outcome.map_err(|fault| match fault {
+        StreamFault::ReadFault => Fault::ReadFault(Some(file)),
         StreamFault::LineTooLong { line } => Fault::LongLogLine(
             if is_alone { None } else { Some(file) },
             line,
@@ -138,7 +132,7 @@ fn logs_of<'a: 'b, 'b>(
 fn snapshot_of<'a>(io: Io, path: &'a str) -> Result<Vec<u8>, Fault<'a>> {
     let snapshot = match io.file(path)?.text() {
         Ok(snapshot) => snapshot,
-        Err(Fault::ReadFault) => return Err(Fault::ReadFaultOf(path)),
+        Err(Fault::ReadFault(_)) => return Err(Fault::ReadFault(Some(path))),
         Err(fault) => return Err(fault),
     };
     check_snapshot(path, &snapshot)?;

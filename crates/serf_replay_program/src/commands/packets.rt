@@ -53,9 +53,10 @@ impl FramingNotes for Told<'_> {
 
 /// Writes the answer to each line of standard input.
 fn decode_all<'a>(io: Io) -> Ended<'a> {
-    let mut output = io.output();
     let mut source = io.source(None)?;
-    let outcome = decode_lines(io.alloc(), &mut source, &mut output, &mut Told(io));
+    let outcome = source.stream(move |alloc, source, output| {
+        decode_lines(alloc, source, output, &mut Told(io))
+    });
     let is_refused = outcome.map_err(|fault| stream_fault(fault, "BadHex"))?;
     Ok(Status::refused_if(is_refused))
 }
@@ -73,23 +74,20 @@ fn print_message<'a>(io: Io, packet: &[u8]) -> Ended<'a> {
     io.finish(&text)
 }
 
-/// The place of the first character that is no hex digit, counted from 1.
-fn other_place(text: &str) -> Option<u64> {
-    let mut place: u64 = 0;
-    for character in text.chars() {
-        place = place.saturating_add(1);
-        if !character.is_ascii_hexdigit() {
-            return Some(place);
-        }
-    }
-    None
+/// The place of the first character that is no hex digit, counted from 0.
+fn other_place(text: &str) -> Option<usize> {
+    text.chars()
+        .position(|character| !character.is_ascii_hexdigit())
 }
 
 /// Says why a word is no packet in hex. Of one that names a file the second line says how a file is read.
 fn tell_bad_hex(io: Io, text: &str) -> Status {
     let count = text.len();
     let _ = match other_place(text) {
-        Some(place) => eprintln!(io.rt; "bad hex: character {place} is no hex digit"),
+        Some(place) => {
+            let number = place.saturating_add(1);
+            eprintln!(io.rt; "bad hex: character {number} is no hex digit")
+        }
         None => eprintln!(io.rt; "bad hex: an odd number of digits, {count}"),
     };
     if io.file(text).is_ok() {
@@ -123,9 +121,8 @@ pub(super) fn decode<'a>(io: Io, matches: &ArgMatches<'a>) -> Ended<'a> {
 /// Writes the answer to each text on standard input. One that the end of the input cuts off gets a line on standard
 /// error.
 pub(super) fn encode<'a>(io: Io, _matches: &ArgMatches<'a>) -> Ended<'a> {
-    let mut output = io.output();
     let mut source = io.source(None)?;
-    let outcome = encode_blocks(io.alloc(), &mut source, &mut output);
+    let outcome = source.stream(|alloc, source, output| encode_blocks(alloc, source, output));
     let blocks = outcome.map_err(|fault| stream_fault(fault, "BadText"))?;
     if blocks.is_cut {
         let _ = eprintln!(io.rt; "the last text is cut off: its last line has no newline");

@@ -3,8 +3,8 @@
 use crate::fault::{Ended, Fault};
 use crate::io::Io;
 use crate::options::Takes::{NeededNumber, Number, Word};
-use crate::options::{CommandRow, KINDS, bad_word, rows};
-use crate::progress::Progress;
+use crate::options::{CommandRow, KINDS, bad_word, chosen, rows};
+use crate::progress::{self, Progress};
 use clap::ArgMatches;
 use serf_conform::Rules;
 use serf_random::{
@@ -105,11 +105,8 @@ fn ask_of<'a>(matches: &ArgMatches, seed: u64) -> Result<Ask, Fault<'a>> {
 
 /// Whose rules the words ask for.
 pub(super) fn rules_of<'a>(matches: &ArgMatches) -> Result<Rules, Fault<'a>> {
-    match matches.get_str("rules") {
-        None | Some("own") => Ok(Rules::Own),
-        Some("serf") => Ok(Rules::Serf),
-        Some(_) => Err(bad_word("rules", "serf or own")),
-    }
+    let rules = [("own", Rules::Own), ("serf", Rules::Serf)];
+    chosen(matches, "rules", &rules, "serf or own")
 }
 
 /// A schedule of rounds whose text has no more room than this may have ended before its last round: no line of rounds is as
@@ -124,7 +121,7 @@ const CUT_OFF: &str =
 pub(super) fn run<'a>(io: Io, matches: &ArgMatches<'a>) -> Ended<'a> {
     let seed = matches.get_one::<u64>("SEED");
     let ask = ask_of(matches, seed.ok_or(bad_word("SEED", "a number"))?)?;
-    let mut progress = Progress::of_actions(io);
+    let mut progress = Progress::of(io, progress::ACTIONS);
     let made = match rules_of(matches)? {
         Rules::Own => random_schedule(io.alloc(), &ask, &mut progress),
         Rules::Serf => common_schedule(io.alloc(), &ask, &mut progress),

@@ -5,8 +5,8 @@ mod summary;
 use crate::fault::{Ended, Fault, Status};
 use crate::io::Io;
 use crate::options::Takes::{Flag, Place, Word};
-use crate::options::{CommandRow, SCHEDULE, bad_word, rows};
-use crate::progress::Progress;
+use crate::options::{CommandRow, SCHEDULE, bad_word, chosen, rows};
+use crate::progress::{ACTIONS, Progress};
 use clap::ArgMatches;
 use serf_replay::{Summary, replay, replay_lines, summarize, summarize_lines};
 use serf_schedule::parse_schedule;
@@ -27,40 +27,34 @@ pub(crate) const COMMAND: CommandRow = CommandRow {
 
 /// The form that the words ask for. Only a summary has one.
 fn form_of<'a>(matches: &ArgMatches) -> Result<Form, Fault<'a>> {
-    match (matches.get_str("as"), matches.get_flag("summary")) {
-        (None, _) | (Some("text"), true) => Ok(TEXT),
-        (Some("csv"), true) => Ok(CSV),
-        (Some("json"), true) => Ok(JSON),
-        (Some(_), _) => {
-            let words = "text, csv or json, where --summary is given too";
-            Err(bad_word("as", words))
-        }
+    let words = "text, csv or json, where --summary is given too";
+    if !matches.get_flag("summary") && matches.get_str("as").is_some() {
+        return Err(bad_word("as", words));
     }
+    let forms = [("text", TEXT), ("csv", CSV), ("json", JSON)];
+    chosen(matches, "as", &forms, words)
 }
 
 /// What came of the run of the schedule in a file, or on standard input.
 fn summary_of<'a>(io: Io, matches: &ArgMatches<'a>) -> Result<Summary, Fault<'a>> {
-    let file = matches.get_str("FILE");
+    let mut source = io.schedule(matches)?;
     if matches.get_flag("stream") {
-        let mut source = io.source(file)?.of_schedule();
-        return Ok(summarize_lines(io.alloc(), &mut source)?);
+        return Ok(source.stream(|alloc, source, _output| summarize_lines(alloc, source))?);
     }
-    let text = io.source(file)?.of_schedule().text()?;
-    let schedule = parse_schedule(io.alloc(), &text)?;
-    let mut progress = Progress::of_actions(io);
-    Ok(summarize(io.alloc(), schedule, &mut progress)?)
+    let schedule = parse_schedule(io.alloc(), &source.text()?)?;
+    Ok(summarize(io.alloc(), schedule, &mut Progress::of(io, ACTIONS))?)
 }
 
 /// Writes the trace of the schedule in a file, or on standard input; line by line where that is asked for: then a line that
 /// is bad ends it, after the text of those before.
 fn write_trace<'a>(io: Io, matches: &ArgMatches<'a>) -> Ended<'a> {
-    let mut source = io.source(matches.get_str("FILE"))?.of_schedule();
-    let mut output = io.output();
+    let mut source = io.schedule(matches)?;
     if matches.get_flag("stream") {
-        replay_lines(io.alloc(), &mut source, &mut output)?;
+        source.stream(|alloc, source, output| replay_lines(alloc, source, output))?;
     } else {
-        let mut progress = Progress::of_actions(io);
-        replay(io.alloc(), &mut source, &mut output, &mut progress)?;
+        source.stream(move |alloc, source, output| {
+            replay(alloc, source, output, &mut Progress::of(io, ACTIONS))
+        })?;
     }
     Ok(Status::Done)
 }

@@ -4,7 +4,7 @@ use crate::fault::{Ended, Fault};
 use crate::io::Io;
 use crate::options::Takes::Place;
 use crate::options::{CommandRow, rows};
-use crate::progress::Progress;
+use crate::progress::{BYTES, Progress};
 use clap::ArgMatches;
 use serf_write::{WriteFault, write};
 
@@ -22,7 +22,7 @@ pub(crate) const COMMAND: CommandRow = CommandRow {
 /// stand there.
 pub(super) fn run<'a>(io: Io, matches: &ArgMatches<'a>) -> Ended<'a> {
     let text = io.source(matches.get_str("FILE"))?.text()?;
-    match write(io.alloc(), &text, &mut Progress::of_bytes(io)) {
+    match write(io.alloc(), &text, &mut Progress::of(io, BYTES)) {
         Ok(schedule) => io.finish(&schedule),
         Err(WriteFault::BadLine { line, fault }) => Err(Fault::BadWord(line, fault)),
         Err(WriteFault::OutOfMemory) => Err(Fault::NoMemory),

@@ -7,7 +7,7 @@ use crate::commands::random::{ask_with, kind_of};
 use crate::fault::{Ended, Fault, Status};
 use crate::io::Io;
 use crate::options::{KINDS_OR_ALL, bad_word};
-use crate::progress::Progress;
+use crate::progress::{Progress, SEEDS, say_kind};
 use clap::ArgMatches;
 use serf_hunt::{Case, Found, HuntFault, Hunted, RandomSchedules, case_of, hunt, sum_of};
 use serf_random::{Ask, Kind, random_schedule};
@@ -64,8 +64,8 @@ pub(super) fn seeds_of<'a>(word: &str, matches: &ArgMatches) -> Result<Seeds, Fa
 struct KindProgress {
     /// What is asked for of each seed, in the place of its own seed.
     ask: Ask,
-    /// The kind's name, where it is printed; else empty.
-    name: &'static str,
+    /// The kind's name, where it is printed.
+    name: Option<&'static str>,
     /// The first seed that wasn't held.
     next: u64,
     /// How many seeds were held to their end.
@@ -77,18 +77,6 @@ struct KindProgress {
 }
 
 impl KindProgress {
-    /// Starts at the first seed. The kind has a name where more kinds than one are held.
-    fn new(seeds: &Seeds, kind: Kind, name: &'static str) -> KindProgress {
-        KindProgress {
-            ask: Ask { kind, ..seeds.ask },
-            name,
-            next: seeds.first,
-            agreed: 0,
-            calls: 0,
-            found: 0,
-        }
-    }
-
     /// What a hunt adds that found an agent on this seed, or none before this end.
     fn held_to(&mut self, seed: u64, hunted: &Hunted) {
         let agreed = seed.saturating_sub(self.next);
@@ -97,24 +85,11 @@ impl KindProgress {
         self.next = seed.saturating_add(1);
     }
 
-    /// Prints the kind before what is reported, where that is to be said.
-    fn say_kind(&self, io: Io) {
-        let name = self.name;
-        if !name.is_empty() {
-            let _ = eprint!(io.rt; "kind {name}: ");
-        }
-    }
-
     /// Reports what came of all seeds of the kind, and gives the status.
     fn tell_end(&self, io: Io) -> Status {
-        let KindProgress {
-            agreed,
-            calls,
-            found,
-            ..
-        } = self;
-        self.say_kind(io);
-        if *found == 0 {
+        let (agreed, calls, found) = (self.agreed, self.calls, self.found);
+        let _ = say_kind(io, self.name);
+        if found == 0 {
             let _ = eprintln!(io.rt; "{agreed} seeds and {calls} calls agree");
             return Status::Done;
         }
@@ -131,12 +106,10 @@ fn made_again(alloc: Global, ask: Ask, seed: u64) -> Result<(Vec<u8>, Case), All
 }
 
 impl Session<'_> {
-    /// Reports which agent of which seed does otherwise: the status with which it goes on, or that which ends all.
-    fn conclude_found(&mut self, ask: Ask, found: &Found) -> Result<Status, Status> {
+    /// Reports which agent of which seed does otherwise, and gives the status with which it goes on.
+    fn conclude_found<'b>(&mut self, ask: Ask, found: &Found) -> Ended<'b> {
         let Found { seed, other } = found;
-        let Ok((text, case)) = made_again(self.io.alloc(), ask, *seed) else {
-            return Err(Fault::NoMemory.tell(self.io, None));
-        };
+        let (text, case) = made_again(self.io.alloc(), ask, *seed)?;
         self.conclude(&Held {
             seed: Some(*seed),
             text: &text,
@@ -146,13 +119,13 @@ impl Session<'_> {
         })
     }
 
-    /// What a hunt over the seeds of a kind that are left comes to, which the sums then have; or the status of its fault.
-    fn hunt_on(
+    /// What a hunt over the seeds of a kind that are left comes to, which the sums then have.
+    fn hunt_on<'b>(
         &mut self,
         end: u64,
         kind: &KindProgress,
         progress: &mut Progress,
-    ) -> Result<Hunted, Status> {
+    ) -> Result<Hunted, Fault<'b>> {
         let maker = RandomSchedules(kind.ask);
         let (alloc, rules, first) = (self.io.alloc(), self.asked.rules, kind.next);
         let (reader, writer) = (&mut self.reader, &mut self.writer);
@@ -163,20 +136,20 @@ impl Session<'_> {
             }
             Err(HuntFault { seed, fault }) => {
                 self.reporting.has_fault = true;
-                kind.say_kind(self.io);
-                Err(self.tell_fault("seed", seed, fault))
+                let _ = say_kind(self.io, kind.name);
+                Err(Fault::Held("seed", seed, fault))
             }
         }
     }
 
     /// Holds an agent against the seeds of a kind that are left, up to the first that it does otherwise on, and reports
-    /// what came of it: the status of all of them, `None` where it may go on, or the status that ends all.
-    fn hold_on(
+    /// what came of it: the status of all of them, or `None` where it may go on.
+    fn hold_on<'b>(
         &mut self,
         end: u64,
         kind: &mut KindProgress,
         progress: &mut Progress,
-    ) -> Result<Option<Status>, Status> {
+    ) -> Result<Option<Status>, Fault<'b>> {
         let hunted = self.hunt_on(end, kind, progress)?;
         let Some(found) = &hunted.found else {
             kind.held_to(end, &hunted);
@@ -185,7 +158,7 @@ impl Session<'_> {
         let seed = found.seed;
         kind.held_to(seed, &hunted);
         kind.found = kind.found.saturating_add(1);
-        kind.say_kind(self.io);
+        let _ = say_kind(self.io, kind.name);
         let (agreed, calls) = (kind.agreed, kind.calls);
         let _ = eprintln!(self.io.rt; "seed {seed}: {agreed} seeds and {calls} calls agree before");
         self.conclude_found(kind.ask, found)?;
@@ -193,34 +166,37 @@ impl Session<'_> {
     }
 
     /// Holds an agent against all seeds of a kind, and goes on after a disagreement as often as is asked for. Gives the
-    /// status with which it goes on, or that which ends all.
-    fn hold_kind(&mut self, seeds: &Seeds, kind: &mut KindProgress) -> Result<Status, Status> {
-        let mut progress = Progress::of_seeds(self.io, kind.name);
+    /// status with which it goes on.
+    fn hold_kind<'b>(&mut self, seeds: &Seeds, kind: &mut KindProgress) -> Ended<'b> {
+        let mut progress = Progress::of(self.io, SEEDS);
         for _ in self.reporting.disagreements..self.asked.go_on.unwrap_or(1) {
-            progress.goes_on_behind(kind.next.saturating_sub(seeds.first));
+            progress.goes_on(kind.name, kind.next.saturating_sub(seeds.first));
             if let Some(status) = self.hold_on(seeds.end, kind, &mut progress)? {
                 return Ok(status);
             }
         }
-        Err(Status::Refused)
+        Err(Fault::Told(Status::Refused))
     }
 
-    /// Holds an agent against all seeds, kind by kind: the greatest of their statuses, or that which ends all. Adds to the
-    /// report how many seeds agree.
-    fn hold_kinds(&mut self, seeds: &Seeds) -> Result<Status, Status> {
+    /// Holds an agent against all seeds, kind by kind: the greatest of their statuses. Adds to the report how many seeds
+    /// agree.
+    fn hold_kinds<'b>(&mut self, seeds: &Seeds) -> Ended<'b> {
         let mut status = Status::Done;
         for word in KINDS.split(' ') {
             let kind = Kind::of_name(word.as_bytes()).unwrap_or(seeds.ask.kind);
             if !seeds.are_of_all_kinds && seeds.ask.kind != kind {
                 continue;
             }
-            let name = if seeds.are_of_all_kinds { word } else { "" };
-            self.reporting.kind = if seeds.are_of_all_kinds {
-                Some(word.as_bytes())
-            } else {
-                None
+            let name = seeds.are_of_all_kinds.then_some(word);
+            self.reporting.kind = name;
+            let mut held = KindProgress {
+                ask: Ask { kind, ..seeds.ask },
+                name,
+                next: seeds.first,
+                agreed: 0,
+                calls: 0,
+                found: 0,
             };
-            let mut held = KindProgress::new(seeds, kind, name);
             let came = self.hold_kind(seeds, &mut held);
             let schedules = self.reporting.schedules;
             self.reporting.schedules = schedules.saturating_add(held.agreed);
@@ -235,5 +211,5 @@ impl Session<'_> {
 pub(super) fn hold_seeds<'a>(io: Io, seeds: &Seeds, asked: Asked<'a>) -> Ended<'a> {
     let mut session = Session::new(io, asked)?;
     let ended = session.hold_kinds(seeds);
-    Ok(session.finish(ended))
+    session.finish(ended)
 }

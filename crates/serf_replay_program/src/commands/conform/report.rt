@@ -1,8 +1,7 @@
 //! What is said of an agent that was held, on standard error.
 
 use super::reporting::Reporting;
-use super::session::SILENT;
-use crate::fault::{Fault, Status};
+use crate::fault::{Ended, Status};
 use crate::io::Io;
 use crate::parts::Part::Number;
 use crate::parts::put;
@@ -26,11 +25,7 @@ fn shown_byte(byte: u8) -> char {
 
 /// The bytes of a line as they are shown.
 fn shown_text(alloc: Global, text: &[u8]) -> Result<String, AllocError> {
-    let mut shown = String::new(alloc);
-    for byte in text {
-        shown.push(shown_byte(*byte))?;
-    }
-    Ok(shown)
+    text.iter().map(|byte| shown_byte(*byte)).collect(alloc)
 }
 
 /// Prints a whole line on standard error, since a packet in it is there to be decoded.
@@ -100,11 +95,11 @@ fn line_of_action(text: &[u8], agents: usize, number: u64) -> u64 {
 
 /// How many packets were sent at the first so many actions.
 fn sent_before(lines: &[Line], actions: usize) -> usize {
-    let mut count: usize = 0;
-    for line in lines.iter().take(actions) {
-        count = count.saturating_add(line.sent.as_slice().len());
-    }
-    count
+    let sent = lines
+        .iter()
+        .take(actions)
+        .map(|line| line.sent.as_slice().len());
+    sent.fold(0, |sum: usize, count| sum.saturating_add(count))
 }
 
 /// An agent that was held, and its verdict.
@@ -163,14 +158,6 @@ fn message_of(alloc: Global, line: &str) -> Option<Vec<u8>> {
     decode_text(alloc, &packet).ok()
 }
 
-fn lines_of(alloc: Global, text: &str) -> Result<Vec<&str>, AllocError> {
-    let mut lines = Vec::new(alloc);
-    for line in text.lines() {
-        lines.push(line)?;
-    }
-    Ok(lines)
-}
-
 /// The first word of two lines and what is behind it in each, where both begin with the same word.
 fn behind_one_word<'a, 'b>(one: &'a str, other: &'b str) -> Option<(&'a str, &'a str, &'b str)> {
     let (name, is) = one.split_once(' ')?;
@@ -206,26 +193,19 @@ fn say_all(io: Io, word: &str, lines: &[&str]) {
 
 /// How many lines two texts have in common at their start.
 fn common_front(left: &[&str], right: &[&str]) -> usize {
-    let mut count: usize = 0;
-    for (one, other) in left.iter().zip(right.iter()) {
-        if *one != *other {
-            return count;
-        }
-        count = count.saturating_add(1);
-    }
-    count
+    left.iter()
+        .zip(right)
+        .take_while(|(one, other)| **one == **other)
+        .count()
 }
 
 /// How many lines two texts have in common at their end.
 fn common_end(left: &[&str], right: &[&str]) -> usize {
-    let mut count: usize = 0;
-    for (one, other) in left.iter().rev().zip(right.iter().rev()) {
-        if *one != *other {
-            return count;
-        }
-        count = count.saturating_add(1);
-    }
-    count
+    left.iter()
+        .rev()
+        .zip(right.iter().rev())
+        .take_while(|(one, other)| **one == **other)
+        .count()
 }
 
 /// The lines after so many at the start, and before so many at the end.
@@ -236,16 +216,15 @@ fn middle<'a, 'b>(lines: &'a [&'b str], front: usize, end: usize) -> &'a [&'b st
 
 /// Prints the lines of two messages that aren't in both.
 fn say_messages(io: Io, wanted: &[&str], got: &[&str]) {
+    if wanted.len() == got.len() {
+        say_pairs(io, wanted, got);
+        return;
+    }
     let front = common_front(wanted, got);
     let (wanted, got) = (middle(wanted, front, 0), middle(got, front, 0));
     let end = common_end(wanted, got);
-    let (wanted, got) = (middle(wanted, 0, end), middle(got, 0, end));
-    if wanted.len() == got.len() {
-        say_pairs(io, wanted, got);
-    } else {
-        say_all(io, "wanted", wanted);
-        say_all(io, "got", got);
-    }
+    say_all(io, "wanted", middle(wanted, 0, end));
+    say_all(io, "got", middle(got, 0, end));
 }
 
 /// Prints how the messages of two packets differ, where two lines of replies have such.
@@ -257,8 +236,8 @@ fn say_packets(io: Io, wanted: &str, got: &str) -> Result<(), AllocError> {
     let (Ok(wanted), Ok(got)) = (str::from_utf8(&wanted), str::from_utf8(&got)) else {
         return Ok(());
     };
-    let wanted = lines_of(alloc, wanted)?;
-    let got = lines_of(alloc, got)?;
+    let wanted = wanted.lines().collect::<Vec<&str>>(alloc)?;
+    let got = got.lines().collect::<Vec<&str>>(alloc)?;
     say_messages(io, &wanted, &got);
     Ok(())
 }
@@ -276,9 +255,9 @@ fn say_what_differs(io: Io, wanted: &[u8], got: &[u8]) -> Result<(), AllocError>
     Ok(())
 }
 
-/// Appends where a call stands: its agent, and its action with the line of the schedule, or no action for the opening. A
-/// look stands after an action.
-fn put_place(out: &mut Vec<u8>, held: &Held) -> Result<(), AllocError> {
+/// Prints where a call stands, and its words: its agent, and its action with the line of the schedule, or no action for the
+/// opening. A look stands after an action.
+fn say_head(io: Io, held: &Held, words: &[u8]) -> Result<(), AllocError> {
     let (number, line) = (held.verdict.action, held.line());
     let text = if number == 0 {
         "agent ~: "
@@ -289,17 +268,9 @@ fn put_place(out: &mut Vec<u8>, held: &Held) -> Result<(), AllocError> {
     } else {
         "agent ~: action ~, line ~: "
     };
-    put(
-        out,
-        text,
-        &[Number(held.agent), Number(number), Number(line)],
-    )
-}
-
-/// Prints the place of a call, and its words.
-fn say_head(io: Io, held: &Held, words: &[u8]) -> Result<(), AllocError> {
     let mut head = Vec::new(io.alloc());
-    put_place(&mut head, held)?;
+    let parts = [Number(held.agent), Number(number), Number(line)];
+    put(&mut head, text, &parts)?;
     head.extend_from_slice(words)?;
     say(io, &head);
     Ok(())
@@ -317,45 +288,36 @@ fn tell(io: Io, reporting: &mut Reporting, held: &Held, got: &[u8]) -> Result<()
     say_what_differs(io, &wanted, got)
 }
 
-/// Reports an agent that did otherwise, and gives this status, or that of no memory.
-fn told(io: Io, reporting: &mut Reporting, held: &Held, got: &[u8], status: Status) -> Status {
-    match tell(io, reporting, held, got) {
-        Ok(()) => status,
-        Err(_) => Fault::NoMemory.tell(io, None),
-    }
-}
-
 /// What is printed in place of a reply, where the agent ended. The sums have its verdict already.
 fn ended_words(reporting: &Reporting, verdict: &Verdict) -> &'static [u8] {
     let is_first = reporting.counts.agents <= 1 && verdict.calls == 0;
     if is_first {
-        SILENT.as_bytes()
+        b"the agent ended before its first reply"
     } else {
         b"the agent ended"
     }
 }
 
 /// Prints how many calls agree, and where it isn't all of them, why the others aren't compared.
-fn say_agreeing(io: Io, held: &Held, why: Option<&str>) -> Status {
+fn say_agreeing<'b>(io: Io, held: &Held, why: Option<&str>) -> Ended<'b> {
     let agent = held.agent;
     let Verdict { calls, action, .. } = held.verdict;
     let _ = match why {
         None => eprintln!(io.rt; "agent {agent}: {calls} calls agree"),
         Some(why) => eprintln!(io.rt; "agent {agent}: {calls} calls agree; action {action} {why}"),
     };
-    Status::Done
+    Ok(Status::Done)
 }
 
 /// Prints a verdict, adds it to the report where the agent did otherwise, and gives its status.
-pub(super) fn report(io: Io, reporting: &mut Reporting, held: &Held) -> Status {
-    match &held.verdict.end {
-        End::AllAgree => say_agreeing(io, held, None),
-        End::OwnRule => say_agreeing(io, held, Some("rests on an own rule")),
-        End::Unsupported => say_agreeing(io, held, Some("is unsupported")),
-        End::Differs(got) => told(io, reporting, held, got.as_slice(), Status::Refused),
-        End::Ended => {
-            let got = ended_words(reporting, held.verdict);
-            told(io, reporting, held, got, Status::Device)
-        }
-    }
+pub(super) fn report<'b>(io: Io, reporting: &mut Reporting, held: &Held) -> Ended<'b> {
+    let (got, status) = match &held.verdict.end {
+        End::AllAgree => return say_agreeing(io, held, None),
+        End::OwnRule => return say_agreeing(io, held, Some("rests on an own rule")),
+        End::Unsupported => return say_agreeing(io, held, Some("is unsupported")),
+        End::Differs(got) => (got.as_slice(), Status::Refused),
+        End::Ended => (ended_words(reporting, held.verdict), Status::Device),
+    };
+    tell(io, reporting, held, got)?;
+    Ok(status)
 }

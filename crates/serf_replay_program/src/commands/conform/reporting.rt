@@ -14,7 +14,7 @@ pub(super) struct Reporting<'a> {
     path: Option<&'a str>,
     text: Vec<u8>,
     /// The name of the kind whose schedules are held, where these are of more than one kind.
-    pub(super) kind: Option<&'static [u8]>,
+    pub(super) kind: Option<&'static str>,
     /// How many schedules were held to their end.
     pub(super) schedules: u64,
     /// The sums over the agents that were held.
@@ -50,7 +50,7 @@ impl<'a> Reporting<'a> {
         };
         let told = Disagreement {
             seed: held.seed,
-            kind: self.kind,
+            kind: self.kind.map(|kind| kind.as_bytes()),
             agent: held.agent,
             agreed: verdict.calls,
             action: verdict.action,
@@ -87,15 +87,11 @@ impl<'a> Reporting<'a> {
     /// Reports agents and looks that are unsupported, and writes the report, where one is asked for. Gives the status:
     /// this one, that of a disagreement where no call but `open` was compared, or that of a device that failed. Where a hunt
     /// ended at a fault before any disagreement, there is nothing to report.
-    pub(super) fn finish(&mut self, io: Io, status: Status) -> Status {
+    pub(super) fn finish<'b>(&mut self, io: Io, status: Status) -> Ended<'b> {
         if self.has_fault && self.disagreements == 0 {
-            return status;
+            return Ok(status);
         }
-        let status = told_unsupported(io, self.counts, status);
-        match self.save(io, status) {
-            Ok(status) => status,
-            Err(fault) => fault.tell(io, None),
-        }
+        self.save(io, told_unsupported(io, self.counts, status))
     }
 }
 

@@ -8,21 +8,10 @@ use crate::agents::agents_of;
 use crate::fault::{Ended, Fault, Status};
 use crate::io::{Io, Output};
 use serf_agent::Config;
-use serf_conform::{ConformFault, hold};
+use serf_conform::hold;
 use serf_hunt::{Case, case_of, with_verdict};
 use serf_schedule::parse_schedule;
 use std::io::{BufReader, StdinLock};
-
-/// What is said of an agent that ended before it wrote a whole reply.
-pub(super) const SILENT: &str = "the agent ended before its first reply";
-
-/// The status of a fault: a reply that is too long is a disagreement.
-pub(super) fn status_of(fault: ConformFault) -> Status {
-    match fault {
-        ConformFault::ReplyTooLong => Status::Refused,
-        _ => Status::Device,
-    }
-}
 
 /// An agent that is held, what is asked for, and what came of it so far.
 #[derive(Drop)]
@@ -37,59 +26,44 @@ pub(super) struct Session<'a> {
 impl<'a> Session<'a> {
     /// A session of which nothing was read or written yet.
     pub(super) fn new<'b>(io: Io<'a>, asked: Asked<'a>) -> Result<Session<'a>, Fault<'b>> {
-        let Ok(reader) = BufReader::new(io.alloc(), io.rt.reader()) else {
-            return Err(Fault::NoMemory);
-        };
+        let reader = BufReader::new(io.alloc(), io.rt.reader()).map_err(|_| Fault::NoMemory)?;
+        let mut writer = io.output();
+        writer.has_calls = true;
         Ok(Session {
             io,
             asked,
             reporting: Reporting::new(io.alloc(), asked.report),
             reader,
-            writer: io.calls(),
+            writer,
         })
     }
 
-    /// Says a fault behind the name of what was held, which ends all, and gives its status.
-    pub(super) fn tell_fault(&self, name: &str, number: u64, fault: ConformFault) -> Status {
-        let _ = eprintln!(self.io.rt; "{name} {number}: {fault}");
-        status_of(fault)
-    }
-
-    /// Reports a verdict: the status with which it goes on, or that which ends all. An agent that ended ends all, and so
-    /// does one whose calls are made fewer.
-    pub(super) fn conclude(&mut self, held: &Held) -> Result<Status, Status> {
-        let status = report(self.io, &mut self.reporting, held);
+    /// Reports a verdict, and gives the status with which it goes on. An agent that ended ends all, and so does one whose
+    /// calls are made fewer.
+    pub(super) fn conclude<'b>(&mut self, held: &Held) -> Ended<'b> {
+        let status = report(self.io, &mut self.reporting, held)?;
         if is_shrunk(&self.asked, held.verdict) {
-            return Err(self.shrink_found(held));
+            return Err(Fault::Told(self.shrink_found(held)?));
         }
         if status == Status::Device {
-            return Err(status);
+            return Err(Fault::Told(status));
         }
         Ok(status)
     }
 
     /// Holds one agent.
-    fn hold_agent(
+    fn hold_agent<'b>(
         &mut self,
         text: &[u8],
         case: &Case,
         agent: u64,
         config: &Config,
-    ) -> Result<Status, Status> {
-        let outcome = hold(
-            self.io.alloc(),
-            &mut self.reader,
-            &mut self.writer,
-            self.asked.rules,
-            agent,
-            config,
-            case.actions.as_slice(),
-            &case.trace,
-        );
-        let verdict = match outcome {
-            Ok(verdict) => verdict,
-            Err(fault) => return Err(self.tell_fault("agent", agent, fault)),
-        };
+    ) -> Ended<'b> {
+        let (alloc, rules) = (self.io.alloc(), self.asked.rules);
+        let (reader, writer) = (&mut self.reader, &mut self.writer);
+        let (actions, trace) = (case.actions.as_slice(), &case.trace);
+        let outcome = hold(alloc, reader, writer, rules, agent, config, actions, trace);
+        let verdict = outcome.map_err(|fault| Fault::Held("agent", agent, fault))?;
         self.reporting.counts = with_verdict(self.reporting.counts, &verdict);
         self.conclude(&Held {
             seed: None,
@@ -100,13 +74,8 @@ impl<'a> Session<'a> {
         })
     }
 
-    /// Holds this agent, or all of them: the greatest of their statuses, or that which ends all.
-    fn hold_agents(
-        &mut self,
-        text: &[u8],
-        case: &Case,
-        only: Option<u64>,
-    ) -> Result<Status, Status> {
+    /// Holds this agent, or all of them: the greatest of their statuses.
+    fn hold_agents<'b>(&mut self, text: &[u8], case: &Case, only: Option<u64>) -> Ended<'b> {
         let mut status = Status::Done;
         let mut agent: u64 = 0;
         for config in &case.configs {
@@ -119,9 +88,12 @@ impl<'a> Session<'a> {
         Ok(status)
     }
 
-    /// Reports what came of all agents, with this status or that which ended it, and gives the last status.
-    pub(super) fn finish(&mut self, ended: Result<Status, Status>) -> Status {
-        let status = ended.unwrap_or_else(|status| status);
+    /// Reports what came of all agents, with this status or that of the fault that ended it, and gives the last status.
+    pub(super) fn finish<'b>(&mut self, ended: Ended) -> Ended<'b> {
+        let status = match ended {
+            Ok(status) => status,
+            Err(fault) => fault.tell(self.io, None),
+        };
         self.reporting.finish(self.io, status)
     }
 }
@@ -142,5 +114,5 @@ pub(super) fn hold_file<'a>(io: Io, path: &'a str, asked: Asked<'a>) -> Ended<'a
     let mut session = Session::new(io, asked)?;
     session.reporting.schedules = 1;
     let ended = session.hold_agents(&text, &case, only);
-    Ok(session.finish(ended))
+    session.finish(ended)
 }

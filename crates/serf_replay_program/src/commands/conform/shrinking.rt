@@ -2,9 +2,9 @@
 
 use super::Asked;
 use super::report::Held;
-use super::session::{Session, status_of};
+use super::session::Session;
 use crate::fault::{Ended, Fault, Status};
-use crate::progress::Progress;
+use crate::progress::{CALLS, Progress};
 use serf_agent::Config;
 use serf_conform::{ConformFault, End, Verdict};
 use serf_hunt::{Shrunk, alone_schedule, calls_of, shrink};
@@ -25,9 +25,7 @@ fn failing_calls(verdict: &Verdict) -> usize {
 
 /// The text of the schedule of what is left.
 fn text_of_left(alloc: Global, config: &Config, shrunk: &Shrunk) -> Result<Vec<u8>, AllocError> {
-    let Ok(schedule) = alone_schedule(alloc, config, &shrunk.calls) else {
-        return Err(AllocError);
-    };
+    let schedule = alone_schedule(alloc, config, &shrunk.calls).map_err(|_| AllocError)?;
     let mut text = Vec::new(alloc);
     put_schedule(&mut text, &schedule)?;
     Ok(text)
@@ -41,7 +39,7 @@ impl Session<'_> {
         config: &Config,
     ) -> Result<(usize, Option<Shrunk>), ConformFault> {
         let alloc = self.io.alloc();
-        let mut progress = Progress::of_calls(self.io);
+        let mut progress = Progress::of(self.io, CALLS);
         let mut calls = calls_of(alloc, held.case, held.agent)?;
         calls.truncate(failing_calls(held.verdict));
         let count = calls.len();
@@ -69,25 +67,19 @@ impl Session<'_> {
         Ok(Status::Refused)
     }
 
-    /// Makes the calls fewer at which an agent fails, and gives the status: as without this, or that of a device that
-    /// fails. Where the calls by themselves don't fail, that is reported.
-    pub(super) fn shrink_found(&mut self, held: &Held) -> Status {
+    /// Makes the calls fewer at which an agent fails, and gives the status as without this. Where the calls by themselves
+    /// don't fail, that is reported.
+    pub(super) fn shrink_found<'b>(&mut self, held: &Held) -> Ended<'b> {
         let Some(config) = held.case.configs.get(held.agent as usize) else {
-            return Status::Refused;
+            return Ok(Status::Refused);
         };
         match self.shrunk_calls(held, config) {
-            Ok((count, Some(shrunk))) => match self.tell_shrunk(config, count, &shrunk) {
-                Ok(status) => status,
-                Err(fault) => fault.tell(self.io, None),
-            },
+            Ok((count, Some(shrunk))) => self.tell_shrunk(config, count, &shrunk),
             Ok((count, None)) => {
                 let _ = eprintln!(self.io.rt; "the {count} calls don't fail by themselves");
-                Status::Refused
+                Ok(Status::Refused)
             }
-            Err(fault) => {
-                let _ = eprintln!(self.io.rt; "no shorter schedule: {fault}");
-                status_of(fault)
-            }
+            Err(fault) => Err(Fault::NotShrunk(fault)),
         }
     }
 }

@@ -1,9 +1,9 @@
 //! The text of the verdicts on a log, and where a line of it stands.
 
-use crate::parts::Part::{Bytes, Dated, Line, LogLine, Number, Quoted, Word};
+use crate::parts::Part::{Bytes, Line, Number, Quoted, Word};
 use crate::parts::{Part, put};
 use serf_judge::{
-    BadLine, DatedLine, EventEntry, LaterFault, Log, NodeTally, QueryEntry, Tally,
+    BadLine, DatedLine, EventEntry, Handed, HandedOut, Key, Log, NodeTally, QueryEntry, Tally,
     first_event_twice, first_not_later, first_query_twice, first_unfired, log_nodes, missed_events,
     receivers, tally_repeats,
 };
@@ -74,25 +74,13 @@ impl<'a> Verdicts<'a> {
     /// before it.
     pub(super) fn line(&self, line: u64) -> Part<'a> {
         let date = self.date(line);
-        let mut part = Line(line, date);
-        if self.logs.len() < 2 {
-            return part;
-        }
+        let mut part = Line("line", " ", line, date);
         for log in &self.logs {
-            if log.before < line {
-                part = LogLine(log.name, line.saturating_sub(log.before), date);
+            if self.logs.len() > 1 && log.before < line {
+                part = Line(log.name, ":", line.saturating_sub(log.before), date);
             }
         }
         part
-    }
-
-    /// How many lines come before each log but the first.
-    fn starts(&self, alloc: Global) -> Result<Vec<u64>, AllocError> {
-        let mut starts = Vec::new(alloc);
-        for log in self.logs.iter().skip(1) {
-            starts.push(log.before)?;
-        }
-        Ok(starts)
     }
 
     /// Appends a text with parts in its places.
@@ -116,14 +104,13 @@ impl<'a> Verdicts<'a> {
     }
 
     /// Appends an event's time and texts, and ends the line.
-    fn put_event(&mut self, event: &EventEntry) -> Result<(), AllocError> {
-        let name = Quoted(event.name.as_slice());
-        let payload = Quoted(event.payload.as_slice());
+    fn put_event(&mut self, event: &Key) -> Result<(), AllocError> {
+        let (name, payload) = (Quoted(event.name), Quoted(event.payload));
         self.put(" ~ ~ ~\n", &[Number(event.time), name, payload])
     }
 }
 
-impl Verdicts<'_> {
+impl<'a> Verdicts<'a> {
     /// Appends how many events and queries were handed out in a log, and how many nodes it names.
     fn put_counts(&mut self, alloc: Global, log: &Log) -> Result<(), AllocError> {
         let nodes = Number(log_nodes(alloc, log)?.len() as u64);
@@ -153,108 +140,104 @@ impl Verdicts<'_> {
         self.put("bad: and ~ more\n", &[Number(more)])
     }
 
-    /// Appends which line repeats which, and the node.
-    fn put_repeat(
+    /// Says whether a thing of this kind was handed to a node twice, as the places of the first two such lines tell: then it
+    /// gives what it was, and the line is to be ended.
+    fn put_once<'b, E: HandedOut>(
         &mut self,
         promise: &str,
-        later: u64,
-        earlier: u64,
-        node: &[u8],
-    ) -> Result<(), AllocError> {
-        let (later, earlier) = (self.line(later), self.line(earlier));
-        let parts = [Word(promise), later, earlier, Bytes(node)];
-        self.put_broken("~: ~ repeats ~: ~", &parts)
+        kind: &str,
+        entries: &'b [E],
+        twice: Option<(usize, usize)>,
+    ) -> Result<Option<Key<'b>>, AllocError> {
+        if entries.is_empty() {
+            self.put_not_asked(promise, kind)?;
+            return Ok(None);
+        }
+        if let Some((earlier, later)) = twice
+            && let Some(first) = entries.get(earlier)
+            && let Some(second) = entries.get(later)
+        {
+            let (first, Handed { line, key }) = (first.handed(), second.handed());
+            let (later, earlier) = (self.line(line), self.line(first.line));
+            let parts = [Word(promise), later, earlier, Bytes(key.node)];
+            self.put_broken("~: ~ repeats ~: ~", &parts)?;
+            return Ok(Some(key));
+        }
+        self.put_holds(promise)?;
+        Ok(None)
     }
 
     /// Appends how often and when a node was handed a thing of this name again.
     fn put_tally<'b>(&mut self, name: &'b str, told: &NodeTally<'b>) -> Result<(), AllocError> {
-        let (node, count) = (Bytes(told.node), Number(told.tally.count));
-        self.put("~ was handed ~ again on ~ ", &[node, Word(name), count])?;
-        self.put_times(&told.tally)?;
-        self.put_span(&told.tally)
-    }
-
-    /// Appends the times of lines that repeat.
-    fn put_times(&mut self, tally: &Tally) -> Result<(), AllocError> {
+        let tally = told.tally;
+        let parts = [Bytes(told.node), Word(name), Number(tally.count)];
+        self.put("~ was handed ~ again on ~ ", &parts)?;
+        let (first, last) = self.span(&tally);
         let (least, greatest) = (Number(tally.least_time), Number(tally.greatest_time));
         if tally.count == 1 {
-            return self.put("line: time ~, ", &[least]);
+            return self.put("line: time ~, ~\n", &[least, first]);
         }
-        self.put("lines: times ~ to ~, ", &[least, greatest])
+        self.put(
+            "lines: times ~ to ~, ~ to ~\n",
+            &[least, greatest, first, last],
+        )
     }
 
-    /// Appends the first and the last of lines that repeat, and ends the line.
-    fn put_span(&mut self, tally: &Tally) -> Result<(), AllocError> {
-        let first = self.line(tally.first_line);
-        if tally.count == 1 {
-            return self.put("~\n", &[first]);
+    /// The first and the last of lines that repeat.
+    fn span(&self, tally: &Tally) -> (Part<'a>, Part<'a>) {
+        let (first, last) = (tally.first_line, tally.last_line);
+        if tally.count == 1 || self.logs.len() > 1 {
+            return (self.line(first), self.line(last));
         }
-        if let Line(first, date) = first {
-            let last = Dated(tally.last_line, self.date(tally.last_line));
-            return self.put("lines ~ to ~\n", &[Dated(first, date), last]);
-        }
-        let last = self.line(tally.last_line);
-        self.put("~ to ~\n", &[first, last])
+        let first = Line("lines", " ", first, self.date(first));
+        (first, Line("", "", last, self.date(last)))
     }
 
-    /// Appends these tallies, and that the other nodes, of so many, were handed each thing of this name once.
-    fn put_tallies(
+    /// Appends of each node how often it was handed a thing of this kind again, and that the others were handed each once.
+    fn put_tallies<E: HandedOut>(
         &mut self,
-        a_name: &str,
+        alloc: Global,
         name: &str,
-        tallies: &[NodeTally],
-        nodes: usize,
+        kind: &str,
+        entries: &[E],
     ) -> Result<(), AllocError> {
-        for told in tallies {
-            self.put_tally(a_name, told)?;
+        let tallies = tally_repeats(alloc, entries)?;
+        for told in &tallies {
+            self.put_tally(name, told)?;
         }
-        let others = nodes.saturating_sub(tallies.len());
+        let others = receivers(alloc, entries)?
+            .len()
+            .saturating_sub(tallies.len());
         let text = match others {
             0 => "",
             1 => "~ other node was handed each ~ once\n",
             _ => "~ other nodes were handed each ~ once\n",
         };
-        self.put(text, &[Number(others as u64), Word(name)])
+        self.put(text, &[Number(others as u64), Word(kind)])
     }
 
     /// Whether an event was handed to a node twice.
     fn judge_events(&mut self, alloc: Global, events: &[EventEntry]) -> Result<(), AllocError> {
-        if events.is_empty() {
-            return self.put_not_asked("Once", "event");
-        }
-        if let Some((earlier, later)) = first_event_twice(alloc, events)?
-            && let Some(first) = events.get(earlier)
-            && let Some(second) = events.get(later)
-        {
-            self.put_repeat("Once", second.line, first.line, second.node.as_slice())?;
-            self.put_event(second)?;
-            let tallies = tally_repeats(alloc, events)?;
-            let nodes = receivers(alloc, events)?.len();
-            return self.put_tallies("an event", "event", tallies.as_slice(), nodes);
-        }
-        self.put_holds("Once")
+        let twice = first_event_twice(alloc, events)?;
+        let Some(event) = self.put_once("Once", "event", events, twice)? else {
+            return Ok(());
+        };
+        self.put_event(&event)?;
+        self.put_tallies(alloc, "an event", "event", events)
     }
 
     /// Whether a query was handed to a node twice.
     fn judge_queries(&mut self, alloc: Global, queries: &[QueryEntry]) -> Result<(), AllocError> {
-        if queries.is_empty() {
-            return self.put_not_asked("QueryOnce", "query");
-        }
-        if let Some((earlier, later)) = first_query_twice(alloc, queries)?
-            && let Some(first) = queries.get(earlier)
-            && let Some(second) = queries.get(later)
-        {
-            self.put_repeat("QueryOnce", second.line, first.line, second.node.as_slice())?;
-            let id = match second.id {
-                Some(id) => Number(id),
-                None => Word("-"),
-            };
-            self.put(" ~ ~\n", &[Number(second.time), id])?;
-            let tallies = tally_repeats(alloc, queries)?;
-            let nodes = receivers(alloc, queries)?.len();
-            return self.put_tallies("a query", "query", tallies.as_slice(), nodes);
-        }
-        self.put_holds("QueryOnce")
+        let twice = first_query_twice(alloc, queries)?;
+        let Some(query) = self.put_once("QueryOnce", "query", queries, twice)? else {
+            return Ok(());
+        };
+        let id = match query.id {
+            Some(id) => Number(id),
+            None => Word("-"),
+        };
+        self.put(" ~ ~\n", &[Number(query.time), id])?;
+        self.put_tallies(alloc, "a query", "query", queries)
     }
 
     /// Whether each event was fired on a line above, or in another log, where the logs have firings.
@@ -267,13 +250,14 @@ impl Verdicts<'_> {
         if let Some(lines) = lacks(fired, events) {
             return self.put_not_asked("Fired", lines);
         }
-        let starts = self.starts(alloc)?;
+        let later = self.logs.iter().skip(1);
+        let starts = later.map(|log| log.before).collect::<Vec<u64>>(alloc)?;
         if let Some(place) = first_unfired(alloc, &starts, fired, events)?
             && let Some(event) = events.get(place)
         {
             let parts = [self.line(event.line), Bytes(event.node.as_slice())];
             self.put_broken("Fired: ~ hands out what no line above it fired: ~", &parts)?;
-            return self.put_event(event);
+            return self.put_event(&event.handed().key);
         }
         self.put_holds("Fired")
     }
@@ -285,7 +269,7 @@ impl Verdicts<'_> {
         let parts = [place, time, earlier, handed];
         self.put_broken("Later: ~ fires at ~, and ~ was handed out at ~: ", &parts)?;
         self.put("~", &[Bytes(firing.node.as_slice())])?;
-        self.put_event(firing)
+        self.put_event(&firing.handed().key)
     }
 
     /// Whether each node fired only later than what it was handed on lines above, where the log has firings.
@@ -298,11 +282,8 @@ impl Verdicts<'_> {
         if let Some(lines) = lacks(fired, events) {
             return self.put_not_asked("Later", lines);
         }
-        let found = match first_not_later(alloc, fired, events) {
-            Ok(found) => found,
-            // A log's entries stand in the order of their lines.
-            Err(LaterFault::OutOfOrder | LaterFault::OutOfMemory) => return Err(AllocError),
-        };
+        // A log's entries stand in the order of their lines, so that only memory may run out.
+        let found = first_not_later(alloc, fired, events).map_err(|_| AllocError)?;
         if let Some((place, earlier)) = found
             && let Some(firing) = fired.get(place)
             && let Some(event) = events.get(earlier)
