@@ -10,7 +10,7 @@ use Rattle.serf_snap.specs.Clocks.{clock_line}
 use Rattle.serf_snap.specs.declared.kind.ClockKind.{ClockKind}
 use Rattle.serf_snap.specs.Device.{Device, Observable, appended, flushed}
 use Rattle.serf_snap.specs.KeptNotes.{kept_bytes}
-use Rattle.serf_snap.specs.Notes.{Failed, Kept, MayWrite, SnapshotView, Writing, last_line}
+use Rattle.serf_snap.specs.Notes.{Failed, Kept, MayWrite, SnapshotView, Writing, last_line, written}
 use Rattle.serf_window.specs.Texts.{event_of}
 use Rattle.serf_agent.specs.declared.open_query.OpenQuery.{OpenQuery}
 use Rattle.serf_agent.specs.declared.outcome.FireFault.{FireFault}
@@ -126,7 +126,7 @@ calm-kept i (Replaces lines step fault) w calm plain may = absurd plain
 noted-calm : (kind : ClockKind) (t : ℕ) (line : Option (List ℕ)) (s : SnapshotView) → s.plan ≡ Some no_failure → (noted_with kind t line s Kept).plan ≡ Some no_failure
 noted-calm kind t None s calm = by (nat_le t (last_line kind s))
   where
-    by : (b : Bool) → (cond b s (Rattle.serf_snap.specs.Notes.written kind t s Kept)).plan ≡ Some no_failure
+    by : (b : Bool) → (cond b s (written kind t s Kept)).plan ≡ Some no_failure
     by true = calm
     by false = rw calm
 noted-calm kind t (Some line) s calm = rw calm
@@ -135,6 +135,17 @@ pub calm-after : {R : Type 0} (i : IdealAgent) (call : Call R) → i.snapshot.pl
 calm-after i (Ends step) calm plain = ap (λ (s : SnapshotView). s.plan) plain ∙ calm
 calm-after i (Notes kind t line step fault) calm plain = noted-calm kind t line i.snapshot calm
 calm-after i (Replaces lines step fault) calm plain = absurd plain
+
+-- and the agent isn't stopped
+runs-cond : (b : Bool) (x y : SnapshotView) → x.stopped ≡ false → y.stopped ≡ false → (cond b x y).stopped ≡ false
+runs-cond true x y p q = p
+runs-cond false x y p q = q
+
+pub runs-after : {R : Type 0} (i : IdealAgent) (call : Call R) → IsPlain i call → i.snapshot.stopped ≡ false → (ended i call Kept).agent.snapshot.stopped ≡ false
+runs-after i (Ends step) plain runs = ap (λ (s : SnapshotView). s.stopped) plain ∙ runs
+runs-after i (Notes kind t None step fault) plain runs = runs-cond (nat_le t (last_line kind i.snapshot)) i.snapshot (written kind t i.snapshot Kept) runs runs
+runs-after i (Notes kind t (Some line) step fault) plain runs = runs
+runs-after i (Replaces lines step fault) plain runs = absurd plain
 
 -- what a call leaves of an agent and its device, where the line is durable
 abbrev pub Leaves : {R : Type 0} → IdealAgent → Call R → R → Device → AgentState → Writing → Type 0

@@ -1,17 +1,37 @@
--- What was handed out once, read in another order or in part, was handed out once.
-use Rattle.std.proofs.Common.{◌≡◌, ◌≢◌, ◌<◌, ◌++◌, ◌∷◌, [], ◌∙◌, ap, append_assoc, append-nil, arith, List, ℕ, suc, sym}
-use Rattle.std.proofs.lemmas.List.Elements.{All-append, All-cons, All-head, All-nil, All-tail}
+-- What was handed out once, read in another order or in part, was handed out once; what was met stays met; and what comes
+-- to an agent enters, where it is admitted.
+use Rattle.std.proofs.Common.{cond, ◌≡◌, ◌≢◌, ◌⊎◌, ◌&&◌, ◌==◌, inl, inr, Bool, true, false, refl, subst, ◌+◌, ◌<◌, ◌++◌, ◌∷◌, [], ◌∙◌, ap, append_assoc, append-nil, arith, List, ℕ, suc, sym, ◌≤◌, map, None, Option, Result, Ok, Err, Some}
+use Rattle.std.proofs.lemmas.Bool.{and_from, and_parts, eq-eqb, eqb-true, true≢false}
+use Rattle.std.proofs.lemmas.Slice.Eq.{bytes_eq-Decides}
+use Rattle.std.proofs.lemmas.List.Elements.{All-append, All-cons, All-contains, All-head, All-nil, All-tail, All-weaker, Contains-append_left, Contains-append_right}
 use Rattle.std.proofs.lemmas.List.Kept.{AllPairs-cons}
-use Rattle.std.specs.Prelude.{All, AllPairs, map}
+use Rattle.std.specs.Prelude.{All, AllPairs, Contains, map, max}
 use Rattle.serf_wire.specs.declared.texts.EventBody.{EventBody}
+use Rattle.serf_window.specs.Texts.{same_texts, event_of}
 use Rattle.serf_window.specs.Window.{TimedEntry}
 use Rattle.serf_agent.specs.declared.outcome.EventOut.{EventOut}
+use Rattle.serf_agent.specs.declared.config.Config.{Config}
 use Rattle.serf_agent.specs.Ideal.{IdealAgent, Past}
+use Rattle.serf_agent.specs.Kept.{HasMet, IsFull, IsMet}
+use Rattle.serf_agent.specs.Taking.{TakesOrFull}
+use Rattle.serf_agent.specs.TrackOf.{TrackOf, BringsQuery, got_query}
 use Rattle.serf_agent.specs.Lives.{Act, event_entry, events_out, queries_out, query_entries}
 use Rattle.serf_agent.specs.Once.{IsOnce}
 use Rattle.serf_agent_c.specs.declared.gave.Gave.{Gave}
 use Rattle.serf_agent_c.specs.Gaves.{events_in, handed_in}
 use Rattle.serf_agent_c.specs.Reads.{GivesNothing}
+use Rattle.serf_lamport.specs.Clock.{observed}
+use Rattle.serf_wire.specs.declared.fault.WireFault.{WireFault}
+use Rattle.serf_wire.specs.Message.{Message, PushPull, Query as WireQuery, user_event, query, query_response, push_pull, foreign}
+use Rattle.serf_snap.specs.Notes.{Kept}
+use Rattle.serf_agent.specs.declared.outcome.Reason.{Reason}
+use Rattle.serf_agent.specs.Calls.{ended}
+use Rattle.serf_agent.specs.Events.{admission, received_as}
+use Rattle.serf_agent.specs.Queries.{query_admission, query_received_as}
+use Rattle.serf_agent.specs.Receive.{receive_read}
+use Rattle.serf_agent.specs.States.{handed_by, events_of, heard_by}
+use Rattle.serf_agent_c.specs.Hosts.{BringsEvent, HoldsEvent}
+use Rattle.std.specs.List.{fold}
 
 pub pairs-head : {A : Type 0} (R : A → A → Type 0) (x : A) (xs : List A) → AllPairs R (x ∷ xs) → All (R x) xs
 pairs-head R x xs h = λ k d within. h 0 (suc k) d (omega arith) (omega arith)
@@ -148,3 +168,145 @@ knows-front i a b k = (once-front i.events.history a.events b.events k.0, once-f
 
 pub knows-nothing : (i : IdealAgent) → Knows i nothing
 knows-nothing i = (nothing-once i.events.history, nothing-once i.queries.history)
+
+-- ---- what was met
+
+-- all that was met is met
+abbrev pub Wider : {K : Type 0} → List (TimedEntry K) → List (TimedEntry K) → List (TimedEntry K) → List (TimedEntry K) → Type 0
+Wider {K} handed stood handed_more stood_more = (e : TimedEntry K) → IsMet handed stood e → IsMet handed_more stood_more e
+
+has-met-wider : {K : Type 0} (k t : ℕ) (handed stood handed_more stood_more : List (TimedEntry K)) → Wider handed stood handed_more stood_more → HasMet k t handed stood → HasMet k t handed_more stood_more
+has-met-wider {K} k t handed stood handed_more stood_more wider h = record {
+  entries = h.entries;
+  many = h.many;
+  distinct = h.distinct;
+  met = All-weaker (λ (e : TimedEntry K). (e.time ≡ t) × IsMet handed stood e) (λ (e : TimedEntry K). (e.time ≡ t) × IsMet handed_more stood_more e) (λ e m. (m.0, wider e m.1)) h.entries h.met;
+}
+
+pub full-wider : {K : Type 0} (k t : ℕ) (handed stood handed_more stood_more : List (TimedEntry K)) → Wider handed stood handed_more stood_more → IsFull k t handed stood → IsFull k t handed_more stood_more
+full-wider k t handed stood handed_more stood_more wider (inl h) = inl (has-met-wider k t handed stood handed_more stood_more wider h)
+full-wider k t handed stood handed_more stood_more wider (inr h) = inr (h.0, h.1, has-met-wider (k + 1) h.0 handed stood handed_more stood_more wider h.2)
+
+pub goes-wider : {K : Type 0} (which : TrackOf K) (t : ℕ) (config : Config) (handed stood handed_more stood_more : List (TimedEntry K)) (i : IdealAgent) → Wider handed stood handed_more stood_more → TakesOrFull which t config handed stood i → TakesOrFull which t config handed_more stood_more i
+goes-wider {K} which t config handed stood handed_more stood_more i wider (inl s) = inl (record {
+  settings = s.settings;
+  opens = record {
+    last = s.opens.last;
+    known = All-weaker (λ (p : Past K). IsMet handed stood p.entry) (λ (p : Past K). IsMet handed_more stood_more p.entry) (λ p m. wider p.entry m) (which.track i).history s.opens.known;
+    minimum = s.opens.minimum;
+    least = s.opens.least;
+  };
+})
+goes-wider which t config handed stood handed_more stood_more i wider (inr full) = inr (full-wider config.per_time t handed stood handed_more stood_more wider full)
+
+-- of one list of all that was met
+pub adds : {K : Type 0} (xs ys : List (TimedEntry K)) → Wider xs [] (xs ++ ys) []
+adds xs ys e (inl there) = inl (Contains-append_left xs ys e there)
+adds xs ys e (inr there) = inr there
+
+pub joins : {K : Type 0} (xs ys : List (TimedEntry K)) → Wider xs ys (xs ++ ys) []
+joins xs ys e (inl there) = inl (Contains-append_left xs ys e there)
+joins xs ys e (inr there) = inl (Contains-append_right xs ys e there)
+
+pub only-in : {K : Type 0} (x e : TimedEntry K) → Contains (x ∷ []) e → e ≡ x
+only-in {K} x e there = All-contains (λ (y : TimedEntry K). y ≡ x) (x ∷ []) e (All-cons (λ (y : TimedEntry K). y ≡ x) x [] refl (All-nil (λ (y : TimedEntry K). y ≡ x))) there
+
+-- whether two events are one
+pub same_entry : (x e : TimedEntry EventBody) → (x ≡ e) ⊎ (x ≢ e)
+same_entry x e = by ((x.time == e.time) && same_texts x.key e.key) refl
+  where
+    itself : same_texts x.key x.key ≡ true
+    itself = and_from _ _ ((bytes_eq-Decides x.key.name x.key.name).1 refl) ((bytes_eq-Decides x.key.payload x.key.payload).1 refl)
+
+    equal : x ≡ e → ((x.time == e.time) && same_texts x.key e.key) ≡ true
+    equal same = subst (λ (y : TimedEntry EventBody). ((x.time == y.time) && same_texts x.key y.key) ≡ true) same (and_from _ _ (eq-eqb x.time x.time refl) itself)
+
+    by : (b : Bool) → ((x.time == e.time) && same_texts x.key e.key) ≡ b → (x ≡ e) ⊎ (x ≢ e)
+    by true is =
+        let parts = and_parts _ _ is in
+        let texts = and_parts _ _ parts.1 in
+        let time : x.time ≡ e.time = eqb-true _ _ parts.0 in
+        let name : x.key.name ≡ e.key.name = (bytes_eq-Decides x.key.name e.key.name).0 texts.0 in
+        let payload : x.key.payload ≡ e.key.payload = (bytes_eq-Decides x.key.payload e.key.payload).0 texts.1 in
+        inl (λ k. record { time = time k; key = record { name = name k; payload = payload k } })
+    by false is = inr (λ same. true≢false (sym (equal same) ∙ is))
+
+-- a call that is made
+pub made-now : {A : Type 0} (b : Bool) (xs : List A) → b ≡ true → xs ≡ cond b xs []
+made-now true xs is = refl
+made-now false xs is = absurd (cc is)
+
+pub none-there : {K : Type 0} (e : TimedEntry K) → Contains [] e → ⊥
+none-there e there = absurd (let lt = there.1 in omega arith)
+
+pub unmet : {K : Type 0} (met : List (TimedEntry K)) (e : TimedEntry K) → (Contains met e → ⊥) → IsMet met [] e → ⊥
+unmet met e new (inl there) = new there
+unmet met e new (inr there) = none-there e there
+
+-- ---- what comes to an agent
+
+-- what is admitted enters: an event, and a query
+pub event-in : (i : IdealAgent) (t : ℕ) (what : EventBody) (flag : Bool) (r : Option Reason) → r ≡ None → map event_entry (handed_by (ended i (received_as r i t what flag) Kept).answer) ≡ record { time = t; key = what } ∷ []
+event-in i t what flag (Some reason) none = absurd (cc none)
+event-in i t what flag None none = refl
+
+pub event-read : (tags : Bool) (i : IdealAgent) (now : ℕ) (e : TimedEntry EventBody) (r : Result Message WireFault) → BringsEvent e r → admission i e.time e.key ≡ None → map event_entry (handed_by (ended i (receive_read tags i now r) Kept).answer) ≡ e ∷ []
+event-read tags i now e (Ok (user_event m)) brings new =
+    let same : (record { time = m.time; key = event_of m.name m.payload }) ≡ e = (λ k. record { time = brings.0 k; key = brings.1 k }) in
+    let none : admission i m.time (event_of m.name m.payload) ≡ None = subst (λ (x : TimedEntry EventBody). admission i x.time x.key ≡ None) (sym same) new in
+    subst (λ (x : TimedEntry EventBody). map event_entry (handed_by (ended i (receive_read tags i now (Ok (user_event m))) Kept).answer) ≡ x ∷ []) same (event-in i m.time (event_of m.name m.payload) m.coalesce (admission i m.time (event_of m.name m.payload)) none)
+event-read tags i now e (Ok (query q)) none new = absurd none
+event-read tags i now e (Ok (query_response r)) none new = absurd none
+event-read tags i now e (Ok (push_pull m)) none new = absurd none
+event-read tags i now e (Ok (foreign k)) none new = absurd none
+event-read tags i now e (Err fault) none new = absurd none
+
+pub query-in : (tags : Bool) (i : IdealAgent) (now : ℕ) (q : WireQuery) (r : Option Reason) → r ≡ None → got_query (Ok (query q)) (ended i (query_received_as tags r i now q) Kept).answer ≡ record { time = q.time; key = q.id } ∷ []
+query-in tags i now q (Some reason) none = absurd (cc none)
+query-in tags i now q None none = refl
+
+pub query-read : (tags : Bool) (i : IdealAgent) (now : ℕ) (e : TimedEntry ℕ) (r : Result Message WireFault) → BringsQuery e r → query_admission i e.time e.key ≡ None → got_query r (ended i (receive_read tags i now r) Kept).answer ≡ e ∷ []
+query-read tags i now e (Ok (query q)) brings new =
+    let same : (record { time = q.time; key = q.id }) ≡ e = (λ k. record { time = brings.0 k; key = brings.1 k }) in
+    let none : query_admission i q.time q.id ≡ None = subst (λ (x : TimedEntry ℕ). query_admission i x.time x.key ≡ None) (sym same) new in
+    subst (λ (x : TimedEntry ℕ). got_query (Ok (query q)) (ended i (receive_read tags i now (Ok (query q))) Kept).answer ≡ x ∷ []) same (query-in tags i now q (query_admission i q.time q.id) none)
+query-read tags i now e (Ok (user_event m)) none new = absurd none
+query-read tags i now e (Ok (query_response r)) none new = absurd none
+query-read tags i now e (Ok (push_pull m)) none new = absurd none
+query-read tags i now e (Ok (foreign k)) none new = absurd none
+query-read tags i now e (Err fault) none new = absurd none
+
+-- a clock that observes times
+abbrev pub rising : ℕ → List (TimedEntry EventBody) → ℕ
+rising clock es = fold (λ c e. observed c e.time) clock es
+
+pub rising-up : (clock : ℕ) (es : List (TimedEntry EventBody)) → clock ≤ rising clock es
+rising-up clock [] = omega arith
+rising-up clock (e ∷ es) = let more = rising-up (observed clock e.time) es in omega (arith, more)
+
+pub received-low : (i : IdealAgent) (t clock : ℕ) (what : EventBody) (r : Option Reason) → i.events.clock ≤ clock → (ended i (received_as r i t what false) Kept).agent.events.clock ≤ observed clock t
+received-low i t clock what (Some reason) low = omega (arith, low)
+received-low i t clock what None low = omega (arith, low)
+
+pub heard-low : (i : IdealAgent) (m : PushPull) (join : Bool) (line : Option (List ℕ)) (clock : ℕ) → i.events.clock ≤ clock → (ended i (heard_by line i m join) Kept).agent.events.clock ≤ max clock m.event_clock
+heard-low i m join None clock low = omega (arith, low)
+heard-low i m join (Some line) clock low = omega (arith, low)
+
+-- what an event that is received hands out is that event
+pub received-outs : (i : IdealAgent) (x : TimedEntry EventBody) (r : Option Reason) → All (λ y. y ≡ x) (map event_entry (handed_by (ended i (received_as r i x.time x.key false) Kept).answer))
+received-outs i x (Some reason) = All-nil (λ (y : TimedEntry EventBody). y ≡ x)
+received-outs i x None = All-cons (λ (y : TimedEntry EventBody). y ≡ x) x [] refl (All-nil (λ (y : TimedEntry EventBody). y ≡ x))
+
+-- the state of a packet that holds an event
+pub record HeldIn (e : TimedEntry EventBody) (r : Result Message WireFault) : Type 0 where
+  pub state : PushPull
+  pub is : r ≡ Ok (push_pull state)
+  pub there : Contains (events_of state.slots) e
+
+pub held-in : (e : TimedEntry EventBody) (r : Result Message WireFault) → HoldsEvent e r → HeldIn e r
+held-in e (Ok (push_pull m)) there = record { state = m; is = refl; there = there }
+held-in e (Ok (user_event u)) wrong = absurd wrong
+held-in e (Ok (query q)) wrong = absurd wrong
+held-in e (Ok (query_response q)) wrong = absurd wrong
+held-in e (Ok (foreign k)) wrong = absurd wrong
+held-in e (Err f) wrong = absurd wrong

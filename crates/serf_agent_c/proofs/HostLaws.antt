@@ -1,5 +1,5 @@
 -- What an export leaves of a host's session and file, and of the ideal agent that the session has.
-use Rattle.std.proofs.Common.{◌≡◌, ◌≢◌, ◌⊎◌, inl, inr, ℕ, ◌==◌, ◌&&◌, ◌++◌, ◌-◌, ◌∷◌, [], ◌∙◌, ap, append_assoc, append-nil, arith, Bool, cond, drop, false, length, List, min, nat_le, None, not, Option, Result, Ok, Err, refl, Some, subst, sym, true}
+use Rattle.std.proofs.Common.{◌+◌, ◌<◌, ◌^◌, ◌≡◌, ◌≢◌, ◌⊎◌, inl, inr, ℕ, ◌==◌, ◌&&◌, ◌++◌, ◌-◌, ◌∷◌, [], ◌∙◌, ap, append_assoc, append-nil, arith, Bool, cond, drop, false, length, List, min, nat_le, None, not, Option, Result, Ok, Err, refl, Some, subst, sym, true}
 use Rattle.std.proofs.lemmas.Bool.{eqb-true}
 use Rattle.std.proofs.lemmas.List.{drop-append-le, drop_min}
 use Rattle.std.specs.Option.{option_map}
@@ -18,7 +18,7 @@ use Rattle.serf_snap.specs.declared.snapshot.NoteFault.TheVariants as notes
 use Rattle.serf_window.specs.Texts.{event_of}
 use Rattle.serf_agent.specs.Calls.{Call, Ends, Notes, Replaces, MayEnd, answers, ended}
 use Rattle.serf_agent.specs.Events.{fire}
-use Rattle.serf_agent.specs.Lives.{Opens, after as ideal_after}
+use Rattle.serf_agent.specs.Lives.{Closes, Opens, after as ideal_after}
 use Rattle.serf_agent.specs.Queries.{fire_query}
 use Rattle.serf_agent.specs.Receive.{receive_tagged}
 use Rattle.serf_agent.specs.Restart.{HasPast}
@@ -41,10 +41,11 @@ use Rattle.serf_agent_c.specs.declared.answered.Answered.{Answered}
 use Rattle.serf_agent_c.specs.Bursts.{BurstCall, Extends, IsFlushed, Leaves, Outcome, Stands, line_of, no_failure, outcome, outcome_of}
 use Rattle.serf_snap.specs.Device.{FailurePlan, replace_decremented, replaced}
 use Rattle.serf_snap.specs.Notes.{MayReplaceBy}
-use Rattle.serf_agent.specs.States.{compact, told_lines}
+use Rattle.serf_agent.specs.MemberClock.{clock_state}
+use Rattle.serf_agent.specs.States.{compact, joined, told_lines}
 use Rattle.serf_agent.specs.Told.{text_with}
 use Rattle.serf_agent_c.specs.Calls.{answer_code}
-use Rattle.serf_agent_c.specs.Hosts.{Called, Compact, Says, text_at}
+use Rattle.serf_agent_c.specs.Hosts.{Called, CloseDue, Compact, Observe, Says, text_at}
 use Rattle.serf_agent_c.specs.HostLaws.{CodesDiffer, Follows, HostSteps, Went, waits, rests, goes}
 use Rattle.serf_agent_c.specs.Sessions.{Appends, is_ready}
 use Rattle.serf_agent_c.specs.Texts.{bytes_in, lacking, text_of}
@@ -180,7 +181,7 @@ called {R} {E} gave fault_code call plain s t code i file c appends f = by (is_r
       | inr other ↦ goes-on is other
     ]
 
-save-plain : (i : IdealAgent) → IsPlain i (save i)
+pub save-plain : (i : IdealAgent) → IsPlain i (save i)
 save-plain i = plain-if {R = Result (Unit {0}) NoteFault} i i.snapshot.stopped (answers i (Err notes.Stopped)) (Notes kinds.Member (i.member_clock - 1) None (record { agent = i; answer = Ok (tt {0}) }) (Err notes.SinkFault)) refl (tt {0})
 
 drop-all : (xs : List ℕ) → drop (length xs) xs ≡ []
@@ -246,6 +247,34 @@ same-lacking s t i file same replaces lacks f = record {
   flushed = subst (λ (a : AgentState). IsFlushed a.device) (sym same) f.flushed;
   disk = f.disk ∙ ap (λ (x : List ℕ). Some x) (sym (rw (replaces, lacks) refl));
 }
+
+-- the open queries that were due are closed
+pub closed-follows : (s t : Session) (code : Code) (now closed : ℕ) (i : IdealAgent) (file : List ℕ) → Says (CloseDue now closed) s t code → is_ready s ≡ true → code ≢ codes.OutOfMemory → Follows i file s → Follows (ideal_after i (Closes now)) file t
+closed-follows s t code now closed i file may ready other f =
+    let c = may.3 ready other in
+    let j = c.5 i f.sound f.state in
+    let text : text_of t.agent.device ≡ text_of s.agent.device ++ [] = ap (λ (d : Device). text_of d) c.1 ∙ sym (append-nil (text_of s.agent.device)) in
+    record {
+      state = j.1;
+      sound = j.2;
+      calm = f.calm;
+      flushed = subst IsFlushed (sym c.1) f.flushed;
+      disk = f.disk ∙ ap (λ (x : List ℕ). Some x) (text-ready file s ready ∙ sym (text-appends file s t [] (may.1 ready).1 text ∙ append-nil file));
+    }
+
+-- a time of the member clock is observed, or is none
+pub unobserved-follows : (s t : Session) (code : Code) (time : ℕ) (i : IdealAgent) (file : List ℕ) → Says (Observe time) s t code → is_ready s ≡ true → time ≡ 2 ^ 64 - 1 → Follows i file s → Follows i file t
+unobserved-follows s t code time i file may ready none f =
+    let rest = may.1 ready in
+    let same = (may.2 ready none).1 in
+    same-lacking s t i file same rest.2 (ap (λ (a : AgentState). drop t.written (text_of a.device)) same ∙ ap (λ (n : ℕ). drop n (text_of s.agent.device)) rest.1) f
+
+pub observed-follows : (s t : Session) (code : Code) (time : ℕ) (i : IdealAgent) (file : List ℕ) → Says (Observe time) s t code → is_ready s ≡ true → time < 2 ^ 64 - 1 → Follows i file s → Follows (joined (clock_state (time + 1)) false i) file t
+observed-follows s t code time i file may ready low f =
+    let rest = may.1 ready in
+    let heard = may.3 ready low i f.sound f.state in
+    let lacks : lacking t.agent.device t.written ≡ lacking s.agent.device s.written = ap (λ (d : Device). drop t.written (text_of d)) rest.7 ∙ ap (λ (n : ℕ). drop n (text_of s.agent.device)) rest.1 in
+    record { state = heard.0; sound = heard.1; calm = f.calm; flushed = subst IsFlushed (sym rest.7) f.flushed; disk = f.disk ∙ ap (λ (x : List ℕ). Some x) (sym (ap (λ (b : Bool). cond b (lacking t.agent.device t.written) (file ++ lacking t.agent.device t.written)) rest.2 ∙ ap (λ (xs : List ℕ). cond s.replaces xs (file ++ xs)) lacks)) }
 
 may-note : (s : SnapshotView) (line : List ℕ) (b : Bool) → s.plan ≡ Some no_failure → MatchBool b (Kept ≡ Kept) (MayWrite s line Kept)
 may-note s line true calm = refl

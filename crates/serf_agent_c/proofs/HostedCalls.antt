@@ -28,10 +28,9 @@ use Rattle.serf_agent.specs.Once.{AsksBehind, BeginsSound, FiresBehind, OpensBeh
 use Rattle.serf_agent_c.specs.Sessions.{KeepsBurst, is_ready}
 use Rattle.serf_agent_c.specs.Bursts.{Follows as FollowsNext}
 use Rattle.serf_agent_c.specs.Hosts.{LocalState, Observe, Compact, Next, replacing}
-use Rattle.std.proofs.Common.{drop, ◌≤◌, ◌-◌, ◌^◌, ◌+◌}
+use Rattle.std.proofs.Common.{◌≤◌, ◌-◌, ◌^◌, ◌+◌}
 use Rattle.std.proofs.lemmas.Bool.{cases_lt}
 use Rattle.serf_wire.specs.Message.{PushPull}
-use Rattle.serf_snap.specs.Device.{Device}
 use Rattle.serf_snap.specs.EventLines.{least_line}
 use Rattle.serf_snap.specs.declared.kind.ClockKind.TheVariants as kinds
 use Rattle.serf_agent.specs.declared.outcome.MergeFault.{MergeFault}
@@ -42,13 +41,10 @@ use Rattle.serf_agent.specs.Calls.{AsksSink}
 use Rattle.serf_agent.specs.Lives.{Hears}
 use Rattle.serf_agent.specs.MemberClock.{clock_state}
 use Rattle.serf_agent.specs.States.{heard_by, joined}
-use Rattle.serf_agent_c.specs.Bursts.{IsFlushed}
-use Rattle.serf_agent.specs.View.{AgentState}
-use Rattle.serf_agent_c.specs.Texts.{text_of}
 use Rattle.serf_agent_c.specs.declared.code.Code.TheVariants as codes
 use Rattle.serf_agent_c.specs.Texts.{lacking}
 use Rattle.serf_agent.specs.Lives.{Compacts}
-use Rattle.serf_agent_c.proofs.HostLaws.{Bursted, Compacted, idle, refuses, renews, ready-parts, lost, made, same-agent, same-lacking, text-ready, want}
+use Rattle.serf_agent_c.proofs.HostLaws.{Bursted, Compacted, idle, refuses, renews, ready-parts, lost, made, observed-follows, same-agent, text-ready, unobserved-follows, want}
 use Rattle.serf_agent_c.proofs.HandedOnce.{Given, Knows, Recalls, both, gave_entries, gives-none, join-assoc, join-nothing, knows-front, knows-swapped, nothing, outs, ◌⊕◌}
 
 -- what the crates below promise
@@ -393,19 +389,13 @@ observed-hosted laws h t code time k may small = by (is_ready h.session) refl
     i = k.inside.agent
 
     at-most : is_ready h.session ≡ true → (time ≡ 2 ^ 64 - 1) ⊎ (time < 2 ^ 64 - 1) → IsHosted (shown (beside h t))
-    at-most ready (inl none) =
-        let rest = may.1 ready in
-        let same = (may.2 ready none).1 in
-        beside-hosted h t k rest.0 rest.2 rest.6 i (same-lacking h.session t i h.file same rest.2 (ap (λ (a : AgentState). drop t.written (text_of a.device)) same ∙ ap (λ (n : ℕ). drop n (text_of h.session.agent.device)) rest.1) k.inside.follows) k.inside.durable (λ a knows. knows)
+    at-most ready (inl none) = let rest = may.1 ready in beside-hosted h t k rest.0 rest.2 rest.6 i (unobserved-follows h.session t code time i h.file may ready none k.inside.follows) k.inside.durable (λ a knows. knows)
     at-most ready (inr low) =
         let rest = may.1 ready in
-        let heard = may.3 ready low i k.inside.follows.sound k.inside.follows.state in
-        let lacks : lacking t.agent.device t.written ≡ lacking h.session.agent.device h.session.written = ap (λ (d : Device). drop t.written (text_of d)) rest.7 ∙ ap (λ (n : ℕ). drop n (text_of h.session.agent.device)) rest.1 in
         let act = Hears (clock_state (time + 1)) false Kept in
         let is : lives.after i act ≡ joined (clock_state (time + 1)) false i = hears-quietly i (clock_state (time + 1)) i.config.keep_events in
         let may_hear : MayAct i act = (may-hear i (clock_state (time + 1)) i.config.keep_events, omega (arith, low), λ asks. absurd (no-asking i (clock_state (time + 1)) i.config.keep_events asks)) in
-        beside-hosted h t k rest.0 rest.2 rest.6 (joined (clock_state (time + 1)) false i)
-        (record { state = heard.0; sound = heard.1; calm = k.inside.follows.calm; flushed = subst IsFlushed (sym rest.7) k.inside.follows.flushed; disk = k.inside.follows.disk ∙ ap (λ (x : List ℕ). Some x) (sym (ap (λ (b : Bool). cond b (lacking t.agent.device t.written) (h.file ++ lacking t.agent.device t.written)) rest.2 ∙ ap (λ (xs : List ℕ). cond h.session.replaces xs (h.file ++ xs)) lacks)) })
+        beside-hosted h t k rest.0 rest.2 rest.6 (joined (clock_state (time + 1)) false i) (observed-follows h.session t code time i h.file may ready low k.inside.follows)
         (subst IsDurable is (laws.durable i act k.inside.follows.sound k.inside.durable may_hear (omega arith))) (λ a knows. knows)
 
     by : (b : Bool) → is_ready h.session ≡ b → IsHosted (shown (beside h t))

@@ -1,4 +1,4 @@
--- What the getters can have given a host in C over all its lives.
+-- What the getters can have given a host in C over all its lives, and that it misses nothing new.
 use Rattle.std.proofs.Common.{◌≡◌, ℕ, ◌≢◌, ◌⊎◌, inl, inr, ◌++◌, ◌∷◌, [], ◌∙◌, ap, append_assoc, append-nil, arith, Bool, cond, false, List, None, Option, Result, Ok, Err, refl, Some, subst, sym, true}
 use Rattle.serf_wire.specs.Message.{Message, user_event, query, query_response, push_pull, foreign}
 use Rattle.serf_snap.specs.Device.{fresh_device}
@@ -29,13 +29,12 @@ use Rattle.serf_agent_c.specs.declared.answered.Answered.TheVariants as answered
 use Rattle.serf_agent_c.specs.Bursts as bursts
 use Rattle.serf_agent_c.specs.Hosts.{Add, CloseDue, Forget, Respond, Merge, LocalState, Observe, Burst, Compact, Next, Save}
 use Rattle.std.proofs.Common.{drop}
-use Rattle.serf_snap.specs.Device.{Device}
 use Rattle.serf_agent.specs.Handed.{Handed}
 use Rattle.serf_agent_c.specs.Asking.{reply_of}
 use Rattle.serf_agent_c.specs.Numbered.{waiting_at}
 use Rattle.serf_agent_c.specs.Reads.{kind_of}
 use Rattle.serf_agent_c.specs.Sessions.{settled}
-use Rattle.serf_agent_c.proofs.HostLaws.{text-appends}
+use Rattle.serf_agent_c.proofs.HostLaws.{closed-follows}
 use Rattle.serf_agent_c.specs.Bursts.{IsFlushed}
 use Rattle.serf_wire.specs.Bytes.{EventsHaveBytes}
 use Rattle.serf_agent.specs.declared.outcome.FiredQuery.{FiredQuery}
@@ -48,10 +47,22 @@ use Rattle.serf_agent.specs.View.{AgentState}
 use Rattle.serf_agent_c.specs.Texts.{text_of}
 use Rattle.serf_agent_c.specs.declared.code.Code.TheVariants as codes
 use Rattle.serf_agent_c.proofs.BurstLaws.{fire-plain, query-fire-plain, receive-plain}
-use Rattle.serf_agent_c.proofs.HostLaws.{compacted, bursted, host_steps, same-agent, same-lacking, text-ready, want}
-use Rattle.serf_agent_c.proofs.HandedOnce.{Given, Knows, gave_entries, gives-none, knows-front, knows-nothing, nothing, ◌⊕◌}
+use Rattle.serf_agent_c.proofs.HostLaws.{compacted, bursted, host_steps, same-agent, same-lacking, want}
+use Rattle.serf_agent_c.proofs.HandedOnce.{made-now, Given, Knows, gave_entries, gives-none, in-two, knows-front, knows-nothing, nothing, ◌⊕◌}
 use Rattle.serf_agent_c.proofs.HostedCalls.{Below, queue_entries, given_to, due, BehindAt, IsHosted, knows-after, shown-hosted, pre, went-hosted, fired-out, asked-out, received-out, bursted-hosted, compacted-hosted, next-hosted, beside-hosted, waits-hosted, quiet-hosted, replied-out, local-hosted, observed-hosted}
-use Rattle.serf_agent_c.proofs.HostedMerges.{merged-hosted}
+use Rattle.serf_agent_c.proofs.HostedMerges.{merged-hosted, merged-within}
+use Rattle.std.proofs.Common.{◌&&◌, ◌||◌, ◌≤◌, not}
+use Rattle.std.proofs.lemmas.List.Elements.{All-head, All-tail}
+use Rattle.std.specs.Prelude.{All}
+use Rattle.serf_window.specs.Window.{TimedEntry}
+use Rattle.serf_snap.specs.EventLines.{least_in}
+use Rattle.serf_agent.specs.KeptLives.{IsTellable}
+use Rattle.serf_agent.specs.KeptTexts.{IsTold, whatever}
+use Rattle.serf_agent.specs.Taking.{TakesOrFull}
+use Rattle.serf_agent_c.specs.Calls.{Waits}
+use Rattle.serf_agent_c.specs.Hosts.{Export, IsPassed, KeepsTo, Met, MissesNone, Showing, all_met, enters, first_met, gives, met_after, met_in, replacing}
+use Rattle.serf_agent_c.specs.Texts.{is_written}
+use Rattle.serf_agent_c.proofs.HostedKept.{Aim, IsKept, KeptAt, StateOffers, Tracking, Within, aimed, bursted-within, called-kept, closed-within, compacted-kept, compacted-within, left-within, more-within, observed-within, offered-kept, opened-kept, renewed-on, saved-within, shown-kept, still, went-within}
 
 due-kind : (g : Gave) → kind_of g ≡ 13 → gave_entries g ≡ nothing
 due-kind (gaves.Received (Ok (outcomes.Event e))) is = let no : 1 ≡ 13 = is in absurd (omega (arith, no))
@@ -82,17 +93,8 @@ closed-hosted laws h t code now closed k may = by (is_ready h.session) refl
 
     done : is_ready h.session ≡ true → code ≢ codes.OutOfMemory → IsHosted (shown (pre h t))
     done ready other =
-        let kept = may.1 ready in
         let c = may.3 ready other in
-        let j = c.5 i k.inside.follows.sound k.inside.follows.state in
-        let text : text_of t.agent.device ≡ text_of h.session.agent.device ++ [] = ap (λ (d : Device). text_of d) c.1 ∙ sym (append-nil (text_of h.session.agent.device)) in
-        quiet-hosted h t k ready (lives.after i (lives.Closes now)) (record {
-          state = j.1;
-          sound = j.2;
-          calm = k.inside.follows.calm;
-          flushed = subst IsFlushed (sym c.1) k.inside.follows.flushed;
-          disk = k.inside.follows.disk ∙ ap (λ (x : List ℕ). Some x) (text-ready h.file h.session ready ∙ sym (text-appends h.file h.session t [] kept.1 text ∙ append-nil h.file));
-        }) (laws.durable i (lives.Closes now) k.inside.follows.sound k.inside.durable tt tt) (λ a knows. knows) (due-kind t.gave c.3) kept.4
+        quiet-hosted h t k ready (lives.after i (lives.Closes now)) (closed-follows h.session t code now closed i h.file may ready other k.inside.follows) (laws.durable i (lives.Closes now) k.inside.follows.sound k.inside.durable tt tt) (λ a knows. knows) (due-kind t.gave c.3) (may.1 ready).4
 
     by : (b : Bool) → is_ready h.session ≡ b → IsHosted (shown (pre h t))
     by false is = waits-hosted h t k is (may.0 is).1
@@ -297,3 +299,146 @@ gives_queries_later laws = λ name settings text first t deeds now id what paylo
     let r : Result FiredQuery QueryFault = (ended i call Kept).answer in
     let e : gaves.Asked r ≡ gaves.Asked (Ok f) = answer-given (λ r. gaves.Asked r) i call h.file h.session t (gaves.Asked (Ok f)) ready gave (λ none. let no : 9 ≡ 0 = none in absurd (omega (arith, no))) (host_steps.asks now id what payload addr params h.session t code i h.file says k.inside.follows) in
     laws.asks i now id what payload how Kept f h.queries k.inside.follows.sound (given-known h k).1 (let same : r ≡ Ok f = cc in same)
+
+-- ---- what a host doesn't miss
+
+calls-within : {K : Type 0} (laws : Below) (kind : Showing K) (track : Tracking kind) (g : Aim) (file : List ℕ) (s t : Session) (met : List (TimedEntry K)) (w : Within kind g file s met) (e : Export) (code : Code) → Says e s t code → IsPassed e → KeepsTo kind g.name g.settings g.time (Calls e t code) → Within kind g file t (met ++ enters kind e s t)
+calls-within laws kind track g file s t met w (Fire what payload flag) code says passed keeps =
+    let told : IsTold (event_of what payload) = record { name = passed.0; payload = passed.1 } in
+    went-within laws kind track g (λ r. gaves.Fired r) file s t met (enters kind (Fire what payload flag) s t) w (Fires (event_of what payload) flag Kept) (fire w.agent (event_of what payload) flag) (host_steps.fires what payload flag s t code w.agent file says w.follows) (fire-plain (event_of what payload) flag w.agent) refl
+    (λ ends. record { may = ends; keep = told; go = (ends, told); same = tt; told = λ c. tt; none = refl }) (λ ready gives. track.fires w.agent what payload flag ∙ ap (λ (x : Gave). kind.entered (Fire what payload flag) x) (sym gives) ∙ made-now (is_ready s) (kind.entered (Fire what payload flag) t.gave) ready)
+calls-within laws kind track g file s t met w (Receive tags now packet) code says passed keeps =
+    let told : IsTellable (Gets tags now packet Kept) = λ m at. tells m (laws.bytes packet m passed at) in
+    went-within laws kind track g (λ r. gaves.Received r) file s t met (enters kind (Receive tags now packet) s t) w (Gets tags now packet Kept) (receive_tagged tags w.agent now packet) (host_steps.receives tags now packet s t code w.agent file says w.follows) (receive-plain tags now packet w.agent) refl
+    (λ ends. record { may = ends; keep = told; go = (ends, told); same = tt; told = λ c. tt; none = refl }) (λ ready gives. track.gets w.agent tags now packet ∙ ap (λ (x : Gave). kind.entered (Receive tags now packet) x) (sym gives) ∙ made-now (is_ready s) (kind.entered (Receive tags now packet) t.gave) ready)
+calls-within laws kind track g file s t met w (Query now id what payload addr params) code says passed keeps =
+    let how = params_of s.filters addr params in
+    went-within laws kind track g (λ r. gaves.Asked r) file s t met (enters kind (Query now id what payload addr params) s t) w (Asks now id what payload how Kept) (fire_query w.agent now id what payload how) (host_steps.asks now id what payload addr params s t code w.agent file says w.follows) (query-fire-plain now id what payload how w.agent) refl
+    (λ ends. record { may = ends; keep = passed; go = (ends, passed); same = tt; told = λ c. tt; none = refl }) (λ ready gives. track.asks w.agent now id what payload addr params how ∙ ap (λ (x : Gave). kind.entered (Query now id what payload addr params) x) (sym gives) ∙ made-now (is_ready s) (kind.entered (Query now id what payload addr params) t.gave) ready)
+calls-within laws kind track g file s t met w (Merge packet join) code says passed keeps = merged-within laws kind track g file s t met w code packet join says passed keeps
+calls-within laws kind track g file s t met w Save code says passed keeps = saved-within laws kind track g file s t met (enters kind Save s t) w code says
+calls-within laws kind track g file s t met w Compact code says passed keeps = compacted-within laws kind track g file s t met (enters kind Compact s t) w code (compacted s t code w.agent file says w.follows)
+calls-within laws kind track g file s t met w (CloseDue now closed) code says passed keeps = closed-within laws kind track g file s t met (enters kind (CloseDue now closed) s t) w code now closed says
+calls-within laws kind track g file s t met w (Observe time) code says passed keeps = observed-within laws kind track g file s t met (enters kind (Observe time) s t) w code time says passed
+calls-within laws kind track g file s t met w (Respond number now payload) code says passed keeps = left-within kind g file s t met (enters kind (Respond number now payload) s t) w (λ unready. (says.0 unready).1) (λ ready. (says.1, (says.2 ready).3))
+calls-within laws kind track g file s t met w (Forget number) code says passed keeps = left-within kind g file s t met (enters kind (Forget number) s t) w (λ unready. (says.0 unready).1) (λ ready. (says.1, (says.2 ready).3))
+calls-within laws kind track g file s t met w LocalState code says passed keeps =
+    left-within kind g file s t met (enters kind LocalState s t) w (λ unready. (says.0 unready).1)
+    (λ ready. (
+      elim (want code) [
+        | inl out ↦ (says.2 out).0
+        | inr other ↦ (says.4 ready other).1
+      ],
+      (says.1 ready).2,
+    ))
+calls-within laws kind track g file s t met w (Burst (bursts.Fires what payload flag)) code says passed keeps =
+    let told : IsTold (event_of what payload) = record { name = passed.0; payload = passed.1 } in
+    bursted-within laws kind track g (λ r. answereds.Fired r) file s t met w (Fires (event_of what payload) flag Kept) (bursts.Fires what payload flag) (fire w.agent (event_of what payload) flag)
+    (bursted (λ r. answereds.Fired r) (λ j. fire j (event_of what payload) flag) (bursts.Fires what payload flag) (λ j. refl) (fire-plain (event_of what payload) flag) s t code w.agent file says.0 says.1 says.2 w.follows) (fire-plain (event_of what payload) flag w.agent) refl
+    (λ ends. record { may = ends; keep = told; go = (ends, told); same = tt; told = λ c. tt; none = refl }) (track.fires_on w.agent what payload flag)
+calls-within laws kind track g file s t met w (Burst (bursts.Receives tags now packet)) code says passed keeps =
+    let told : IsTellable (Gets tags now packet Kept) = λ m at. tells m (laws.bytes packet m passed at) in
+    bursted-within laws kind track g (λ r. answereds.Received r) file s t met w (Gets tags now packet Kept) (bursts.Receives tags now packet) (receive_tagged tags w.agent now packet)
+    (bursted (λ r. answereds.Received r) (λ j. receive_tagged tags j now packet) (bursts.Receives tags now packet) (λ j. refl) (receive-plain tags now packet) s t code w.agent file says.0 says.1 says.2 w.follows) (receive-plain tags now packet w.agent) refl
+    (λ ends. record { may = ends; keep = told; go = (ends, told); same = tt; told = λ c. tt; none = refl }) (track.gets_on w.agent tags now packet)
+calls-within laws kind track g file s t met w (Burst (bursts.Asks now id what payload how)) code says passed keeps =
+    bursted-within laws kind track g (λ r. answereds.Asked r) file s t met w (Asks now id what payload how Kept) (bursts.Asks now id what payload how) (fire_query w.agent now id what payload how)
+    (bursted (λ r. answereds.Asked r) (λ j. fire_query j now id what payload how) (bursts.Asks now id what payload how) (λ j. refl) (query-fire-plain now id what payload how) s t code w.agent file says.0 says.1 says.2 w.follows) (query-fire-plain now id what payload how w.agent) refl
+    (λ ends. record { may = ends; keep = passed; go = (ends, passed); same = tt; told = λ c. tt; none = refl }) (track.asks_on w.agent now id what payload how)
+calls-within laws kind track g file s t met w (Next old new) code says passed keeps = left-within kind g file s t met (enters kind (Next old new) s t) w (λ unready. (says.0 unready).1) (λ ready. (says.2.0, (says.1 ready).0))
+calls-within laws kind track g file s t met w Add code says passed keeps =
+    still kind g file s t met (enters kind Add s t) w (same-lacking s t w.agent file says.0 says.3 (ap (λ (a : AgentState). drop t.written (text_of a.device)) says.0 ∙ ap (λ (n : ℕ). drop n (text_of s.agent.device)) says.2) w.follows)
+
+-- while a text is to replace the file's no call but one of a burst is made
+unready : (s : Session) → s.replaces ≡ true → is_ready s ≡ false
+unready s replaces = ap (λ (b : Bool). not b && is_written s.agent.device s.written) replaces
+
+unmade : (s t : Session) (code : Code) → Waits s t code → s.replaces ≡ true → t.replaces ≡ true
+unmade s t code waits_on replaces = ap (λ (u : Session). u.replaces) (waits_on (unready s replaces)).1 ∙ replaces
+
+replaces-on : (e : Export) (s t : Session) (code : Code) → Says e s t code → s.replaces ≡ true → t.replaces ≡ true
+replaces-on (Fire what payload flag) s t code says = unmade s t code says.0.0
+replaces-on (Receive tags now packet) s t code says = unmade s t code says.0.0
+replaces-on (Query now id what payload addr params) s t code says = unmade s t code says.0.0
+replaces-on (Merge packet join) s t code says = unmade s t code says.0
+replaces-on Save s t code says = unmade s t code says.0.0
+replaces-on Compact s t code says = unmade s t code says.0
+replaces-on (CloseDue now closed) s t code says = unmade s t code says.0
+replaces-on (Observe time) s t code says = unmade s t code says.0
+replaces-on (Respond number now payload) s t code says = unmade s t code says.0
+replaces-on (Forget number) s t code says = unmade s t code says.0
+replaces-on LocalState s t code says = unmade s t code says.0
+replaces-on (Burst call) s t code says = λ replaces. says.0.3 ∙ replaces
+replaces-on (Next old new) s t code says = unmade s t code says.0
+replaces-on Add s t code says = λ replaces. says.3 ∙ replaces
+
+new-on : {K : Type 0} (laws : Below) (kind : Showing K) (track : Tracking kind) (g : Aim) (h : Host) (e : Export) (t : Session) (code : Code) (m : Met K) → IsKept kind g h m → Says e h.session t code → (front : List ℕ) → replacing h.new e t code ≡ Some front → KeptAt kind g front m.written × (t.replaces ≡ true)
+new-on laws kind track g h Compact t code m k says = compacted-kept laws kind track g h t code m k (compacted h.session t code k.inside.agent h.file says k.inside.follows)
+new-on laws kind track g h (Fire what payload flag) t code m k says = renewed-on kind g h t m k (replaces-on (Fire what payload flag) h.session t code says)
+new-on laws kind track g h (Receive tags now packet) t code m k says = renewed-on kind g h t m k (replaces-on (Receive tags now packet) h.session t code says)
+new-on laws kind track g h (Query now id what payload addr params) t code m k says = renewed-on kind g h t m k (replaces-on (Query now id what payload addr params) h.session t code says)
+new-on laws kind track g h (Merge packet join) t code m k says = renewed-on kind g h t m k (replaces-on (Merge packet join) h.session t code says)
+new-on laws kind track g h Save t code m k says = renewed-on kind g h t m k (replaces-on Save h.session t code says)
+new-on laws kind track g h (CloseDue now closed) t code m k says = renewed-on kind g h t m k (replaces-on (CloseDue now closed) h.session t code says)
+new-on laws kind track g h (Observe time) t code m k says = renewed-on kind g h t m k (replaces-on (Observe time) h.session t code says)
+new-on laws kind track g h (Respond number now payload) t code m k says = renewed-on kind g h t m k (replaces-on (Respond number now payload) h.session t code says)
+new-on laws kind track g h (Forget number) t code m k says = renewed-on kind g h t m k (replaces-on (Forget number) h.session t code says)
+new-on laws kind track g h LocalState t code m k says = renewed-on kind g h t m k (replaces-on LocalState h.session t code says)
+new-on laws kind track g h (Burst call) t code m k says = renewed-on kind g h t m k (replaces-on (Burst call) h.session t code says)
+new-on laws kind track g h (Next old new) t code m k says = renewed-on kind g h t m k (replaces-on (Next old new) h.session t code says)
+new-on laws kind track g h Add t code m k says = renewed-on kind g h t m k (replaces-on Add h.session t code says)
+
+deeds-kept : {K : Type 0} (laws : Below) (kind : Showing K) (track : Tracking kind) (g : Aim) (h : Host) (deed : Deed) (m : Met K) → IsKept kind g h m → MayDo g.name h deed → KeepsTo kind g.name g.settings g.time deed → IsKept kind g (did h deed) (met_after kind h m deed)
+deeds-kept laws kind track g h (Calls e t code) m k may keeps =
+    called-kept kind g h t m (enters kind e h.session t) (replacing h.new e t code) (h.fresh || (gives e && is_ready h.session)) k
+    (calls-within laws kind track g h.file h.session t (all_met m) k.inside e code may.0 may.1 keeps) (new-on laws kind track g h e t code m k may.0)
+deeds-kept laws kind track g h (Writes t) m k may keeps =
+    let i = k.inside.agent in
+    let file = text_at h.file h.session in
+    let p : Host = record h { session = t; file = file; new = None } in
+    let follows : Follows i file t = host_steps.writes h.session t i h.file may.0 may.1 may.2 k.inside.follows in
+    shown-kept kind g p (record { written = all_met m; unwritten = [] }) (record {
+      inside = more-within kind g file t (all_met m) [] (record { agent = i; follows = follows; durable = k.inside.durable; runs = k.inside.runs; goes = k.inside.goes });
+      behind = record { agent = i; sound = k.inside.follows.sound; durable = k.inside.durable; starts = record { durable = file; tail = []; is = k.inside.follows.disk; whole = sym (append-nil file) }; goes = k.inside.goes };
+      renewed = λ front at. absurd (let no : None ≡ Some front = at in cc);
+      quiet = λ ready. refl;
+    })
+deeds-kept {K} laws kind track g h (Dies next text t) m k may keeps = from may.3.is
+  where
+    back : (front : List ℕ) → KeptAt kind g front m.written → front ≡ may.3.front → IsKept kind g (did h (Dies next text t)) (met_after kind h m (Dies next text t))
+    back front b same = opened-kept laws kind track g h next text t m may.0 may.1 may.2 keeps.0 keeps.1 (record {
+      agent = b.agent;
+      sound = b.sound;
+      durable = b.durable;
+      starts = record { durable = b.starts.durable; tail = b.starts.tail ++ may.3.tail; is = b.starts.is; whole = may.3.whole ∙ ap (λ (xs : List ℕ). xs ++ may.3.tail) (sym same ∙ b.starts.whole) ∙ append_assoc b.starts.durable b.starts.tail may.3.tail };
+      goes = b.goes;
+    })
+
+    from : (may.3.front ≡ h.file) ⊎ (h.new ≡ Some may.3.front) → IsKept kind g (did h (Dies next text t)) (met_after kind h m (Dies next text t))
+    from (inl same) = back h.file k.behind (sym same)
+    from (inr new) = back may.3.front (k.renewed may.3.front new).0 refl
+
+all-kept : {K : Type 0} (laws : Below) (kind : Showing K) (track : Tracking kind) (g : Aim) (deeds : List Deed) (h : Host) (m : Met K) → IsKept kind g h m → MayHost g.name h deeds → All (KeepsTo kind g.name g.settings g.time) deeds → IsKept kind g (hosted h deeds) (met_in kind h m deeds)
+all-kept laws kind track g [] h m k may keeps = k
+all-kept laws kind track g (deed ∷ rest) h m k may keeps =
+    all-kept laws kind track g rest (did h deed) (met_after kind h m deed) (deeds-kept laws kind track g h deed m k may.0 (All-head (KeepsTo kind g.name g.settings g.time) deed rest keeps)) may.1 (All-tail (KeepsTo kind g.name g.settings g.time) deed rest keeps)
+
+first-kept : {K : Type 0} (laws : Below) (kind : Showing K) (track : Tracking kind) (g : Aim) (text : List ℕ) (t : Session) → is_sound (aimed g) ≡ true → GoesOn g.name g.settings text t → IsFresh text t → least_in kind.which.kind text ≤ g.time → IsKept kind g (first_host text t) (first_met kind text)
+first-kept {K} laws kind track g text t ok goes_on fresh least =
+    let j = (first_life (aimed g) [] (fresh_device [])).agent in
+    let begun : TakesOrFull kind.which g.time (aimed g) [] (kind.which.kept whatever []) j = track.taking.begins g.time (aimed g) [] (fresh_device []) g.on (omega (arith, g.some)) in
+    opened-kept laws kind track g (first_host [] t) g.settings text t (record { written = []; unwritten = [] }) ok goes_on fresh refl least (record {
+      agent = j;
+      sound = laws.begins_sound (aimed g) [] (fresh_device []) ok;
+      durable = laws.begins_durable (aimed g) [] (fresh_device []);
+      starts = record { durable = []; tail = text; is = refl; whole = refl };
+      goes = subst (λ (stood : List (TimedEntry K)). TakesOrFull kind.which g.time (aimed g) [] stood j) track.empty begun;
+    })
+
+pub misses_none : {K : Type 0} → Below → (kind : Showing K) → Tracking kind → StateOffers kind → ((text : List ℕ) → 1 ≤ least_in kind.which.kind text) → MissesNone kind
+misses_none {K} laws kind track state some = λ name settings text first t deeds offer code e ok on goes_on fresh may least keeps offers says passed other short young new.
+    let g : Aim = record { name = name; settings = settings; time = e.time; on = on; some = (let low = some text in omega (arith, low, least)) } in
+    let keep = in-two (KeepsTo kind name settings e.time) deeds (Calls offer t code ∷ []) keeps in
+    let k = all-kept laws kind track g deeds (first_host text first) (first_met kind text) (first-kept laws kind track g text first ok goes_on fresh least) may keep.front in
+    let h = hosted (first_host text first) deeds in
+    offered-kept kind track state g e.key h.file h.session t (all_met (met_in kind (first_host text first) (first_met kind text) deeds)) k.inside offer code offers says passed other (All-head (KeepsTo kind name settings e.time) (Calls offer t code) [] keep.back) short young new

@@ -1,61 +1,53 @@
--- What a merge leaves of a host: the push/pull is heard of, and its events are received one by one.
-use Rattle.std.proofs.Common.{◌≡◌, ℕ, inl, inr, ◌<◌, ◌++◌, ◌∷◌, [], ◌∙◌, ap, append_assoc, append-nil, arith, Bool, cond, false, List, map, None, Option, Result, Ok, Err, refl, Some, subst, sym, true}
-use Rattle.std.proofs.lemmas.List.Elements.{All-append, All-cons, All-head, All-nil, All-tail}
-use Rattle.std.specs.Prelude.{All}
-use Rattle.serf_wire.specs.Bytes.{AreBytes}
+-- What a merge leaves of a host: the push/pull is heard of, and its events are received one by one; and what it brings is taken, where it is new.
+use Rattle.std.proofs.Common.{◌≡◌, ◌≢◌, ◌⊎◌, ◌≤◌, ◌+◌, ℕ, inl, inr, ◌<◌, ◌++◌, ◌∷◌, [], ◌∙◌, ap, append_assoc, append-nil, arith, Bool, cond, false, List, map, None, Option, Result, Ok, Err, refl, Some, subst, sym, true, ◌-◌, ◌^◌}
+use Rattle.std.proofs.lemmas.List.Elements.{All-append, All-cons, All-contains, All-head, All-nil, All-tail, Contains-append_cases, Contains-append_left, Contains-append_right}
+use Rattle.std.specs.Prelude.{All, Contains, max}
+use Rattle.std.specs.List.{AllByRecursion}
+use Rattle.serf_lamport.specs.Clock.{observed}
+use Rattle.serf_wire.specs.Bytes.{AreBytes, HasBytes, SlotHasBytes}
 use Rattle.serf_wire.specs.Decoded.{decoded}
-use Rattle.serf_wire.specs.Message.{Message, user_event, query, query_response, push_pull, foreign}
+use Rattle.serf_wire.specs.Message.{Message, user_event, query, query_response, push_pull, foreign, PushPull}
 use Rattle.serf_wire.specs.declared.texts.EventBody.{EventBody}
-use Rattle.serf_snap.specs.Notes.{Kept}
+use Rattle.serf_snap.specs.Notes.{Kept, SnapshotView, Writing}
 use Rattle.serf_window.specs.Window.{TimedEntry}
 use Rattle.serf_agent.specs.declared.outcome.EventOut.{EventOut}
-use Rattle.serf_agent.specs.Calls.{Call, ended}
+use Rattle.serf_agent.specs.Calls.{Call, MayEnd, ended}
 use Rattle.serf_agent.specs.Ideal.{IdealAgent}
 use Rattle.serf_agent.specs.KeptLives.{IsDurable, MayKeep}
-use Rattle.serf_agent.specs.Lives.{Act, MayAct, event_entry, events_out}
-use Rattle.serf_agent.specs.Lives as lives
+use Rattle.serf_agent.specs.Lives.{Act, MayAct, event_entry, events_out, Takes, Hears}
 use Rattle.serf_agent.specs.Sound.{IsSound}
 use Rattle.serf_agent_c.specs.declared.code.Code.{Code}
 use Rattle.serf_agent_c.specs.declared.session.Session.{Session}
 use Rattle.serf_agent_c.specs.Gaves.{events_in}
-use Rattle.serf_agent_c.specs.Hosts.{Host, Says, shown}
+use Rattle.serf_agent_c.specs.Hosts.{Host, Says, shown, Merge, Showing, clock_heard, enters, event_kind}
 use Rattle.serf_agent_c.specs.declared.gave.Gave.{Gave}
-use Rattle.serf_agent_c.specs.declared.gave.Gave.TheVariants as gaves
 use Rattle.serf_agent_c.specs.Sessions.{is_ready}
-use Rattle.serf_agent_c.specs.Hosts.{Merge}
-use Rattle.std.proofs.Common.{◌-◌, ◌^◌}
-use Rattle.serf_wire.specs.Message.{PushPull}
 use Rattle.serf_snap.specs.Device.{Device}
 use Rattle.serf_agent.specs.declared.outcome.MergeFault.{MergeFault}
-use Rattle.std.proofs.Common.{nat_le}
 use Rattle.std.proofs.lemmas.List.{map-append}
-use Rattle.std.specs.List.{AllByRecursion}
-use Rattle.serf_wire.specs.Bytes.{HasBytes, SlotHasBytes}
 use Rattle.serf_wire.specs.Ranges.{IsRangedPushPull, IsTimed}
 use Rattle.serf_wire.specs.Slots.{SlotContent, empty, held}
 use Rattle.serf_wire.specs.declared.fault.WireFault.{WireFault}
-use Rattle.serf_snap.specs.Notes.{SnapshotView, Writing, last_line, written}
-use Rattle.serf_agent.specs.declared.outcome.MergeFault.TheVariants as merges
 use Rattle.serf_agent.specs.declared.outcome.Reason.{Reason}
-use Rattle.serf_agent.specs.declared.outcome.ReceiveFault.TheVariants as receives
-use Rattle.serf_agent.specs.Calls.{Ends, Notes, Replaces}
 use Rattle.serf_agent.specs.Devices.{device_after}
-use Rattle.serf_agent.specs.Events.{admission, received_as}
-use Rattle.serf_agent.specs.Lives.{Takes}
-use Rattle.serf_agent.specs.States.{EndsAt, EndsHearing, Merges, Receives, ReceivesAfter, after_event, at_time, delivered, events_of, events_of_slot, hear, merge_refusal, receive_one, told_least}
-use Rattle.serf_agent.specs.View.{ConcreteState, view_of}
-use Rattle.serf_agent_c.specs.Bursts.{line_of, no_failure}
-use Rattle.serf_agent_c.specs.Merging.{fault_of}
-use Rattle.serf_agent_c.proofs.BurstLaws.{IsPlain, calm-after, calm-kept, device-bytes, event-plain}
-use Rattle.serf_agent_c.proofs.HostLaws.{durable-after, text-appends}
-use Rattle.serf_agent.specs.Lives.{Hears}
-use Rattle.serf_agent.specs.States.{heard_by}
-use Rattle.serf_agent_c.specs.Bursts.{IsFlushed}
-use Rattle.serf_agent.specs.View.{AgentState}
+use Rattle.serf_agent.specs.Events.{admission, received_as, texts_len}
+use Rattle.serf_agent.specs.States.{EndsAt, EndsHearing, Merges, Receives, ReceivesAfter, after_event, at_time, delivered, events_of, events_of_slot, hear, merge_refusal, receive_one, told_least, heard_by}
+use Rattle.serf_agent.specs.View.{ConcreteState, view_of, AgentState}
+use Rattle.serf_agent_c.specs.Bursts.{line_of, no_failure, IsFlushed}
+use Rattle.serf_agent_c.specs.Merging.{fault_of, merged_code}
+use Rattle.serf_agent_c.proofs.BurstLaws.{IsPlain, calm-after, calm-kept, device-bytes, event-plain, runs-after}
+use Rattle.serf_agent_c.proofs.HostLaws.{durable-after, text-appends, same-agent, text-ready}
 use Rattle.serf_agent_c.specs.Texts.{text_of}
-use Rattle.serf_agent_c.proofs.HostLaws.{same-agent, text-ready}
-use Rattle.serf_agent_c.proofs.HandedOnce.{Given, Knows, both, gave_entries, gives-none, join-assoc, join-nothing, knows-swapped, nothing, only_events, outs, ◌⊕◌}
+use Rattle.serf_agent_c.proofs.HandedOnce.{made-now, Given, Knows, adds, both, full-wider, only-in, same_entry, gave_entries, gives-none, join-assoc, join-nothing, knows-nothing, knows-swapped, nothing, only_events, outs, ◌⊕◌, event-in, none-there, unmet, rising, rising-up, received-low, heard-low, received-outs, HeldIn, held-in}
+use Rattle.serf_agent.specs.declared.config.Config.{Config}
+use Rattle.serf_agent.specs.Config.{longest_texts}
+use Rattle.serf_agent.specs.Kept.{IsFull}
+use Rattle.serf_agent_c.proofs.HostedKept.{Aim, Goes, StateOffers, Tracking, Within, acted, aimed, goes-more, still, unmoved}
 use Rattle.serf_agent_c.proofs.HostedCalls.{Below, given_to, queue_entries, IsHosted, call-hosted, due-given, knows-after, pre, ready-knows, waits-hosted, quiet-hosted}
+use Rattle.serf_agent.specs.Lives as lives
+use Rattle.serf_agent_c.specs.declared.gave.Gave.TheVariants as gaves
+use Rattle.serf_agent.specs.declared.outcome.MergeFault.TheVariants as merges
+use Rattle.serf_agent.specs.declared.outcome.ReceiveFault.TheVariants as receives
 
 pub record Chain (all : Given) (file old : List ℕ) (i : IdealAgent) (d : Device) : Type 0 where
   pub sound : IsSound i
@@ -72,16 +64,6 @@ pub record ChainEnds (all : Given) (file old : List ℕ) (new : AgentState) : Ty
   pub agent : IdealAgent
   pub state : new.concrete ≡ view_of agent
   pub chain : Chain all file old agent new.device
-
-pub runs-cond : (b : Bool) (x y : SnapshotView) → x.stopped ≡ false → y.stopped ≡ false → (cond b x y).stopped ≡ false
-runs-cond true x y p q = p
-runs-cond false x y p q = q
-
-pub runs-after : {R : Type 0} (i : IdealAgent) (call : Call R) → IsPlain i call → i.snapshot.stopped ≡ false → (ended i call Kept).agent.snapshot.stopped ≡ false
-runs-after i (Ends step) plain runs = ap (λ (s : SnapshotView). s.stopped) plain ∙ runs
-runs-after i (Notes kind t None step fault) plain runs = runs-cond (nat_le t (last_line kind i.snapshot)) i.snapshot (written kind t i.snapshot Kept) runs runs
-runs-after i (Notes kind t (Some line) step fault) plain runs = runs
-runs-after i (Replaces lines step fault) plain runs = absurd plain
 
 pub chain-step : {R : Type 0} (laws : Below) (all : Given) (file old : List ℕ) (i : IdealAgent) (d : Device) (act : Act) (call : Call R) → Chain all file old i d → IsPlain i call → lives.after i act ≡ (ended i call Kept).agent → MayAct i act → MayKeep i act
     → Chain (all ⊕ outs i act) file old (ended i call Kept).agent (device_after i call d)
@@ -259,3 +241,235 @@ merged-hosted laws h t code packet join k may bytes = by (is_ready h.session) re
     by : (b : Bool) → is_ready h.session ≡ b → IsHosted (shown (pre h t))
     by false is = waits-hosted h t k is (may.0 is).1
     by true is = tried-it is (fault_of t.gave) refl
+
+-- ---- what is met
+
+-- an agent at the end of events that were received, where this was met
+pub record KeptEnds {K : Type 0} (kind : Showing K) (g : Aim) (file old : List ℕ) (new : AgentState) (met : List (TimedEntry K)) : Type 0 where
+  pub all : Given
+  pub ends : ChainEnds all file old new
+  pub goes : Goes kind g met ends.agent
+
+pub receives-kept : {K : Type 0} (laws : Below) (kind : Showing K) (track : Tracking kind) (g : Aim) (file old : List ℕ) (es : List (TimedEntry EventBody)) (all : Given) (met : List (TimedEntry K)) (i : IdealAgent) (d : Device) (deliveries : List EventOut) (new : AgentState) (fault : Option MergeFault)
+    → Chain all file old i d → Goes kind g met i → All CanCome es → Receives i es d deliveries new fault → KeptEnds kind g file old new (met ++ track.merges deliveries)
+receives-kept laws kind track g file old [] all met i d deliveries new fault c takes can r =
+    let ends : ChainEnds all file old new = record { agent = i; state = r.1; chain = subst (λ (e : Device). Chain all file old i e) (sym r.2) c } in
+    record { all = all; ends = ends; goes = goes-more kind g met (track.merges deliveries) i takes }
+receives-kept {K} laws kind track g file old (e ∷ es) all met i d deliveries new fault c takes can (inl r) =
+    let here = All-head CanCome e es can in
+    let act = Takes e Kept in
+    let may : MayAct i act = (c.runs, here.0, r.0) in
+    let step = chain-step laws all file old i d act (receive_one i e) c (one-plain i e) refl may here.1 in
+    let first = track.merges (delivered i e) in
+    let goes : Goes kind g (met ++ first) (after_event i e) = subst (λ (l : List (TimedEntry K)). Goes kind g (met ++ l) (after_event i e)) (track.takes i e) (acted kind track g i act met c.sound c.durable (record { may = may; keep = here.1; go = (may, here.1); same = tt; told = λ x. tt; none = refl }) takes) in
+    let rest = receives-kept laws kind track g file old es (all ⊕ only_events (delivered i e)) (met ++ first) (after_event i e) (device_after i (receive_one i e) d) r.1.0 new fault step goes (All-tail CanCome e es can) r.1.2 in
+    subst (λ (l : List (TimedEntry K)). KeptEnds kind g file old new l) (append_assoc met first (track.merges r.1.0) ∙ ap (λ (l : List (TimedEntry K)). met ++ l) (sym (track.merges_both (delivered i e) r.1.0) ∙ ap track.merges (sym r.1.1))) rest
+receives-kept laws kind track g file old (e ∷ es) all met i d deliveries new fault c takes can (inr r) = at r.1.0 r.1.2
+  where
+    at : (f : MergeFault) → EndsAt i e d new f → KeptEnds kind g file old new (met ++ track.merges deliveries)
+    at merges.OutOfMemory x = record { all = all; ends = record { agent = i; state = x.1; chain = subst (λ (y : Device). Chain all file old i y) (sym x.2) c }; goes = goes-more kind g met (track.merges deliveries) i takes }
+    at merges.SinkFault x = absurd (no-fault i e (admission i e.time e.key) (x.answers ∙ ap (λ (w : Writing). (ended i (receive_one i e) w).answer) (calm-kept i (receive_one i e) x.writing c.calm (one-plain i e) x.allowed)))
+    at merges.Stopped x = absurd x
+    at (merges.Wire f) x = absurd x
+    at merges.NotPushPull x = absurd x
+
+-- what is heard of a state, before any of its events
+pub record HeardFirst {K : Type 0} (kind : Showing K) (g : Aim) (file old : List ℕ) (d : Device) (met : List (TimedEntry K)) (i : IdealAgent) (m : PushPull) (join : Bool) : Type 0 where
+  pub all : Given
+  pub chain : Chain all file old (ended i (hear i m join) Kept).agent (device_after i (hear i m join) d)
+  pub goes : Goes kind g met (ended i (hear i m join) Kept).agent
+
+chain-first : {K : Type 0} (kind : Showing K) (g : Aim) (file : List ℕ) (s : Session) (met : List (TimedEntry K)) (w : Within kind g file s met) → is_ready s ≡ true → Chain nothing file (text_of s.agent.device) w.agent s.agent.device
+chain-first kind g file s met w ready = record {
+  sound = w.follows.sound;
+  durable = w.durable;
+  calm = w.follows.calm;
+  runs = w.runs;
+  flushed = w.follows.flushed;
+  once = knows-nothing w.agent;
+  more = [];
+  disk = w.follows.disk ∙ ap (λ (x : List ℕ). Some x) (text-ready file s ready ∙ sym (append-nil file));
+  text = sym (append-nil (text_of s.agent.device));
+}
+
+heard-first : {K : Type 0} (laws : Below) (kind : Showing K) (track : Tracking kind) (g : Aim) (file : List ℕ) (s : Session) (met : List (TimedEntry K)) (w : Within kind g file s met) (m : PushPull) (join : Bool) → is_ready s ≡ true → IsRangedPushPull m → kind.which.HearsNoneAbove g.time (aimed g) m join
+    → MayEnd w.agent (hear w.agent m join) Kept → HeardFirst kind g file (text_of s.agent.device) s.agent.device met w.agent m join
+heard-first {K} laws kind track g file s met w m join ready ranged told ends =
+    let i = w.agent in
+    let act = Hears m join Kept in
+    let j = (ended i (hear i m join) Kept).agent in
+    let may_hear : MayAct i act = (ends, omega (arith, ranged.member_clock), λ asks. w.runs) in
+    let step = chain-step laws nothing file (text_of s.agent.device) i s.agent.device act (hear i m join) (chain-first kind g file s met w ready) (heard-plain (told_least i.config m join) i m join) refl may_hear (omega (arith, ranged.event_clock)) in
+    let told_so : i.config ≡ aimed g → kind.which.HearsNoneAbove g.time i.config m join = λ same. subst (λ (c : Config). kind.which.HearsNoneAbove g.time c m join) (sym same) told in
+    let goes = acted kind track g i act met w.follows.sound w.durable (record { may = may_hear; keep = omega (arith, ranged.event_clock); go = (may_hear, omega (arith, ranged.event_clock)); same = tt; told = told_so; none = refl }) w.goes in
+    let here : Goes kind g met j = subst (λ (l : List (TimedEntry K)). Goes kind g l j) (append-nil met) (subst (λ (l : List (TimedEntry K)). Goes kind g (met ++ l) j) (track.hears i m join) goes) in
+    record { all = nothing ⊕ outs i act; chain = step; goes = here }
+
+-- no line fails, and so a state is heard of but for want of memory
+unheard : {K : Type 0} (kind : Showing K) (g : Aim) (file : List ℕ) (s : Session) (met : List (TimedEntry K)) (w : Within kind g file s met) (m : PushPull) (join : Bool) (new : AgentState) (x : MergeFault) → EndsHearing w.agent (hear w.agent m join) s.agent.device new x → x ≡ merges.OutOfMemory
+unheard kind g file s met w m join new merges.OutOfMemory ends = refl
+unheard kind g file s met w m join new merges.SinkFault x =
+    let i = w.agent in
+    absurd (no-fault-heard (told_least i.config m join) i m join (x.answers ∙ ap (λ (v : Writing). (ended i (hear i m join) v).answer) (calm-kept i (hear i m join) x.writing w.follows.calm (heard-plain (told_least i.config m join) i m join) x.allowed)))
+unheard kind g file s met w m join new merges.Stopped x = absurd x
+unheard kind g file s met w m join new (merges.Wire v) x = absurd x
+unheard kind g file s met w m join new merges.NotPushPull x = absurd x
+
+pub merged-within : {K : Type 0} (laws : Below) (kind : Showing K) (track : Tracking kind) (g : Aim) (file : List ℕ) (s t : Session) (met : List (TimedEntry K)) (w : Within kind g file s met) (code : Code) (packet : List ℕ) (join : Bool) → Says (Merge packet join) s t code → AreBytes packet
+    → ((m : PushPull) → decoded packet ≡ Ok (push_pull m) → kind.which.HearsNoneAbove g.time (aimed g) m join) → Within kind g file t (met ++ enters kind (Merge packet join) s t)
+merged-within {K} laws kind track g file s t met w code packet join may bytes told = by (is_ready s) refl
+  where
+    more : List (TimedEntry K)
+    more = enters kind (Merge packet join) s t
+
+    unmerged : is_ready s ≡ true → t.agent ≡ s.agent → Within kind g file t (met ++ more)
+    unmerged ready same = still kind g file s t met more w (same-agent s t w.agent file ready same (may.1 ready).text w.follows)
+
+    old : List ℕ
+    old = text_of s.agent.device
+
+    ends-so : is_ready s ≡ true → KeptEnds kind g file old t.agent (met ++ track.merges (events_in t.gave)) → Within kind g file t (met ++ more)
+    ends-so ready e =
+        let c = e.ends.chain in
+        record {
+          agent = e.ends.agent;
+          follows = record { state = e.ends.state; sound = c.sound; calm = c.calm; flushed = c.flushed; disk = c.disk ∙ ap (λ (x : List ℕ). Some x) (sym (text-appends file s t c.more (may.1 ready).text c.text)) };
+          durable = c.durable;
+          runs = c.runs;
+          goes = subst (λ (l : List (TimedEntry K)). Goes kind g (met ++ l) e.ends.agent) (sym (track.merged packet join t.gave) ∙ made-now (is_ready s) (kind.entered (Merge packet join) t.gave) ready) e.goes;
+        }
+
+    goes-through : (fault : Option MergeFault) (m : PushPull) → is_ready s ≡ true → decoded packet ≡ Ok (push_pull m) → Merges w.agent m join [] (events_in t.gave) s.agent.device t.agent fault → Within kind g file t (met ++ more)
+    goes-through fault m ready is merges_it = ends-so ready (subst (λ (es : List EventOut). KeptEnds kind g file old t.agent (met ++ track.merges es)) (sym merges_it.out) (from merges_it.receives))
+      where
+        ranged : IsRangedPushPull m
+        ranged = laws.ranged packet (push_pull m) is
+
+        from : ReceivesAfter w.agent (hear w.agent m join) (events_of m.slots) s.agent.device merges_it.deliveries t.agent fault → KeptEnds kind g file old t.agent (met ++ track.merges merges_it.deliveries)
+        from (inl r) =
+            let h = heard-first laws kind track g file s met w m join ready ranged (told m is) r.0 in
+            receives-kept laws kind track g file old (events_of m.slots) h.all met (ended w.agent (hear w.agent m join) Kept).agent (device_after w.agent (hear w.agent m join) s.agent.device) merges_it.deliveries t.agent fault h.chain h.goes (slots-come m.slots ranged.slots (laws.bytes packet (push_pull m) bytes is)) r.1
+        from (inr r) =
+            let x : EndsHearing w.agent (hear w.agent m join) s.agent.device t.agent merges.OutOfMemory = subst (λ (f : MergeFault). EndsHearing w.agent (hear w.agent m join) s.agent.device t.agent f) (unheard kind g file s met w m join t.agent r.1.0 r.1.2) r.1.2 in
+            record { all = nothing; ends = record { agent = w.agent; state = x.1; chain = subst (λ (y : Device). Chain nothing file old w.agent y) (sym x.2) (chain-first kind g file s met w ready) }; goes = goes-more kind g met (track.merges merges_it.deliveries) w.agent w.goes }
+
+    begun : is_ready s ≡ true → (fault : Option MergeFault) → fault_of t.gave ≡ Some fault → Refused s.agent.concrete.snapshot (decoded packet) → Within kind g file t (met ++ more)
+    begun ready fault at (refused x is) = let u = may.3 ready fault at x is in unmerged ready u.2
+    begun ready fault at (merged m is runs) = goes-through fault m ready is ((may.4 ready fault at).1 w.agent m w.follows.sound w.follows.state w.runs is)
+
+    tried-it : is_ready s ≡ true → (o : Option (Option MergeFault)) → fault_of t.gave ≡ o → Within kind g file t (met ++ more)
+    tried-it ready None at = unmerged ready (may.2 ready at).1
+    tried-it ready (Some fault) at = begun ready fault at (refusal s.agent.concrete.snapshot (decoded packet))
+
+    by : (b : Bool) → is_ready s ≡ b → Within kind g file t (met ++ more)
+    by false is = unmoved kind g file s t met more w (may.0 is).1
+    by true is = tried-it is (fault_of t.gave) refl
+
+-- ---- what a state brings
+
+abbrev coming : Aim → EventBody → TimedEntry EventBody
+coming g what = record { time = g.time; key = what }
+
+abbrev Comes : Aim → EventBody → List (TimedEntry EventBody) → List EventOut → Type 0
+Comes g what met outs = Contains (map event_entry outs) (coming g what) ⊎ IsFull g.settings.per_time g.time (met ++ map event_entry outs) []
+
+receives-comes : (laws : Below) (track : Tracking event_kind) (g : Aim) (what : EventBody) (file old : List ℕ) (es : List (TimedEntry EventBody)) (all : Given) (met : List (TimedEntry EventBody)) (i : IdealAgent) (d : Device) (deliveries : List EventOut) (new : AgentState) (fault : Option MergeFault) (clock : ℕ) → texts_len what ≤ longest_texts
+    → Chain all file old i d → Goes event_kind g met i → All CanCome es → Receives i es d deliveries new fault → fault ≢ Some merges.OutOfMemory → i.events.clock ≤ clock → rising clock es ≤ g.time + g.settings.event_buffer → Contains es (coming g what) → (Contains met (coming g what) → ⊥) → Comes g what met deliveries
+receives-comes laws track g what file old [] all met i d deliveries new fault clock short c goes can r ended_well low young there unseen = absurd (none-there (coming g what) there)
+receives-comes laws track g what file old (x ∷ es) all met i d deliveries new fault clock short c (inr full) can r ended_well low young there unseen = inr (full-wider g.settings.per_time g.time met [] (met ++ map event_entry deliveries) [] (adds met (map event_entry deliveries)) full)
+receives-comes laws track g what file old (x ∷ es) all met i d deliveries new fault clock short c (inl takes) can (inl r) ended_well low young there unseen = elim (same_entry x (coming g what)) [
+  | inl same ↦ here same
+  | inr differs ↦
+      later differs
+      (λ step goes within unseen_still. receives-comes laws track g what file old es (all ⊕ only_events (delivered i x)) (met ++ map event_entry (delivered i x)) (after_event i x) (device_after i (receive_one i x) d) r.1.0 new fault (observed clock x.time) short step goes (All-tail CanCome x es can) r.1.2 ended_well
+      (received-low i x.time clock x.key (admission i x.time x.key) low) young within unseen_still)
+]
+  where
+    first : List (TimedEntry EventBody)
+    first = map event_entry (delivered i x)
+
+    rest : List (TimedEntry EventBody)
+    rest = map event_entry r.1.0
+
+    both_so : map event_entry deliveries ≡ first ++ rest
+    both_so = ap (λ (l : List EventOut). map event_entry l) r.1.1 ∙ map-append event_entry (delivered i x) r.1.0
+
+    here : x ≡ coming g what → Comes g what met deliveries
+    here same =
+        let time : x.time ≡ g.time = ap (λ (y : TimedEntry EventBody). y.time) same in
+        let up = rising-up (observed clock x.time) es in
+        elim (track.taking.takes g.time (aimed g) met [] i what c.sound takes short (omega (arith, young, low, time, up)) (unmet met (coming g what) unseen)) [
+          | inl none ↦
+              (let admitted : admission i x.time x.key ≡ None = subst (λ (y : TimedEntry EventBody). admission i y.time y.key ≡ None) (sym same) none in
+              let out : first ≡ x ∷ [] = event-in i x.time x.key false (admission i x.time x.key) admitted in
+              let found : Contains first (coming g what) = subst (λ (l : List (TimedEntry EventBody)). Contains l (coming g what)) (sym out) (0, omega arith, same) in
+              inl (subst (λ (l : List (TimedEntry EventBody)). Contains l (coming g what)) (sym both_so) (Contains-append_left first rest (coming g what) found)))
+          | inr full ↦ inr (full-wider g.settings.per_time g.time met [] (met ++ map event_entry deliveries) [] (adds met (map event_entry deliveries)) full)
+        ]
+
+    later : x ≢ coming g what
+        → (Chain (all ⊕ only_events (delivered i x)) file old (after_event i x) (device_after i (receive_one i x) d) → Goes event_kind g (met ++ first) (after_event i x) → Contains es (coming g what) → (Contains (met ++ first) (coming g what) → ⊥) → Comes g what (met ++ first) r.1.0) → Comes g what met deliveries
+    later differs more =
+        let able = All-head CanCome x es can in
+        let act = Takes x Kept in
+        let may : MayAct i act = (c.runs, able.0, r.0) in
+        let step = chain-step laws all file old i d act (receive_one i x) c (one-plain i x) refl may able.1 in
+        let goes : Goes event_kind g (met ++ first) (after_event i x) = acted event_kind track g i act met c.sound c.durable (record { may = may; keep = able.1; go = (may, able.1); same = tt; told = λ y. tt; none = refl }) (inl takes) in
+        let those = received-outs i x (admission i x.time x.key) in
+        let within : Contains es (coming g what) = elim (Contains-append_cases (x ∷ []) es (coming g what) there) [
+          | inl now ↦ absurd (differs (sym (only-in x (coming g what) now)))
+          | inr found ↦ found
+        ] in
+        let unseen_still : Contains (met ++ first) (coming g what) → ⊥ = λ seen. elim (Contains-append_cases met first (coming g what) seen) [
+          | inl before ↦ unseen before
+          | inr now ↦ differs (sym (All-contains (λ (y : TimedEntry EventBody). y ≡ x) first (coming g what) those now))
+        ] in
+        elim (more step goes within unseen_still) [
+          | inl found ↦ inl (subst (λ (l : List (TimedEntry EventBody)). Contains l (coming g what)) (sym both_so) (Contains-append_right first rest (coming g what) found))
+          | inr full ↦ inr (subst (λ (l : List (TimedEntry EventBody)). IsFull g.settings.per_time g.time l []) (append_assoc met first rest ∙ ap (λ (l : List (TimedEntry EventBody)). met ++ l) (sym both_so)) full)
+        ]
+receives-comes laws track g what file old (x ∷ es) all met i d deliveries new fault clock short c (inl takes) can (inr r) ended_well low young there unseen = absurd (at r.1.0 r.1.1 r.1.2)
+  where
+    at : (f : MergeFault) → fault ≡ Some f → EndsAt i x d new f → ⊥
+    at merges.OutOfMemory is y = ended_well is
+    at merges.SinkFault is y = no-fault i x (admission i x.time x.key) (y.answers ∙ ap (λ (w : Writing). (ended i (receive_one i x) w).answer) (calm-kept i (receive_one i x) y.writing c.calm (one-plain i x) y.allowed))
+    at merges.Stopped is y = y
+    at (merges.Wire w) is y = y
+    at merges.NotPushPull is y = y
+
+pub state_offers : Below → Tracking event_kind → StateOffers event_kind
+state_offers laws track g what file s t met w packet join code offers says bytes other told short young unseen =
+    subst (λ (l : List (TimedEntry EventBody)). Contains l (coming g what) ⊎ IsFull g.settings.per_time g.time (met ++ l) []) (made-now (is_ready s) (map event_entry (events_in t.gave)) offers.0) (tried (fault_of t.gave) refl)
+  where
+    i : IdealAgent
+    i = w.agent
+
+    held_state : HeldIn (coming g what) (decoded packet)
+    held_state = held-in (coming g what) (decoded packet) offers.1
+
+    m : PushPull
+    m = held_state.state
+
+    ranged : IsRangedPushPull m
+    ranged = laws.ranged packet (push_pull m) held_state.is
+
+    well : (fault : Option MergeFault) → code ≡ merged_code fault → fault ≢ Some merges.OutOfMemory
+    well fault is out = other (is ∙ ap merged_code out)
+
+    low : (ended i (hear i m join) Kept).agent.events.clock ≤ max s.agent.concrete.events.clock m.event_clock
+    low = let same = ap (λ (a : ConcreteState). a.events.clock) w.follows.state in heard-low i m join (told_least i.config m join) s.agent.concrete.events.clock (omega (arith, same))
+
+    from : (fault : Option MergeFault) → fault ≢ Some merges.OutOfMemory → (deliveries : List EventOut) → ReceivesAfter i (hear i m join) (events_of m.slots) s.agent.device deliveries t.agent fault → Comes g what met deliveries
+    from fault ended_well deliveries (inl r) =
+        let h = heard-first laws event_kind track g file s met w m join offers.0 ranged (told m held_state.is) r.0 in
+        receives-comes laws track g what file (text_of s.agent.device) (events_of m.slots) h.all met (ended i (hear i m join) Kept).agent (device_after i (hear i m join) s.agent.device) deliveries t.agent fault (max s.agent.concrete.events.clock m.event_clock) short h.chain h.goes
+        (slots-come m.slots ranged.slots (laws.bytes packet (push_pull m) bytes held_state.is)) r.1 ended_well low
+        (subst (λ (r : Result Message WireFault). clock_heard s.agent.concrete.events.clock r ≤ g.time + g.settings.event_buffer) held_state.is young) held_state.there unseen
+    from fault ended_well deliveries (inr r) = absurd (ended_well (r.1.1 ∙ ap (λ (f : MergeFault). Some f) (unheard event_kind g file s met w m join t.agent r.1.0 r.1.2)))
+
+    tried : (o : Option (Option MergeFault)) → fault_of t.gave ≡ o → Comes g what met (events_in t.gave)
+    tried None at = absurd (other (says.2 offers.0 at).0)
+    tried (Some fault) at =
+        let merge = says.4 offers.0 fault at in
+        let merges_it = merge.1 i m w.follows.sound w.follows.state w.runs held_state.is in
+        subst (λ (es : List EventOut). Comes g what met es) (sym merges_it.out) (from fault (well fault merge.0) merges_it.deliveries merges_it.receives)

@@ -1,8 +1,8 @@
 -- Small lives of a host in C that break what is promised of them, and the proofs that the promises refuse them. A definition that is
 -- changed so that it promises nothing doesn't pass here.
-use Rattle.std.proofs.Common.{◌≡◌, ◌≢◌, ◌⊎◌, inl, inr, ℕ, ◌<◌, ◌&&◌, ◌++◌, ◌∷◌, [], ap, arith, Bool, cond, false, List, map, None, Ok, Option, refl, Some, subst, sym, ◌∙◌, true}
+use Rattle.std.proofs.Common.{◌≡◌, ◌≢◌, ◌⊎◌, inl, inr, ℕ, ◌<◌, ◌&&◌, ◌++◌, ◌∷◌, [], ap, arith, Bool, cond, Err, false, Result, List, map, None, Ok, Option, refl, Some, subst, sym, ◌∙◌, true, ◌≤◌, ◌+◌, length}
 use Rattle.std.proofs.lemmas.List.Elements.{All-head, All-nil}
-use Rattle.std.specs.Prelude.{All, AllPairs}
+use Rattle.std.specs.Prelude.{All, AllPairs, Contains}
 use Rattle.serf_wire.specs.declared.texts.EventBody.{EventBody}
 use Rattle.serf_window.specs.Window.{TimedEntry}
 use Rattle.serf_agent.specs.declared.outcome.Fired.{Fired}
@@ -12,15 +12,27 @@ use Rattle.serf_agent.specs.Handed.{Handed}
 use Rattle.serf_agent.specs.Ideal.{Past}
 use Rattle.serf_agent.specs.Once.{IsOnce}
 use Rattle.serf_agent_c.specs.declared.code.Code.{Code}
-use Rattle.serf_agent_c.specs.declared.gave.Gave.TheVariants as gaves
 use Rattle.serf_agent_c.specs.declared.heads.Params.{Params}
 use Rattle.serf_agent_c.specs.declared.heads.Settings.{Settings}
 use Rattle.serf_agent_c.specs.declared.session.Session.{Session}
 use Rattle.serf_agent.specs.Lives.{event_entry, query_entries}
 use Rattle.serf_agent_c.specs.Gaves.{events_in, handed_in}
-use Rattle.serf_agent_c.specs.Hosts.{Deed, Dies, Fire, GivesLater, GivesOnce, GivesQueriesLater, GivesQueriesOnce, Host, MayDo, MayHost, Query, Says, first_host, hosted, shown}
+use Rattle.serf_agent_c.specs.Hosts.{Deed, Dies, Fire, GivesLater, GivesOnce, GivesQueriesLater, GivesQueriesOnce, Host, MayDo, MayHost, Query, Says, first_host, hosted, shown, Calls, Export, GivesNew, IsPassed, KeepsTo, Merge, MissesNone, Offers, Receive, Showing, TakesNewQueries, Writes, all_met, clock_after, enters, event_kind, first_met, met_after, met_in, queries_by, query_kind}
 use Rattle.serf_agent_c.specs.Opening.{GoesOn, IsFresh, config_of}
 use Rattle.serf_agent_c.specs.Sessions.{is_ready}
+use Rattle.serf_wire.specs.Decoded.{decoded}
+use Rattle.serf_wire.specs.Message.{Message, foreign, push_pull, query, query_response, user_event}
+use Rattle.serf_wire.specs.declared.fault.WireFault.{WireFault}
+use Rattle.serf_snap.specs.EventLines.{least_in}
+use Rattle.serf_agent.specs.declared.outcome.EventOut.{EventOut}
+use Rattle.serf_agent.specs.declared.outcome.Reason.{Reason}
+use Rattle.serf_agent.specs.Kept.{HasMet, IsFull, IsMet}
+use Rattle.serf_agent.specs.TrackOf.{got_query}
+use Rattle.serf_agent_c.specs.declared.code.Code.TheVariants.{OutOfMemory}
+use Rattle.serf_agent_c.specs.declared.gave.Gave.{Gave}
+use Rattle.serf_agent_c.proofs.HandedOnce.{made-now, none-there, unmet}
+use Rattle.serf_agent_c.specs.declared.gave.Gave.TheVariants as gaves
+use Rattle.serf_agent.specs.declared.outcome.Outcome.TheVariants as outcomes
 
 -- a host that was given an event twice, and one that was given a query twice
 twice_refused : {K : Type 0} (es : List (TimedEntry K)) (e : TimedEntry K) → es ≡ e ∷ e ∷ [] → AllPairs (λ x y. x ≢ y) es → ⊥
@@ -47,6 +59,74 @@ later_refuses name settings text first t deeds what payload coalesce code f e ok
 pub queries_later_refuses : (name : List ℕ) (settings : Settings) (text : List ℕ) (first t : Session) (deeds : List Deed) (now id : ℕ) (what payload addr : List ℕ) (params : Params) (code : Code) (f : FiredQuery) (q : TimedEntry ℕ) → is_sound (config_of name settings) ≡ true → GoesOn name settings text first → IsFresh text first
     → MayHost name (first_host text first) deeds → is_ready (hosted (first_host text first) deeds).session ≡ true → Says (Query now id what payload addr params) (hosted (first_host text first) deeds).session t code → t.gave ≡ gaves.Asked (Ok f) → (hosted (first_host text first) deeds).queries ≡ q ∷ [] → q.time ≡ f.time → GivesQueriesLater → ⊥
 queries_later_refuses name settings text first t deeds now id what payload addr params code f q ok on fresh may ready says gave given same later = not_later_refused (hosted (first_host text first) deeds).queries q f.time given same (later name settings text first t deeds now id what payload addr params code f ok on fresh may ready says gave)
+
+-- one that met nothing, and ignores an event that is new, or a query; and one whose merge leaves out an event
+few-refused : {K : Type 0} (k t : ℕ) → 0 < k → HasMet {K = K} k t [] [] → ⊥
+few-refused {K} k t some h = by h.entries h.many h.met
+  where
+    by : (es : List (TimedEntry K)) → k ≤ length es → All (λ (e : TimedEntry K). (e.time ≡ t) × IsMet [] [] e) es → ⊥
+    by [] many met = absurd (omega (arith, some, many))
+    by (e ∷ es) many met = unmet [] e (none-there e) (All-head (λ (x : TimedEntry K). (x.time ≡ t) × IsMet [] [] x) e es met).1
+
+missed_refused : {K : Type 0} (k : ℕ) (e : TimedEntry K) (met entered : List (TimedEntry K)) → met ≡ [] → entered ≡ [] → 0 < k → Contains entered e ⊎ IsFull k e.time (met ++ entered) [] → ⊥
+missed_refused {K} k e met entered none nothing some (inl there) = none-there e (subst (λ (l : List (TimedEntry K)). Contains l e) nothing there)
+missed_refused {K} k e met entered none nothing some (inr full) = by (subst (λ (l : List (TimedEntry K)). IsFull k e.time l []) (ap (λ (l : List (TimedEntry K)). l ++ entered) none ∙ nothing) full)
+  where
+    by : IsFull {K = K} k e.time [] [] → ⊥
+    by (inl h) = few-refused k e.time some h
+    by (inr h) = few-refused (k + 1) h.0 (omega arith) h.2
+
+-- what is so of a host, and of a call that brings it something new, which it has to take
+pub record HasToTake {K : Type 0} (kind : Showing K) (name : List ℕ) (settings : Settings) (text : List ℕ) (first t : Session) (deeds : List Deed) (offer : Export) (code : Code) (e : TimedEntry K) : Type 0 where
+  pub ok : is_sound (config_of name settings) ≡ true
+  pub keeps : settings.keep_events ≡ true
+  pub on : GoesOn name settings text first
+  pub fresh : IsFresh text first
+  pub may : MayHost name (first_host text first) deeds
+  pub least : least_in kind.which.kind text ≤ e.time
+  pub same : All (KeepsTo kind name settings e.time) (deeds ++ Calls offer t code ∷ [])
+  pub offers : Offers kind e (hosted (first_host text first) deeds).session offer
+  pub says : Says offer (hosted (first_host text first) deeds).session t code
+  pub passed : IsPassed offer
+  pub done : code ≢ OutOfMemory
+  pub short : kind.which.Short e.key
+  pub young : clock_after (kind.clock (hosted (first_host text first) deeds).session) e.time offer ≤ e.time + kind.which.slots (config_of name settings)
+  pub none : all_met (met_in kind (first_host text first) (first_met kind text) deeds) ≡ []
+  pub room : 0 < settings.per_time
+
+takes-it : {K : Type 0} (kind : Showing K) (name : List ℕ) (settings : Settings) (text : List ℕ) (first t : Session) (deeds : List Deed) (offer : Export) (code : Code) (e : TimedEntry K) → HasToTake kind name settings text first t deeds offer code e → enters kind offer (hosted (first_host text first) deeds).session t ≡ [] → MissesNone kind → ⊥
+takes-it {K} kind name settings text first t deeds offer code e h nothing promise =
+    missed_refused settings.per_time e (all_met (met_in kind (first_host text first) (first_met kind text) deeds)) (enters kind offer (hosted (first_host text first) deeds).session t) h.none nothing h.room
+    (promise name settings text first t deeds offer code e h.ok h.keeps h.on h.fresh h.may h.least h.same h.offers h.says h.passed h.done h.short h.young (λ there. none-there e (subst (λ (l : List (TimedEntry K)). Contains l e) h.none there)))
+
+pub kept_refuses : (name : List ℕ) (settings : Settings) (text : List ℕ) (first t : Session) (deeds : List Deed) (tags : Bool) (now : ℕ) (packet : List ℕ) (code : Code) (e : TimedEntry EventBody) (reason : Reason) → HasToTake event_kind name settings text first t deeds (Receive tags now packet) code e → t.gave ≡ gaves.Received (Ok (outcomes.Ignored reason)) → GivesNew → ⊥
+kept_refuses name settings text first t deeds tags now packet code e reason h gave promise = takes-it event_kind name settings text first t deeds (Receive tags now packet) code e h (sym (made-now (is_ready (hosted (first_host text first) deeds).session) (map event_entry (events_in t.gave)) h.offers.0) ∙ ap (λ (g : Gave). map event_entry (events_in g)) gave) promise
+
+pub merge_kept_refuses : (name : List ℕ) (settings : Settings) (text : List ℕ) (first t : Session) (deeds : List Deed) (join : Bool) (packet : List ℕ) (code : Code) (e : TimedEntry EventBody) → HasToTake event_kind name settings text first t deeds (Merge packet join) code e → events_in t.gave ≡ [] → GivesNew → ⊥
+merge_kept_refuses name settings text first t deeds join packet code e h gave promise = takes-it event_kind name settings text first t deeds (Merge packet join) code e h (sym (made-now (is_ready (hosted (first_host text first) deeds).session) (map event_entry (events_in t.gave)) h.offers.0) ∙ ap (λ (es : List EventOut). map event_entry es) gave) promise
+
+pub queries_kept_refuses : (name : List ℕ) (settings : Settings) (text : List ℕ) (first t : Session) (deeds : List Deed) (tags : Bool) (now : ℕ) (packet : List ℕ) (code : Code) (q : TimedEntry ℕ) (reason : Reason) → HasToTake query_kind name settings text first t deeds (Receive tags now packet) code q → t.gave ≡ gaves.Received (Ok (outcomes.Ignored reason)) → TakesNewQueries → ⊥
+queries_kept_refuses name settings text first t deeds tags now packet code q reason h gave promise = takes-it query_kind name settings text first t deeds (Receive tags now packet) code q h
+    (sym (made-now (is_ready (hosted (first_host text first) deeds).session) (queries_by (Receive tags now packet) t.gave) h.offers.0) ∙ ap (λ (g : Gave). queries_by (Receive tags now packet) g) gave ∙ none (decoded packet)) promise
+  where
+    none : (r : Result Message WireFault) → got_query r (Ok (outcomes.Ignored reason)) ≡ []
+    none (Ok (user_event m)) = refl
+    none (Ok (query m)) = refl
+    none (Ok (query_response m)) = refl
+    none (Ok (push_pull m)) = refl
+    none (Ok (foreign m)) = refl
+    none (Err fault) = refl
+
+-- a call that isn't made enters nothing
+pub unready_enters_nothing : (tags : Bool) (now : ℕ) (packet : List ℕ) (s t : Session) → is_ready s ≡ false → enters query_kind (Receive tags now packet) s t ≡ []
+unready_enters_nothing tags now packet s t unready = ap (λ (b : Bool). cond b (queries_by (Receive tags now packet) t.gave) []) unready
+
+-- what a kill took before the host's word isn't met, and what was written before is still
+pub killed_unmet : (h : Host) (settings : Settings) (t : Session) (e x : TimedEntry EventBody) → all_met (met_after event_kind h (record { written = x ∷ []; unwritten = e ∷ [] }) (Dies settings [] t)) ≡ x ∷ []
+killed_unmet h settings t e x = refl
+
+pub written_met : (h : Host) (t : Session) (e : TimedEntry EventBody) → (met_after event_kind h (record { written = []; unwritten = e ∷ [] }) (Writes t)).written ≡ e ∷ []
+written_met h t e = refl
 
 -- an agent that forgot what was given
 pub forgetful_refused : (e : TimedEntry EventBody) → IsOnce [] (e ∷ []) → ⊥

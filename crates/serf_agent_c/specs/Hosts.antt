@@ -1,29 +1,38 @@
 -- What a host in C does with one handle and one file, over all its lives: exports with what each answered, its word that the file has
 -- the agent's text, and kills at any place. And what the getters can have given it of events and of queries.
-use Rattle.std.specs.Prelude.{◌≡◌, ◌≢◌, ◌⊎◌, ◌<◌, ◌^◌, ◌&&◌, ◌||◌, if◌then◌else◌, ℕ, Bool, true, false, List, [], ◌∷◌, ◌++◌, map, length, Option, Some, None, Result, Ok, All, AllPairs}
+use Rattle.std.specs.Prelude.{◌≡◌, ◌≢◌, ◌⊎◌, ◌+◌, ◌<◌, ◌≤◌, ◌^◌, ◌&&◌, ◌||◌, if◌then◌else◌, ℕ, Bool, true, false, List, [], ◌∷◌, ◌++◌, drop, map, length, Option, Some, None, Result, Ok, All, AllPairs, Contains, flat_map, max}
+use Rattle.std.specs.List.{fold}
+use Rattle.serf_lamport.specs.Clock.{observed}
+use Rattle.serf_wire.specs.declared.fault.WireFault.{WireFault}
 use Rattle.serf_wire.specs.Bytes.{AreBytes}
+use Rattle.serf_wire.specs.Decoded.{decoded}
+use Rattle.serf_wire.specs.Message.{Message, PushPull, push_pull, user_event}
 use Rattle.serf_wire.specs.declared.texts.EventBody.{EventBody}
 use Rattle.serf_window.specs.Texts.{event_of}
 use Rattle.serf_window.specs.Window.{TimedEntry}
+use Rattle.serf_snap.specs.EventLines.{least_in}
 use Rattle.serf_agent.specs.declared.outcome.Fired.{Fired}
 use Rattle.serf_agent.specs.declared.outcome.FiredQuery.{FiredQuery}
 use Rattle.serf_agent.specs.Calls.{Call}
 use Rattle.serf_agent.specs.Config.{is_sound}
 use Rattle.serf_agent.specs.Events.{fire}
 use Rattle.serf_agent.specs.Ideal.{IdealAgent}
+use Rattle.serf_agent.specs.Kept.{IsFull}
+use Rattle.serf_agent.specs.KeptTexts.{whatever}
 use Rattle.serf_agent.specs.Lives.{event_entry, query_entries}
 use Rattle.serf_agent.specs.Queries.{fire_query}
 use Rattle.serf_agent.specs.Receive.{receive_tagged}
-use Rattle.serf_agent.specs.States.{compact, save}
+use Rattle.serf_agent.specs.States.{compact, events_of, save}
+use Rattle.serf_agent.specs.TrackOf.{BringsQuery, TrackOf, asked_query, event_track, got_query, query_track}
 use Rattle.serf_agent_c.specs.declared.code.Code.{Code}
-use Rattle.serf_agent_c.specs.declared.code.Code.TheVariants.{Done}
+use Rattle.serf_agent_c.specs.declared.code.Code.TheVariants.{Done, OutOfMemory}
 use Rattle.serf_agent_c.specs.declared.gave.Gave.{Gave}
 use Rattle.serf_agent_c.specs.declared.gave.Gave.TheVariants as gaves
 use Rattle.serf_agent_c.specs.declared.heads.Params.{Params}
 use Rattle.serf_agent_c.specs.declared.heads.Settings.{Settings}
 use Rattle.serf_agent_c.specs.declared.session.Session.{Session}
 use Rattle.serf_agent_c.specs.Asking.{Closes, Declines, Forgets, ForgetsFilters, ForgetsLate, Responds, params_of}
-use Rattle.serf_agent_c.specs.Bursts.{BurstCall, Extends, GoesToNext, Leaves, LeavesAgent, Stands}
+use Rattle.serf_agent_c.specs.Bursts.{BurstCall, Extends, GoesToNext, Leaves, LeavesAgent, Stands, gave_of}
 use Rattle.serf_agent_c.specs.Bursts as bursts
 use Rattle.serf_agent_c.specs.Calls.{Forgoes, Gives, Takes, Tells, Waits}
 use Rattle.serf_agent_c.specs.Codes.{fire_code, note_code, query_code, receive_code, state_code}
@@ -180,3 +189,108 @@ abbrev pub GivesQueriesLater : Type 0
 GivesQueriesLater =
     (name : List ℕ) (settings : Settings) (text : List ℕ) (first t : Session) (deeds : List Deed) (now id : ℕ) (what payload addr : List ℕ) (params : Params) (code : Code) (f : FiredQuery) → is_sound (config_of name settings) ≡ true → GoesOn name settings text first → IsFresh text first → MayHost name (first_host text first) deeds
     → let before = hosted (first_host text first) deeds in is_ready before.session ≡ true → Says (Query now id what payload addr params) before.session t code → t.gave ≡ gaves.Asked (Ok f) → All (λ e. e.time < f.time) before.queries
+
+-- What a host doesn't miss
+
+-- Events, or queries, by the parts with which this is said of both: where an agent has them, and a session its clock of them; what a
+-- call enters, by what it gives; what a packet brings; and what a state holds, that is merged.
+pub record Showing (K : Type 0) : Type 1 where
+  pub which : TrackOf K
+  pub clock : Session → ℕ
+  pub entered : Export → Gave → List (TimedEntry K)
+  pub Brings : TimedEntry K → Result Message WireFault → Type 0
+  pub Holds : TimedEntry K → Result Message WireFault → Type 0
+
+abbrev pub BringsEvent : TimedEntry EventBody → Result Message WireFault → Type 0
+BringsEvent e (Ok (user_event m)) = (m.time ≡ e.time) × (event_of m.name m.payload ≡ e.key)
+BringsEvent e _ = ⊥
+
+abbrev pub HoldsEvent : TimedEntry EventBody → Result Message WireFault → Type 0
+HoldsEvent e (Ok (push_pull m)) = Contains (events_of m.slots) e
+HoldsEvent e _ = ⊥
+
+abbrev pub event_kind : Showing EventBody
+event_kind = record { which = event_track; clock = λ s. s.agent.concrete.events.clock; entered = λ e gave. map event_entry (events_in gave); Brings = BringsEvent; Holds = HoldsEvent }
+
+-- A query enters also where its filters exclude the node, and then isn't given. A state holds none.
+abbrev pub queries_by : Export → Gave → List (TimedEntry ℕ)
+queries_by (Receive tags now packet) (gaves.Received r) = got_query (decoded packet) r
+queries_by (Query now id name payload addr params) (gaves.Asked r) = asked_query id r
+queries_by (Burst (bursts.Receives tags now packet)) (gaves.Received r) = got_query (decoded packet) r
+queries_by (Burst (bursts.Asks now id name payload params)) (gaves.Asked r) = asked_query id r
+queries_by e gave = []
+
+abbrev pub query_kind : Showing ℕ
+query_kind = record { which = query_track; clock = λ s. s.agent.concrete.queries.clock; entered = queries_by; Brings = BringsQuery; Holds = λ e r. ⊥ }
+
+-- what a call enters, from one session to another, where it is made: by what it gave, or in a burst by the outcome that waits since
+abbrev pub enters : {K : Type 0} → Showing K → Export → Session → Session → List (TimedEntry K)
+enters kind (Burst call) s t = flat_map (λ x. kind.entered (Burst call) (gave_of x)) (drop (length s.burst.items) t.burst.items)
+enters kind e s t = if gives e && is_ready s then kind.entered e t.gave else []
+
+-- What a host met: what stood in texts that it opened on, and what entered by calls whose lines its file has, by its word; and what
+-- entered by calls whose lines its file still lacks. What a kill took before the host's word isn't met, unless the next text has it.
+pub record Met (K : Type 0) : Type 0 where
+  pub written : List (TimedEntry K)
+  pub unwritten : List (TimedEntry K)
+
+abbrev pub all_met : {K : Type 0} → Met K → List (TimedEntry K)
+all_met m = m.written ++ m.unwritten
+
+abbrev pub met_at : {K : Type 0} → Session → Met K → Met K
+met_at t m = if is_ready t then record { written = m.written ++ m.unwritten; unwritten = [] } else m
+
+abbrev pub met_after : {K : Type 0} → Showing K → Host → Met K → Deed → Met K
+met_after kind h m (Calls e t code) = met_at t (record { written = m.written; unwritten = m.unwritten ++ enters kind e h.session t })
+met_after kind h m (Writes t) = record { written = m.written ++ m.unwritten; unwritten = [] }
+met_after kind h m (Dies settings text t) = record { written = m.written ++ kind.which.kept whatever text; unwritten = [] }
+
+abbrev pub met_in : {K : Type 0} → Showing K → Host → Met K → List Deed → Met K
+met_in kind h m [] = m
+met_in kind h m (deed ∷ rest) = met_in kind (did h deed) (met_after kind h m deed) rest
+
+abbrev pub first_met : {K : Type 0} → Showing K → List ℕ → Met K
+first_met kind text = record { written = kind.which.kept whatever text; unwritten = [] }
+
+-- The settings stay, and neither a text nor a join tells of a least time above this one.
+abbrev pub KeepsTo : {K : Type 0} → Showing K → List ℕ → Settings → ℕ → Deed → Type 0
+KeepsTo kind name settings time (Dies next text t) = (next ≡ settings) × (least_in kind.which.kind text ≤ time)
+KeepsTo kind name settings time (Calls (Merge packet is_join) t code) = (m : PushPull) → decoded packet ≡ Ok (push_pull m) → kind.which.HearsNoneAbove time (config_of name settings) m is_join
+KeepsTo kind name settings time deed = Unit {0}
+
+-- a call brings an entry, in a packet or in a state, to a session that is ready; or in a burst
+abbrev pub Offers : {K : Type 0} → Showing K → TimedEntry K → Session → Export → Type 0
+Offers kind e s (Receive tags now packet) = (is_ready s ≡ true) × kind.Brings e (decoded packet)
+Offers kind e s (Merge packet is_join) = (is_ready s ≡ true) × kind.Holds e (decoded packet)
+Offers kind e s (Burst (bursts.Receives tags now packet)) = kind.Brings e (decoded packet)
+Offers kind e s _ = ⊥
+
+-- a clock once it has observed this time, or has heard of all that a state brings
+abbrev pub clock_heard : ℕ → Result Message WireFault → ℕ
+clock_heard clock (Ok (push_pull m)) = fold (λ c e. observed c e.time) (max clock m.event_clock) (events_of m.slots)
+clock_heard clock _ = clock
+
+abbrev pub clock_after : ℕ → ℕ → Export → ℕ
+clock_after clock time (Merge packet is_join) = clock_heard clock (decoded packet)
+clock_after clock time offer = observed clock time
+
+-- Of a host whose settings stay and keep events: a packet or a state comes, and there is memory for the call. It brings an entry that
+-- isn't too long, nor, once the clock has heard of all that comes, too old. It isn't below a least time that a text or a join told. It
+-- was never met, in any life. Then it enters, or its time is full: as many of it as the settings allow were met, or more of a later
+-- time (proofs/WrongHosts.antt has hosts that miss one).
+abbrev pub MissesNone : {K : Type 0} → Showing K → Type 0
+MissesNone {K} kind =
+    (name : List ℕ) (settings : Settings) (text : List ℕ) (first t : Session) (deeds : List Deed) (offer : Export) (code : Code) (e : TimedEntry K) → is_sound (config_of name settings) ≡ true → settings.keep_events ≡ true → GoesOn name settings text first → IsFresh text first → MayHost name (first_host text first) deeds
+    → least_in kind.which.kind text ≤ e.time → All (KeepsTo kind name settings e.time) (deeds ++ Calls offer t code ∷ [])
+    → let before = (hosted (first_host text first) deeds).session in let met = all_met (met_in kind (first_host text first) (first_met kind text) deeds) in Offers kind e before offer → Says offer before t code → IsPassed offer → code ≢ OutOfMemory
+    → kind.which.Short e.key → clock_after (kind.clock before) e.time offer ≤ e.time + kind.which.slots (config_of name settings)
+    → (Contains met e → ⊥)
+    → let entered = enters kind offer before t in Contains entered e ⊎ IsFull settings.per_time e.time (met ++ entered) []
+
+-- An event that is new is given, once the host's file has its line; and a query that is new enters, and is given where its filters let
+-- the node pass.
+abbrev pub GivesNew : Type 0
+GivesNew = MissesNone event_kind
+
+abbrev pub TakesNewQueries : Type 0
+TakesNewQueries = MissesNone query_kind

@@ -1,9 +1,10 @@
 //! What a host in C can count on, whatever it calls and whenever it is killed: laws that name exports by what their clauses say.
 
 ghost use Rattle.serf_agent_c.specs.HostLaws.{CodesDiffer, GivesExactly, HostSteps};
-ghost use Rattle.serf_agent_c.specs.Hosts.{GivesLater, GivesOnce, GivesQueriesLater, GivesQueriesOnce};
+ghost use Rattle.serf_agent_c.specs.Hosts.{GivesLater, GivesNew, GivesOnce, GivesQueriesLater, GivesQueriesOnce, TakesNewQueries};
 
 use serf_agent::{kept_life_promises, once_steps, unseen_promises};
+use serf_snap::read_laws;
 use serf_wire::{decoded_ranges, decoded_texts};
 
 /// What each export leaves of the ideal agent that a session follows, and of its host's file. Does nothing.
@@ -21,16 +22,22 @@ pub fn host_steps()
 /// may stand after it. Then no event and no query is given twice by the getters, in all lives. What is fired is later
 /// than all of its kind that was given before. And there is always an agent that forgets nothing, which the session follows:
 /// so each call answers what that agent answers.
+///
+/// Where the settings stay and keep events, nothing is missed of what comes and is new, in a packet, in a burst or in a state
+/// that is merged: an event is given (`kept`), and a query enters (`queries_kept`).
 pub fn host_promises()
     ensures once { GivesOnce }
     ensures queries_once { GivesQueriesOnce }
     ensures later { GivesLater }
     ensures queries_later { GivesQueriesLater }
     ensures exactly { GivesExactly }
+    ensures kept { GivesNew }
+    ensures queries_kept { TakesNewQueries }
 {
     once_steps();
     kept_life_promises();
     unseen_promises();
+    read_laws();
     decoded_texts();
     decoded_ranges();
 }

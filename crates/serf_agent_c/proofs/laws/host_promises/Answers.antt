@@ -1,5 +1,9 @@
+use Rattle.serf_snap.specs.declared.kind.ClockKind.TheVariants as kinds
+use Rattle.serf_agent_c.specs.Hosts.{event_kind, query_kind}
 use Rattle.serf_agent_c.proofs.HostedCalls.{Below}
+use Rattle.serf_agent_c.proofs.HostedKept as kept
 use Rattle.serf_agent_c.proofs.HostedLaws as hosts
+use Rattle.serf_agent_c.proofs.HostedMerges as merges
 use Rattle.serf_agent_c.proofs.laws.host_promises.Goals as goal
 
 below : goal.After-decoded_ranges → Below
@@ -30,3 +34,10 @@ returns-clause-queries_later c = hosts.gives_queries_later (below c)
 
 pub returns-clause-exactly : goal.returns-clause-exactly
 returns-clause-exactly c = hosts.gives_exactly (below c)
+
+pub returns-clause-kept : goal.returns-clause-kept
+returns-clause-kept c = let track = kept.event_tracking c.kept_life_promises.ensures.taking in hosts.misses_none (below c) event_kind track (merges.state_offers (below c) track) (λ text. (c.read_laws.ensures.least kinds.Event text).0)
+
+pub returns-clause-queries_kept : goal.returns-clause-queries_kept
+returns-clause-queries_kept c =
+    hosts.misses_none (below c) query_kind (kept.query_tracking c.kept_life_promises.ensures.queries_taking) (λ g id file s t met w packet join code offers says bytes other told short young new. absurd offers.1) (λ text. (c.read_laws.ensures.least kinds.Query text).0)

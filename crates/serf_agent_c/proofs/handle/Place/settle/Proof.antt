@@ -35,8 +35,7 @@ use Rattle.std_heap.proofs.Global.TheLaws as heap
 use Rattle.std_heap.proofs.GlobalAllocator.TheImpl.Met.{passed}
 use Rattle.serf_agent_c.proofs.session.Session.TheLaws as session
 use Rattle.serf_agent_c.proofs.Destruct++none.drop.Code as no_drop
-use Rattle.serf_agent_c.proofs.LetGo.{glue, goes}
-use Rattle.serf_agent_c.proofs.Places.{no_glue, Held, held_laws, Freed, freed_laws, Boxed, boxed_laws, Pointer, pointer_made, pointer_fits, fits, word}
+use Rattle.serf_agent_c.proofs.Places.{no_glue, Held, held_laws, Freed, freed_laws, Boxed, boxed_laws, Pointer, glue, goes, pointer_made, pointer_fits, fits, word}
 use Rattle.serf_agent_c.specs.contracts.handle.Place.{the_row}
 use Rattle.serf_agent_c.specs.contracts.handle.Place.settle as f
 use Rattle.serf_agent_c.proofs.handle.Place.settle.Statement.{statement}
