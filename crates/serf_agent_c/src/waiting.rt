@@ -19,7 +19,7 @@ pub struct Waiting {
     ghost once: { AllPairs (λ v w. v.0 < w.0) queries.items },
 }
 
-/// Where the query of a number is, if it waits: found by halves, since the numbers rise.
+/// Where the query of a number is, if it waits: found by a binary search, since the numbers rise.
 fn place_of(queries: &[(u64, HandedQuery)], number: u64) -> Option<usize>
     requires { AllPairs (λ v w. v.0 < w.0) queries.now }
     ensures { result ≡ position (λ w. w.0 == number) queries.now }
