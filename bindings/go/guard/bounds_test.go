@@ -126,21 +126,26 @@ func TestHeld(t *testing.T) {
 	}
 }
 
-// What streams gave back is collected where they took twice what they may have.
+// What streams gave back is collected where they took what they may have, and what answers to push/pulls take of the members.
 func TestCollected(t *testing.T) {
-	g := testGuard(t, false, Settings{StreamBytes: 8000, AllBytes: 8000})
+	members := 0
+	g := testGuard(t, false, Settings{StreamBytes: 8000, AllBytes: 8000, Known: func(string) (int, bool) { return members, false }})
 	user := append(message(kindUser, map[string]any{"UserMsgLen": 5000}), zeros(5000)...)
-	forced := func() uint32 {
-		var is runtime.MemStats
-		runtime.ReadMemStats(&is)
-		return is.NumForcedGC
+	ran := func(stream []byte) uint32 {
+		var before, behind runtime.MemStats
+		runtime.ReadMemStats(&before)
+		for n := 0; n < 10; n++ {
+			readStream(g, stream, false)
+		}
+		runtime.ReadMemStats(&behind)
+		return behind.NumForcedGC - before.NumForcedGC
 	}
-	before := forced()
-	for n := 0; n < 10; n++ {
-		readStream(g, user, false)
+	if of := ran(user); of < 9 || of > 20 {
+		t.Errorf("it ran %d times for users' messages", of)
 	}
-	if ran := forced() - before; ran < 4 || ran > 10 {
-		t.Errorf("it ran %d times", ran)
+	alone := ran(pushPull(nil, 0))
+	if members = 20; ran(pushPull(nil, 0)) < alone+9 {
+		t.Errorf("it ran no more than %d times for push/pulls, though there are members", alone)
 	}
 }
 

@@ -53,7 +53,7 @@ type Settings struct {
 // Defaults are the bounds where nothing else is said.
 func Defaults() Settings {
 	return Settings{
-		PacketBytes: 10 << 10, StreamBytes: 4 << 20, AllBytes: 8 << 20, Streams: 128, PushPulls: 16, Nodes: 16384, UserBytes: 64 << 10,
+		PacketBytes: 10 << 10, StreamBytes: 4 << 20, AllBytes: 8 << 20, Streams: 128, PushPulls: 8, Nodes: 16384, UserBytes: 64 << 10,
 		AckBytes: 1024, IndirectPings: 256, Members: 2048,
 		Protocols: VersionRange{memberlist.ProtocolVersionMin, memberlist.ProtocolVersionMax},
 	}

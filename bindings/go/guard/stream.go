@@ -165,6 +165,8 @@ func (s *stream) look() ([]byte, Reason) {
 	s.streams.whole(s)
 	s.streams.hold(s, cap(out)-s.load.bytes)
 	if isPush && !s.isDialed {
+		count, _ := s.members.known("")
+		s.streams.collect(count * nodeBytes)
 		return out, s.streams.push(s)
 	}
 	return out, none

@@ -9,6 +9,10 @@ import (
 // pushTime is how long a push/pull has its place for certain. Behind that it gives way where others wait.
 const pushTime = time.Second
 
+// nodeBytes is how many bytes memberlist takes for each node that it knows, where it answers a push/pull; and as many again, as its text
+// grows.
+const nodeBytes = 256
+
 // load is what a stream holds: bytes, and 1 where it is a push/pull that memberlist has.
 type load struct{ bytes, pushes int }
 
@@ -30,7 +34,7 @@ type streams struct {
 	// changed is closed, and made anew, where there is more room.
 	changed chan struct{}
 
-	// taken is how many bytes were taken since the collector ran for it; collecting is held meanwhile.
+	// taken is how many bytes were taken, and for answers too, since the collector ran for it; collecting is held meanwhile.
 	collecting sync.Mutex
 	taken      int
 }
@@ -124,15 +128,15 @@ func (s *streams) hold(one *stream, more int) Reason {
 	})
 }
 
-// collect has Go's collector run, and waits for it, where streams took twice AllBytes since it last did. (A buffer that grows takes twice
-// its length.) On a busy machine the collector comes late, and what streams gave back would grow meanwhile.
+// collect has Go's collector run, and waits for it, where streams took AllBytes since it last did. (A buffer that grows takes twice its
+// length.) On a busy machine the collector comes late, and what streams gave back would grow meanwhile.
 func (s *streams) collect(more int) {
 	if more <= 0 {
 		return
 	}
 	s.collecting.Lock()
 	defer s.collecting.Unlock()
-	if s.taken += 2 * more; s.taken > 2*s.bounds.AllBytes {
+	if s.taken += 2 * more; s.taken > s.bounds.AllBytes {
 		s.taken = 0
 		runtime.GC()
 	}
