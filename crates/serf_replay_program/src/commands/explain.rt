@@ -8,6 +8,7 @@ use crate::options::{CommandRow, SCHEDULE, rows};
 use crate::progress::{ACTIONS, Progress};
 use clap::ArgMatches;
 use serf_explain::{Range, explain, explain_lines};
+use std::io::Read;
 
 /// What the command takes.
 pub(crate) const COMMAND: CommandRow = CommandRow {
@@ -42,6 +43,12 @@ fn tell_empty(io: Io, range: Range, actions: u64) {
     }
 }
 
+/// Writes the trace of the schedule that is read, with its reasons. Gives how many actions it has.
+fn explain_range<'a, I: Read>(io: Io, reader: &mut I, range: &Range) -> Result<u64, Fault<'a>> {
+    let (mut output, mut progress) = (io.output(), Progress::of(io, ACTIONS));
+    Ok(explain(io.alloc(), reader, &mut output, range, &mut progress)?)
+}
+
 /// Writes what one agent does, which a word names: so the schedule is read whole first. Gives how many actions it has.
 fn explain_agent<'a>(
     io: Io,
@@ -51,9 +58,8 @@ fn explain_agent<'a>(
 ) -> Result<u64, Fault<'a>> {
     let text = source.text()?;
     let agent = agents_of(io.alloc(), &text, &[word])?.first().copied();
-    let (range, mut reader) = (Range { agent, ..range }, text.as_slice());
-    let (mut output, mut progress) = (io.output(), Progress::of(io, ACTIONS));
-    Ok(explain(io.alloc(), &mut reader, &mut output, &range, &mut progress)?)
+    let mut reader = text.as_slice();
+    explain_range(io, &mut reader, &Range { agent, ..range })
 }
 
 /// Whether the words ask for a part of the actions.
@@ -73,14 +79,12 @@ pub(super) fn run<'a>(io: Io, matches: &ArgMatches<'a>) -> Ended<'a> {
     }
     let (mut source, range) = (io.schedule(matches)?, range_of(matches));
     let actions = if is_streamed {
-        source.stream(|alloc, source, output| explain_lines(alloc, source, output))?
+        let mut output = io.output();
+        explain_lines(io.alloc(), &mut source, &mut output)?
     } else if let Some(word) = matches.get_str("agent") {
         explain_agent(io, &mut source, range, word)?
     } else {
-        source.stream(move |alloc, source, output| {
-            let mut progress = Progress::of(io, ACTIONS);
-            explain(alloc, source, output, &range, &mut progress)
-        })?
+        explain_range(io, &mut source, &range)?
     };
     tell_empty(io, range, actions);
     Ok(Status::Done)
