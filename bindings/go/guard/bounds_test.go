@@ -44,9 +44,18 @@ func TestIdleStreams(t *testing.T) {
 	}
 }
 
-// As many push/pulls as may be wait for nobody; one more waits for one that ends, and then for the oldest to give way.
+// As many push/pulls as may be, or as there is room for their answers, wait for nobody; one more waits for one that ends, and then for the
+// oldest to give way.
 func TestPushPulls(t *testing.T) {
-	g := testGuard(t, false, Settings{PushPulls: 2})
+	three := func(string) (int, bool) { return 3, false }
+	for _, settings := range []Settings{{PushPulls: 2}, {StreamBytes: 8000, AllBytes: 8000, Known: three}} {
+		pushPulls(t, settings)
+	}
+}
+
+// pushPulls tries a guard that has two of them go on at once.
+func pushPulls(t *testing.T, settings Settings) {
+	g := testGuard(t, false, settings)
 	whole := pushPull(nil, 0)
 	start := func() (*stream, chan int) {
 		here, there := net.Pipe()
@@ -144,7 +153,7 @@ func TestCollected(t *testing.T) {
 		t.Errorf("it ran %d times for users' messages", of)
 	}
 	alone := ran(pushPull(nil, 0))
-	if members = 20; ran(pushPull(nil, 0)) < alone+9 {
+	if members = 10; ran(pushPull(nil, 0)) < alone+9 {
 		t.Errorf("it ran no more than %d times for push/pulls, though there are members", alone)
 	}
 }

@@ -31,7 +31,8 @@ type Settings struct {
 	// all streams hold together.
 	StreamBytes, AllBytes int
 	// Streams is how many that came are open at once: for one more the oldest goes whose message isn't there. PushPulls is how many of
-	// them memberlist answers with its own state at once. The others wait, within memberlist's time for a stream.
+	// them memberlist answers with its own state at once, and where it knows many nodes as many as take AllBytes, with 1 KiB for a node. The
+	// others wait, within memberlist's time for a stream.
 	Streams, PushPulls int
 	// Nodes is how many entries a push/pull has at most.
 	Nodes int
@@ -53,7 +54,7 @@ type Settings struct {
 // Defaults are the bounds where nothing else is said.
 func Defaults() Settings {
 	return Settings{
-		PacketBytes: 10 << 10, StreamBytes: 4 << 20, AllBytes: 8 << 20, Streams: 128, PushPulls: 8, Nodes: 16384, UserBytes: 64 << 10,
+		PacketBytes: 10 << 10, StreamBytes: 4 << 20, AllBytes: 8 << 20, Streams: 128, PushPulls: 16, Nodes: 16384, UserBytes: 64 << 10,
 		AckBytes: 1024, IndirectPings: 256, Members: 2048,
 		Protocols: VersionRange{memberlist.ProtocolVersionMin, memberlist.ProtocolVersionMax},
 	}

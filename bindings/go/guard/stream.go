@@ -166,8 +166,7 @@ func (s *stream) look() ([]byte, Reason) {
 	s.streams.hold(s, cap(out)-s.load.bytes)
 	if isPush && !s.isDialed {
 		count, _ := s.members.known("")
-		s.streams.collect(count * nodeBytes)
-		return out, s.streams.push(s)
+		return out, s.streams.push(s, count*nodeBytes)
 	}
 	return out, none
 }

@@ -9,16 +9,17 @@ import (
 // pushTime is how long a push/pull has its place for certain. Behind that it gives way where others wait.
 const pushTime = time.Second
 
-// nodeBytes is how many bytes memberlist takes for each node that it knows, where it answers a push/pull; and as many again, as its text
-// grows.
-const nodeBytes = 256
+// nodeBytes is how many bytes memberlist takes at most for each node that it knows, where it answers a push/pull: the nodes, their text as it
+// grows, and that compressed and encrypted.
+const nodeBytes = 1 << 10
 
-// load is what a stream holds: bytes, and 1 where it is a push/pull that memberlist has.
-type load struct{ bytes, pushes int }
+// load is what a stream holds: bytes; and of a push/pull that memberlist has 1, and the bytes that its answer takes.
+type load struct{ bytes, pushes, answers int }
 
 func (l *load) add(other load, sign int) {
 	l.bytes += sign * other.bytes
 	l.pushes += sign * other.pushes
+	l.answers += sign * other.answers
 }
 
 // streams are those that are open, and what they hold.
@@ -110,7 +111,8 @@ func (s *streams) pick(may func(*stream) bool, isBefore func(a, b *stream) bool)
 
 // hold has a stream hold so many bytes more, or fewer. Where there is no room, the unfinished one that holds most goes.
 func (s *streams) hold(one *stream, more int) Reason {
-	s.collect(more)
+	// (a buffer that grows takes twice its length)
+	s.collect(2 * more)
 	return s.await(one, func() bool {
 		if more > 0 && s.all.bytes+more > s.bounds.AllBytes {
 			if s.all.bytes-s.going.bytes+more > s.bounds.AllBytes {
@@ -128,35 +130,42 @@ func (s *streams) hold(one *stream, more int) Reason {
 	})
 }
 
-// collect has Go's collector run, and waits for it, where streams took AllBytes since it last did. (A buffer that grows takes twice its
-// length.) On a busy machine the collector comes late, and what streams gave back would grow meanwhile.
+// collect has Go's collector run, and waits for it, where streams and answers took AllBytes since it last did. On a busy machine the
+// collector comes late, and what they gave back would grow meanwhile.
 func (s *streams) collect(more int) {
 	if more <= 0 {
 		return
 	}
 	s.collecting.Lock()
 	defer s.collecting.Unlock()
-	if s.taken += 2 * more; s.taken > s.bounds.AllBytes {
+	if s.taken += more; s.taken > s.bounds.AllBytes {
 		s.taken = 0
 		runtime.GC()
 	}
 }
 
-// push has a push/pull go on, which memberlist answers. Where there are as many as may be, it waits; the oldest goes for it, once it
-// has had its time.
-func (s *streams) push(one *stream) Reason {
+// hasRoom says whether a push/pull may go on beside these, whose answer takes so many bytes. One by itself may.
+func (s *streams) hasRoom(beside load, answer int) bool {
+	return beside.pushes == 0 || beside.pushes < s.bounds.PushPulls && beside.answers+answer <= s.bounds.AllBytes
+}
+
+// push has a push/pull go on, which memberlist answers with so many bytes. Where there is no room for it, it waits; the oldest goes for it,
+// once it has had its time.
+func (s *streams) push(one *stream, answer int) Reason {
+	s.collect(answer)
 	return s.await(one, func() bool {
-		if s.all.pushes >= s.bounds.PushPulls {
-			if s.all.pushes-s.going.pushes >= s.bounds.PushPulls {
-				s.end(s.pick(func(other *stream) bool { return other.load.pushes > 0 && time.Since(other.pushed) > pushTime },
-					func(a, b *stream) bool { return a.pushed.Before(b.pushed) }))
-			}
-			return false
+		staying := s.all
+		staying.add(s.going, -1)
+		switch {
+		case s.hasRoom(s.all, answer):
+			one.load.pushes, one.load.answers, one.pushed = 1, answer, time.Now()
+			s.all.add(load{pushes: 1, answers: answer}, 1)
+			return true
+		case !s.hasRoom(staying, answer):
+			s.end(s.pick(func(other *stream) bool { return other.load.pushes > 0 && time.Since(other.pushed) > pushTime },
+				func(a, b *stream) bool { return a.pushed.Before(b.pushed) }))
 		}
-		s.all.pushes++
-		one.load.pushes++
-		one.pushed = time.Now()
-		return true
+		return false
 	})
 }
 
