@@ -81,10 +81,20 @@ impl<'a> Source<'a> {
         self
     }
 
-    /// All its bytes.
-    pub(crate) fn text<'b>(&mut self) -> Result<Vec<u8>, Fault<'b>> {
+    /// Does a job that reads it piece by piece, and may write to standard output what comes of each.
+    pub(crate) fn stream<T, E, F>(mut self, job: F) -> Result<T, E>
+    where
+        F: FnOnce(Global, &mut Source<'_>, &mut Output<'_>) -> Result<T, E>,
+        requires { F.IsAlwaysCallable job }
+    {
         let alloc = self.io.alloc();
-        Ok(read_input(alloc, self)?)
+        let mut output = self.io.output();
+        job(alloc, &mut self, &mut output)
+    }
+
+    /// All its bytes.
+    pub(crate) fn text<'b>(self) -> Result<Vec<u8>, Fault<'b>> {
+        Ok(self.stream(|alloc, source, _output| read_input(alloc, source))?)
     }
 }
 

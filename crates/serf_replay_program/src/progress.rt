@@ -10,15 +10,15 @@ const PERIOD_SECONDS: u64 = 1;
 
 /// What a run counts, as its line says it, and for how many of them the clock is read once.
 #[derive(Clone, Copy)]
-pub(crate) struct Counted(&'static str, u64);
+pub(crate) struct Counted<'a>(&'a str, u64);
 
-pub(crate) const ACTIONS: Counted = Counted("actions", 1024);
+pub(crate) const ACTIONS: Counted<'static> = Counted("actions", 1024);
 
-pub(crate) const BYTES: Counted = Counted("bytes are read", 1);
+pub(crate) const BYTES: Counted<'static> = Counted("bytes are read", 1);
 
-pub(crate) const CALLS: Counted = Counted("calls are left out", 1);
+pub(crate) const CALLS: Counted<'static> = Counted("calls are left out", 1);
 
-pub(crate) const SEEDS: Counted = Counted("seeds", 1);
+pub(crate) const SEEDS: Counted<'static> = Counted("seeds", 1);
 
 /// Says which kind of schedules a line speaks of, before the line, where that is to be said.
 pub(crate) fn say_kind(io: Io, kind: Option<&str>) -> io::Result<()> {
@@ -36,9 +36,9 @@ pub(crate) struct Progress<'a> {
     io: Io<'a>,
     /// When a line was shown, or the run began; `None` where nothing is to be shown.
     since: Option<Instant>,
-    counted: Counted,
+    counted: Counted<'a>,
     /// The kind of the schedules that are made, where the line says it.
-    kind: Option<&'static str>,
+    kind: Option<&'a str>,
     /// How many were done before the run that reports it.
     before: u64,
 }
@@ -52,7 +52,7 @@ impl<'a> Progress<'a> {
     }
 
     /// The progress of a run that begins now.
-    pub(crate) fn of(io: Io<'a>, counted: Counted) -> Progress<'a> {
+    pub(crate) fn of(io: Io<'a>, counted: Counted<'static>) -> Progress<'a> {
         let since = if io.is_terminal {
             Instant::now(io.rt).ok()
         } else {

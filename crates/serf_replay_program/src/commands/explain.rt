@@ -8,7 +8,6 @@ use crate::options::{CommandRow, SCHEDULE, rows};
 use crate::progress::{ACTIONS, Progress};
 use clap::ArgMatches;
 use serf_explain::{Range, explain, explain_lines};
-use std::io::Read;
 
 /// What the command takes.
 pub(crate) const COMMAND: CommandRow = CommandRow {
@@ -43,23 +42,18 @@ fn tell_empty(io: Io, range: Range, actions: u64) {
     }
 }
 
-/// Writes the trace of the schedule that is read, with its reasons. Gives how many actions it has.
-fn explain_range<'a, I: Read>(io: Io, reader: &mut I, range: &Range) -> Result<u64, Fault<'a>> {
-    let (mut output, mut progress) = (io.output(), Progress::of(io, ACTIONS));
-    Ok(explain(io.alloc(), reader, &mut output, range, &mut progress)?)
-}
-
 /// Writes what one agent does, which a word names: so the schedule is read whole first. Gives how many actions it has.
 fn explain_agent<'a>(
     io: Io,
-    source: &mut Source,
+    source: Source,
     range: Range,
     word: &'a str,
 ) -> Result<u64, Fault<'a>> {
     let text = source.text()?;
     let agent = agents_of(io.alloc(), &text, &[word])?.first().copied();
-    let mut reader = text.as_slice();
-    explain_range(io, &mut reader, &Range { agent, ..range })
+    let (range, mut reader) = (Range { agent, ..range }, text.as_slice());
+    let (mut output, mut progress) = (io.output(), Progress::of(io, ACTIONS));
+    Ok(explain(io.alloc(), &mut reader, &mut output, &range, &mut progress)?)
 }
 
 /// Whether the words ask for a part of the actions.
@@ -77,14 +71,16 @@ pub(super) fn run<'a>(io: Io, matches: &ArgMatches<'a>) -> Ended<'a> {
         let why = "--stream explains all actions: leave out --agent, --from and --to";
         return Err(command_line(why));
     }
-    let (mut source, range) = (io.schedule(matches)?, range_of(matches));
+    let (source, range) = (io.schedule(matches)?, range_of(matches));
     let actions = if is_streamed {
-        let mut output = io.output();
-        explain_lines(io.alloc(), &mut source, &mut output)?
+        source.stream(|alloc, source, output| explain_lines(alloc, source, output))?
     } else if let Some(word) = matches.get_str("agent") {
-        explain_agent(io, &mut source, range, word)?
+        explain_agent(io, source, range, word)?
     } else {
-        explain_range(io, &mut source, &range)?
+        source.stream(move |alloc, source, output| {
+            let mut progress = Progress::of(io, ACTIONS);
+            explain(alloc, source, output, &range, &mut progress)
+        })?
     };
     tell_empty(io, range, actions);
     Ok(Status::Done)

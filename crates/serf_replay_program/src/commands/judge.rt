@@ -91,8 +91,9 @@ impl Verdicts<'_> {
 
 /// The log of a file, or of standard input where it is `-`.
 fn log_of<'a>(io: Io, file: &'a str, is_alone: bool) -> Result<Log, Fault<'a>> {
-    let mut source = io.source(Some(file))?;
-    read_log(io.alloc(), &mut source).map_err(|fault| match fault {
+    let source = io.source(Some(file))?;
+    let outcome = source.stream(|alloc, source, _output| read_log(alloc, source));
+    outcome.map_err(|fault| match fault {
         StreamFault::ReadFault => Fault::ReadFault(Some(file)),
         StreamFault::LineTooLong { line } => Fault::LongLogLine(
             if is_alone { None } else { Some(file) },

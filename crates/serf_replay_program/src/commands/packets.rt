@@ -53,8 +53,10 @@ impl FramingNotes for Told<'_> {
 
 /// Writes the answer to each line of standard input.
 fn decode_all<'a>(io: Io) -> Ended<'a> {
-    let (mut source, mut output) = (io.source(None)?, io.output());
-    let outcome = decode_lines(io.alloc(), &mut source, &mut output, &mut Told(io));
+    let source = io.source(None)?;
+    let outcome = source.stream(move |alloc, source, output| {
+        decode_lines(alloc, source, output, &mut Told(io))
+    });
     let is_refused = outcome.map_err(|fault| stream_fault(fault, "BadHex"))?;
     Ok(Status::refused_if(is_refused))
 }
@@ -119,8 +121,8 @@ pub(super) fn decode<'a>(io: Io, matches: &ArgMatches<'a>) -> Ended<'a> {
 /// Writes the answer to each text on standard input. One that the end of the input cuts off gets a line on standard
 /// error.
 pub(super) fn encode<'a>(io: Io, _matches: &ArgMatches<'a>) -> Ended<'a> {
-    let (mut source, mut output) = (io.source(None)?, io.output());
-    let outcome = encode_blocks(io.alloc(), &mut source, &mut output);
+    let source = io.source(None)?;
+    let outcome = source.stream(|alloc, source, output| encode_blocks(alloc, source, output));
     let blocks = outcome.map_err(|fault| stream_fault(fault, "BadText"))?;
     if blocks.is_cut {
         let _ = eprintln!(io.rt; "the last text is cut off: its last line has no newline");

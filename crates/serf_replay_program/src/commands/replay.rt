@@ -37,9 +37,9 @@ fn form_of<'a>(matches: &ArgMatches) -> Result<Form, Fault<'a>> {
 
 /// What came of the run of the schedule in a file, or on standard input.
 fn summary_of<'a>(io: Io, matches: &ArgMatches<'a>) -> Result<Summary, Fault<'a>> {
-    let mut source = io.schedule(matches)?;
+    let source = io.schedule(matches)?;
     if matches.get_flag("stream") {
-        return Ok(summarize_lines(io.alloc(), &mut source)?);
+        return Ok(source.stream(|alloc, source, _output| summarize_lines(alloc, source))?);
     }
     let schedule = parse_schedule(io.alloc(), &source.text()?)?;
     Ok(summarize(io.alloc(), schedule, &mut Progress::of(io, ACTIONS))?)
@@ -48,12 +48,13 @@ fn summary_of<'a>(io: Io, matches: &ArgMatches<'a>) -> Result<Summary, Fault<'a>
 /// Writes the trace of the schedule in a file, or on standard input; line by line where that is asked for: then a line that
 /// is bad ends it, after the text of those before.
 fn write_trace<'a>(io: Io, matches: &ArgMatches<'a>) -> Ended<'a> {
-    let (mut source, mut output) = (io.schedule(matches)?, io.output());
+    let source = io.schedule(matches)?;
     if matches.get_flag("stream") {
-        replay_lines(io.alloc(), &mut source, &mut output)?;
+        source.stream(|alloc, source, output| replay_lines(alloc, source, output))?;
     } else {
-        let mut progress = Progress::of(io, ACTIONS);
-        replay(io.alloc(), &mut source, &mut output, &mut progress)?;
+        source.stream(move |alloc, source, output| {
+            replay(alloc, source, output, &mut Progress::of(io, ACTIONS))
+        })?;
     }
     Ok(Status::Done)
 }
