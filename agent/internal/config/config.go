@@ -104,7 +104,7 @@ func Default() Config {
 		RetryInterval: 30 * time.Second, ReconnectInterval: 30 * time.Second, ReconnectTimeout: 24 * time.Hour,
 		TombstoneTimeout: 24 * time.Hour, BroadcastTimeout: 5 * time.Second, Compression: true, UserEventSizeLimit: 512,
 		HandlerTimeout: 10 * time.Minute, RecordSize: 64 << 20, QuerySizeLimit: querySize, QueryResponseSizeLimit: querySize,
-		KeepEventsSize: 32 << 20, MaxMembers: 8192, SyslogFacility: "LOCAL0", Protocol: maxProtocol,
+		KeepEventsSize: 32 << 20, MaxMembers: 4096, SyslogFacility: "LOCAL0", Protocol: maxProtocol,
 	}
 }
 

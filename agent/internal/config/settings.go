@@ -125,7 +125,7 @@ var settings = []setting{
 	{"snapshot", "snapshot_path", "file that keeps clocks and members", false, text(func(c *Config) *string { return &c.Snapshot })},
 	{"keep-events", "keep_events", "keep events in that file too: a restart goes on with them", true, truth(func(c *Config) *bool { return &c.KeepEvents })},
 	{"keep-events-size", "keep_events_size", "bytes of that file that these may have, 33554432", false, number(func(c *Config) *int { return &c.KeepEventsSize })},
-	{"max-members", "max_members", "greatest number of members, above which new ones stay out, 8192", false, number(func(c *Config) *int { return &c.MaxMembers })},
+	{"max-members", "max_members", "greatest number of members, above which new ones stay out, 4096", false, number(func(c *Config) *int { return &c.MaxMembers })},
 	{"record", "record", "file of what comes and goes, as calls and replies", false, text(func(c *Config) *string { return &c.Record })},
 	{"record-size", "record_size", "bytes of that file before it turns over, 67108864", false, number(func(c *Config) *int { return &c.RecordSize })},
 	{"event-handler", "event_handlers", "SCRIPT, or FILTERS=SCRIPT (repeatable)", false, list(func(c *Config) *[]string { return &c.EventHandlers })},

@@ -155,7 +155,7 @@ type Config struct {
 	// no such field.
 	KeepEventsSize int
 
-	// Guard has the bounds of what memberlist is given to read, and of how many members are known (8,192); each that is 0 is that of
+	// Guard has the bounds of what memberlist is given to read, and of how many members are known (4,096); each that is 0 is that of
 	// guard.Defaults. Where MemberlistConfig has a Transport, that is taken, and no guard. Serf has no such field.
 	Guard guard.Settings
 

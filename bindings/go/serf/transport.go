@@ -11,7 +11,7 @@ import (
 )
 
 // mostMembers is how many members are known at most, where Config.Guard says nothing of it.
-const mostMembers = 8192
+const mostMembers = 4096
 
 // guardIt gives memberlist a transport that looks at each packet and stream first, unless the program brought one of its own.
 func (s *Serf) guardIt(conf *memberlist.Config) error {
