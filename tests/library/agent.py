@@ -241,6 +241,11 @@ def main():
     return count.finish()
 
 
+def said_by(name, said):
+    """What a test of Go said."""
+    return said[said.rfind(f"=== RUN   {name}\n") : said.find(f": {name} (")][-2000:]
+
+
 def tested(count, folder, own):
     """Its own tests and those of the package serf, and what they recorded."""
     races.try_reports(count)
@@ -253,7 +258,7 @@ def tested(count, folder, own):
 
     status, said = races.ran(run)
     for end, name in TEST.findall(said):
-        count.check(name, end == "PASS", said[-2000:])
+        count.check(name, end == "PASS", said_by(name, said))
     count.check("they end well, and no line is unformatted or doubtful", status == 0, said[-2000:])
     if not os.path.exists(checks.PROGRAM):
         count.check("the program is built", False, "./prove makes it, and SERF_UNPROVED=1 takes the one that ./serf-replay compiled")

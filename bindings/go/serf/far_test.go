@@ -128,11 +128,28 @@ func flooded(a *one, while time.Duration) {
 	}
 }
 
+// settled waits until a node has taken all that came: nothing waits for a while.
+func settled(t *testing.T, a *one) {
+	t.Helper()
+	calm := 0
+	eventually(t, "what came is taken", func() bool {
+		for _, q := range []*queue{a.packets, a.states} {
+			q.mu.Lock()
+			if calm++; len(q.pieces) > 0 {
+				calm = 0
+			}
+			q.mu.Unlock()
+		}
+		return calm >= 20
+	})
+}
+
 // A flood of times at the bound moves the clocks there. The node goes on, and one that comes then, whose clocks are at their beginning,
-// takes what it fires, and is heard.
+// takes what it fires, and is heard. (What is fired while some of the flood still waits soon is too old for who comes then.)
 func TestWhoComesBehindAFlood(t *testing.T) {
 	a, b := pair(t)
 	flooded(a, time.Second)
+	settled(t, a)
 	eventually(t, "both have the clocks", func() bool {
 		for _, node := range []*one{a, b} {
 			if is := node.clocks(); is.Event < FarTime || is.Query < FarTime || is.Member < FarTime {
