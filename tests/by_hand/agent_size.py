@@ -36,7 +36,9 @@ LIMIT = 300
 
 
 def of_map(pairs):
-    return b"\xde" + struct.pack(">H", len(pairs)) + b"".join(key + value for key, value in pairs)
+    # (the shortest spelling, as memberlist has it)
+    head = bytes([0x80 | len(pairs)]) if len(pairs) < 16 else b"\xde" + struct.pack(">H", len(pairs))
+    return head + b"".join(key + value for key, value in pairs)
 
 
 def raw(data):
