@@ -1,6 +1,7 @@
 package guard
 
 import (
+	"bytes"
 	"fmt"
 	"math/rand"
 	"net"
@@ -50,6 +51,14 @@ func TestPushPulls(t *testing.T) {
 	three := func(string) (int, bool) { return 3, false }
 	for _, settings := range []Settings{{PushPulls: 2}, {StreamBytes: 8000, AllBytes: 8000, Known: three}} {
 		pushPulls(t, settings)
+	}
+}
+
+// One by itself goes on, though its answer takes more than there is room for.
+func TestALongAnswer(t *testing.T) {
+	g := testGuard(t, false, Settings{StreamBytes: 8000, AllBytes: 8000, Known: func(string) (int, bool) { return 100, false }})
+	if whole := pushPull(nil, 0); !bytes.Equal(readStream(g, whole, false), whole) {
+		t.Errorf("it doesn't come: %v", g.Drops())
 	}
 }
 

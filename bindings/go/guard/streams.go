@@ -9,8 +9,8 @@ import (
 // pushTime is how long a push/pull has its place for certain. Behind that it gives way where others wait.
 const pushTime = time.Second
 
-// nodeBytes is how many bytes memberlist takes at most for each node that it knows, where it answers a push/pull: the nodes, their text as it
-// grows, and that compressed and encrypted.
+// nodeBytes is how many bytes memberlist is taken to need for each node that it knows, where it answers a push/pull: the nodes, their text as
+// it grows, and that compressed and encrypted. (A node with long tags needs more.)
 const nodeBytes = 1 << 10
 
 // load is what a stream holds: bytes; and of a push/pull that memberlist has 1, and the bytes that its answer takes.
