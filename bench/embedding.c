@@ -72,7 +72,7 @@ static bool fire(struct serf_agent *agent, size_t number) {
 static bool receive_fresh(struct serf_agent *agent, size_t number) {
     struct serf_agent_event event;
     uint8_t name[64], payload[64];
-    serf_agent_receive(agent, 0, packets[number], lens[number]);
+    serf_agent_receive(agent, 0, packets[number], lens[number], false);
     forget(agent);
     return serf_agent_event(agent, 0, &event, name, sizeof name, payload, sizeof payload) == SERF_AGENT_OK;
 }
@@ -80,7 +80,7 @@ static bool receive_fresh(struct serf_agent *agent, size_t number) {
 /* The calls of a burst from a number on; its outcomes are read once its lines are settled. */
 static void begin_burst(struct serf_agent *agent, size_t first) {
     for (size_t i = 0; i < BURST; i++) {
-        must(serf_agent_burst_receive(agent, 0, packets[first + i], lens[first + i]) == SERF_AGENT_OK, "a call of a burst");
+        must(serf_agent_burst_receive(agent, 0, packets[first + i], lens[first + i], false) == SERF_AGENT_OK, "a call of a burst");
     }
 }
 
@@ -106,7 +106,7 @@ static bool receive_burst(struct serf_agent *agent, size_t number) {
 }
 
 static bool receive_repeated(struct serf_agent *agent, size_t number) {
-    return serf_agent_receive(agent, 0, packets[number], lens[number]) == SERF_AGENT_OK;
+    return serf_agent_receive(agent, 0, packets[number], lens[number], false) == SERF_AGENT_OK;
 }
 
 static bool is_seen(struct serf_agent *agent, size_t number) {
@@ -219,7 +219,7 @@ static void bench_file(const char *folder) {
     open_agent(&one, "c");
     double began = now();
     for (size_t i = 0; i < FLUSHED; i++) {
-        serf_agent_receive(&one, 1, packets[i], lens[i]);
+        serf_agent_receive(&one, 1, packets[i], lens[i], false);
         must(serf_agent_store_settle(&store, &one) == SERF_AGENT_STORE_OK, path);
     }
     printf("handle: receive a fresh event's packet, its line flushed in %s: %.0f ns\n", folder, (now() - began) / FLUSHED);

@@ -3,12 +3,12 @@
    The library holds no file and no socket. A call answers a code, and what it gave is then read by the getters:
    bytes for the host's file, events and a query for the host's handlers, and packets to send.
 
-   1. A call that writes (open, fire, query, receive, receive_tagged, merge, save_member_clock, compact, burst_receive,
-      burst_receive_tagged, burst_fire, burst_query) may leave bytes for the file: serf_agent_unwritten gives them. The
-      host appends them to its file and flushes it (fdatasync); where they replace the file it writes them beside it,
-      flushes, and renames. Then it calls serf_agent_written.
-   2. Until then all other calls but serf_agent_unwritten, gave, close, outcomes and the five serf_agent_burst_.. answer
-      SERF_AGENT_UNWRITTEN, so nothing is handed out whose line isn't durable.
+   1. A call that writes (open, fire, query, receive, merge, save_member_clock, compact, burst_receive, burst_fire,
+      burst_query) may leave bytes for the file: serf_agent_unwritten gives them. The host appends them to its file and
+      flushes it (fdatasync); where they replace the file it writes them beside it, flushes, and renames. Then it calls
+      serf_agent_written.
+   2. Until then all other calls but serf_agent_unwritten, gave, close, outcomes, add_filter and the three
+      serf_agent_burst_.. answer SERF_AGENT_UNWRITTEN, so nothing is handed out whose line isn't durable.
    3. A host whose file failed closes the handle, and opens anew from what the file holds.
 
    What the host owes, and nothing checks:
@@ -28,6 +28,10 @@
 #ifdef __cplusplus
 extern "C" {
 #endif
+
+/* The version of these calls: a host that was written for another one has to be looked through. In version 1 serf_agent_receive
+   and serf_agent_burst_receive had no tags_pass, and a call of their own took it. */
+#define SERF_AGENT_VERSION 2
 
 /* What a call answers. */
 enum serf_agent_code {
@@ -267,13 +271,10 @@ uint32_t serf_agent_written(struct serf_agent *handle);
 /* Fires an event: it is handed out here (serf_agent_event, number 0), and its packet is to be broadcast. */
 uint32_t serf_agent_fire(struct serf_agent *handle, const uint8_t *name, size_t name_len, const uint8_t *payload,
                          size_t payload_len, bool coalesce);
-/* Takes a packet of the network; serf_agent_gave says what came of it. A query that has a tag filter is not handed out. */
-uint32_t serf_agent_receive(struct serf_agent *handle, uint64_t now, const uint8_t *packet, size_t packet_len);
-/* The same, where the host says whether its tags pass every tag filter of the packet's query (serf_agent_query_filters): then
-   the query is handed out where its other filters let this node pass. The agent knows no tags. A tag filter is one whose first
-   byte is 1; the host says true only where it could read each of them and each passes. */
-uint32_t serf_agent_receive_tagged(struct serf_agent *handle, uint64_t now, const uint8_t *packet, size_t packet_len,
-                                   bool tags_pass);
+/* Takes a packet of the network; serf_agent_gave says what came of it. The agent knows no tags: where a query has tag filters
+   (serf_agent_query_filters), which are those whose first byte is 1, the host says whether its tags pass. It says true only
+   where it could read each of them and each passes; then the query is handed out where its other filters let this node pass. */
+uint32_t serf_agent_receive(struct serf_agent *handle, uint64_t now, const uint8_t *packet, size_t packet_len, bool tags_pass);
 /* Merges another agent's whole state. Where it ends with SERF_AGENT_OUT_OF_MEMORY it gives the events that it took before, if
    it was begun: the host writes their lines and hands them out, as ever. Made again it gives the others alone. Where the
    settings keep events and ignore what is old, a join leaves a line of its least time first, so it holds in later lives too. */
@@ -290,7 +291,8 @@ uint32_t serf_agent_add_left(struct serf_agent *handle, const uint8_t *name, siz
 uint32_t serf_agent_query(struct serf_agent *handle, uint64_t now, uint32_t id, const uint8_t *name, size_t name_len,
                           const uint8_t *payload, size_t payload_len, const uint8_t *addr, size_t addr_len,
                           const struct serf_agent_params *params);
-/* Adds a filter to the next query: the bytes of a filter as Serf writes them. */
+/* Adds a filter to the next query: the bytes of a filter as Serf writes them. It may be called while bytes for the file aren't
+   written, and within a burst. */
 uint32_t serf_agent_add_filter(struct serf_agent *handle, const uint8_t *filter, size_t filter_len);
 /* Answers the query of this number; a success spends it. */
 uint32_t serf_agent_respond(struct serf_agent *handle, uint64_t now, uint64_t number, const uint8_t *payload,
@@ -325,20 +327,16 @@ uint32_t serf_agent_compact(struct serf_agent *handle);
    Other calls may be made while outcomes wait, once the host's file has the lines. */
 
 /* Takes a packet as the next call of the burst, as serf_agent_receive does. */
-uint32_t serf_agent_burst_receive(struct serf_agent *handle, uint64_t now, const uint8_t *packet, size_t packet_len);
-/* The same as serf_agent_receive_tagged does: the host says whether its tags pass each tag filter of the packet's query. */
-uint32_t serf_agent_burst_receive_tagged(struct serf_agent *handle, uint64_t now, const uint8_t *packet, size_t packet_len,
-                                         bool tags_pass);
+uint32_t serf_agent_burst_receive(struct serf_agent *handle, uint64_t now, const uint8_t *packet, size_t packet_len,
+                                  bool tags_pass);
 /* Fires an event as the next call of the burst, as serf_agent_fire does. */
 uint32_t serf_agent_burst_fire(struct serf_agent *handle, const uint8_t *name, size_t name_len, const uint8_t *payload,
                                size_t payload_len, bool coalesce);
-/* Fires a query with the filters that serf_agent_burst_filter or serf_agent_add_filter gave since the last that was tried; it
-   forgets them, unless for want of memory. */
+/* Fires a query with the filters that serf_agent_add_filter gave since the last that was tried; it forgets them, unless for
+   want of memory. */
 uint32_t serf_agent_burst_query(struct serf_agent *handle, uint64_t now, uint32_t id, const uint8_t *name, size_t name_len,
                                 const uint8_t *payload, size_t payload_len, const uint8_t *addr, size_t addr_len,
                                 const struct serf_agent_params *params);
-/* Adds a filter to the next query, as serf_agent_add_filter does, also while lines of the burst wait for the file. */
-uint32_t serf_agent_burst_filter(struct serf_agent *handle, const uint8_t *filter, size_t filter_len);
 /* Goes on to the next outcome, and says which code its call answered: the getters read then what that call gave, as after a
    call that stands alone. SERF_AGENT_NOTHING where none is left; what was given before is no longer read. Want of memory
    loses no outcome: it comes by the next try. */

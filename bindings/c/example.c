@@ -116,7 +116,7 @@ static size_t fire(struct node *node, const char *name, const char *payload, uin
 
 static void deliver(struct node *node, uint64_t now, const uint8_t *packet, size_t len) {
     struct serf_agent_gave gave;
-    done(node, "receive", serf_agent_receive(&node->agent, now, packet, len));
+    done(node, "receive", serf_agent_receive(&node->agent, now, packet, len, false));
     done(node, "gave", serf_agent_gave(&node->agent, &gave));
     handle_events(node);
     if (gave.kind == SERF_AGENT_GAVE_IGNORED) {

@@ -136,7 +136,7 @@ static uint32_t respond(uint64_t now, uint64_t query, struct bytes payload) {
         given = &other;
         serf_agent_close(given);
         serf_agent_open(given, name.at, name.len, &settings, NULL, 0);
-        serf_agent_receive(given, one->now, one->packet.at, one->packet.len);
+        serf_agent_receive(given, one->now, one->packet.at, one->packet.len, false);
         serf_agent_written(given);
         code = serf_agent_respond(given, now, 1, payload.at, payload.len);
     }
@@ -170,7 +170,7 @@ static uint32_t called(const char *call, const char **answer, struct bytes *one)
         payload = bytes_of(words[2]);
         return serf_agent_fire(&agent, one->at, one->len, payload.at, payload.len, number_of(3) != 0);
     case 'd':
-        return serf_agent_receive(&agent, number_of(2), one->at, one->len);
+        return serf_agent_receive(&agent, number_of(2), one->at, one->len, false);
     case 'm':
         *answer = "merged";
         return serf_agent_merge(&agent, one->at, one->len, words[2][0] == 'j');

@@ -6,7 +6,8 @@
 folder, and with 8 callers in memory. A line has the median of the rounds, the least and the greatest, how many of the events never came
 on EventCh, and the memory behind 100,000 events.
 
-Then 32 connections fire by the RPC of an agent of either kind, on snapshots.
+Then 32 connections fire by the RPC of an agent, on snapshots: Serf's own, Serf's own program over our package, and ours, each as it is
+where nothing is said of its log (so at info), and with a log of errors alone.
 """
 
 import argparse
@@ -29,7 +30,9 @@ FIRING = os.path.join(kit.TOP, "bindings", "go", "beside_serf", "firing", "main.
 # How many callers, whether on a snapshot, and how many events.
 RUNS = [(1, True, 6000), (8, True, 40000), (32, True, 100000), (8, False, 100000)]
 
-CONNECTIONS, BY_RPC = 32, 50000
+CONNECTIONS, BY_RPC = 32, 100000
+
+LEVELS = ("info", "err")
 
 
 def build(folder, library):
@@ -48,15 +51,24 @@ def fired(program, folder, callers, on_file, events):
     return float(said[0]), events - int(said[1]), int(said[2]) / 1024
 
 
-def by_rpc(programs, kind, agent):
+def by_rpc(programs, agent, level):
     """Events a second by so many connections to an agent, alone on a snapshot."""
-    agent.words = ["-snapshot", agent.snapshot, "-log-level", "err"]
+    agent.words = ["-snapshot", agent.snapshot, "-log-level", level]
     agent.start()
     try:
-        said = subprocess.run([programs[kind], f"rpc:{agent.rpc}", str(CONNECTIONS), str(BY_RPC)], check=True, stdout=subprocess.PIPE, text=True).stdout
+        said = subprocess.run([programs["stock"], f"rpc:{agent.rpc}", str(CONNECTIONS), str(BY_RPC)], check=True, stdout=subprocess.PIPE, text=True).stdout
         return float(said)
     finally:
         agent.end()
+
+
+def by_turns(kinds, rounds, run):
+    """What each kind gave, round for round: all kinds take their turn in each."""
+    found = {kind: [] for kind in kinds}
+    for at in range(1, rounds + 1):
+        for kind in kinds:
+            found[kind].append(run(kind, at))
+    return found
 
 
 def main():
@@ -72,15 +84,17 @@ def main():
     try:
         programs = build(folder, asked.library)
         for callers, on_file, events in RUNS:
-            for kind, program in programs.items():
-                found = [fired(program, folder, callers, on_file, events) for _ in range(asked.rounds)]
-                speeds, lost, memory = zip(*found)
+            found = by_turns(programs, asked.rounds, lambda kind, _: fired(programs[kind], folder, callers, on_file, events))
+            for kind in programs:
+                speeds, lost, memory = zip(*found[kind])
                 where = "on a snapshot" if on_file else "in memory"
                 print(f"{kind}, {callers} callers {where}: {statistics.median(speeds):.0f} events a second ({min(speeds):.0f} to {max(speeds):.0f}), {max(lost)} of {events} never came, {max(memory):.1f} MiB", flush=True)
-        agents = {"stock": ["serf", "agent"], "ours": [kit.build(folder, asked.library, [])]}
-        for kind, program in agents.items():
-            speeds = [by_rpc(programs, kind, Agent(folder, program, f"{kind}{at}", at, net="127.0.10")) for at in range(1, asked.rounds + 1)]
-            print(f"{kind}, {CONNECTIONS} connections by RPC: {statistics.median(speeds):.0f} events a second ({min(speeds):.0f} to {max(speeds):.0f})")
+        over = kit.build_serf(tempfile.mkdtemp(dir=folder), asked.library)
+        agents = {"stock": ["serf", "agent"], "cmd/serf over ours": [over, "agent"], "ours": [kit.build(folder, asked.library, [])]}
+        for level in LEVELS:
+            found = by_turns(agents, asked.rounds, lambda kind, at: by_rpc(programs, Agent(tempfile.mkdtemp(dir=folder), agents[kind], "node", at, net="127.0.10"), level))
+            for kind, speeds in found.items():
+                print(f"{kind}, {CONNECTIONS} connections by RPC, log at {level}: {statistics.median(speeds):.0f} events a second ({min(speeds):.0f} to {max(speeds):.0f})", flush=True)
     finally:
         shutil.rmtree(folder)
     return 0

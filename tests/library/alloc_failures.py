@@ -119,7 +119,6 @@ CALLS = {
     "serf_agent Agent::open": "open_agent",
     "serf_agent Agent::query": "query",
     "serf_agent Agent::receive": "receive_event",
-    "serf_agent Agent::receive_tagged": "receive_query",
     "serf_agent Agent::save_member_clock": "save_member_clock",
     "serf_agent Agent::take_due": "take_due",
     "serf_agent Config::new": "default_config",

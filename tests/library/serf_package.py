@@ -53,8 +53,10 @@ SKIPPED = {"TestCommandRun_mDNS"}
 FAILING = {"TestSerf_Query_sizeLimitIncreased": "it changes the configuration behind Create, which has no effect"}
 
 # How long a pause of Serf's tests is, try by try: they look once behind a pause, which may be too short on a busy machine. Serf's own
-# is 10 milliseconds.
+# is 10 milliseconds, and where a test waits for some probes of memberlist's it is added to them: three of them are hardly as long as
+# it takes to see that a node has failed, so that such a test fails over Serf's own package too.
 PAUSES = ("10ms", "100ms", "400ms", "10ms", "1600ms")
+WAIT = re.compile(r"(\t)(time\.Sleep\(\w+\.MemberlistConfig\.ProbeInterval \* \d+\))")
 
 TEST = re.compile(r"^--- (PASS|FAIL|SKIP): (\S+)", re.M)
 
@@ -192,7 +194,8 @@ def tests_of_package(count, env, folder):
     """Serf's own tests of its package, without those that don't compile over ours: the program that has them, or None."""
     place, program = os.path.join(folder, "go", SERF, "serf"), os.path.join(folder, "serf.test")
     for path in glob.glob(os.path.join(GOCODE, SERF, "serf", "*_test.go")):
-        shutil.copy(path, place)
+        with open(os.path.join(place, os.path.basename(path)), "w", encoding="utf-8") as file:
+            file.write(WAIT.sub(r"\1testutil.Yield(); \2", checks.text_of(path)))
     for _ in range(40):
         status, wrong, said = compiled(env, place, f"{PATH}/serf", program, "-gcflags=-e")
         if status == 0:

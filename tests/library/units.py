@@ -27,6 +27,7 @@ USES = [
     "serf_model",
     "serf_world",
     "serf_schedule",
+    "serf_explain",
     "serf_replay",
     "serf_judge",
 ]

@@ -100,13 +100,13 @@ func starve(third *serfagent.Agent, events [][]byte, load []byte) {
 	for i := 0; i < 2; i++ {
 		var burst serfagent.Burst
 		for _, packet := range events {
-			burst.Receive(5, packet)
+			burst.Receive(5, packet, false)
 		}
-		burst.Receive(5, load)
+		burst.Receive(5, load, false)
 		burst.Fire([]byte("own"), nil, false)
 		filters := [][]byte{[]byte("\x00\x91\xa5" + []string{"other", "third"}[i])}
 		burst.Query(5, 9, []byte("load"), nil, serfagent.QueryParams{Timeout: 9, WantAck: true, Filters: filters})
-		burst.Receive(5, events[0])
+		burst.Receive(5, events[0], false)
 		done(third, &burst)
 	}
 }
@@ -114,21 +114,21 @@ func starve(third *serfagent.Agent, events [][]byte, load []byte) {
 func takeAll(one, other *serfagent.Agent, events [][]byte, load, whole []byte) {
 	var burst serfagent.Burst
 	for _, packet := range [][]byte{events[0], nil, events[1], events[0], []byte("\x03\x81\xa5LTim"), load, {0}, whole} {
-		burst.Receive(5, packet)
+		burst.Receive(5, packet, false)
 	}
 	burst.Fire([]byte("own"), nil, false)
 	burst.Fire(make([]byte, 600), nil, false)
 	burst.Query(5, 9, []byte("load"), nil, serfagent.QueryParams{WantAck: true})
 	filters := [][]byte{[]byte("\x00\x91\xa5other")}
 	burst.Query(5, 9, []byte("load"), nil, serfagent.QueryParams{Timeout: 9, WantAck: true, Filters: filters})
-	burst.Receive(5, events[2])
+	burst.Receive(5, events[2], false)
 	outcomes := done(other, &burst)
 	reply, err := other.Respond(5, outcomes[5].Received.Query.Number, []byte("yes"))
 	check(err)
 	burst.Reset()
 	done(one, &burst)
-	burst.Receive(5, reply)
-	burst.Receive(5, reply)
+	burst.Receive(5, reply, false)
+	burst.Receive(5, reply, false)
 	for i := 0; i < 5; i++ {
 		burst.Fire([]byte("again"), nil, false)
 	}

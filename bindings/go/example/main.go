@@ -56,7 +56,7 @@ func (n *node) fire(name, payload string) []byte {
 }
 
 func (n *node) deliver(now uint64, packet []byte) {
-	received, err := n.agent.Receive(now, packet)
+	received, err := n.agent.Receive(now, packet, false)
 	check(err)
 	switch {
 	case received.Event != nil:
@@ -72,7 +72,7 @@ func (n *node) deliver(now uint64, packet []byte) {
 func (n *node) ask(other *node, now uint64, name, answer string) {
 	asked, err := n.agent.Query(now, 7, []byte(name), nil, serfagent.QueryParams{Timeout: 1000, WantAck: true})
 	check(err)
-	received, err := other.agent.Receive(now, asked.Packet)
+	received, err := other.agent.Receive(now, asked.Packet, false)
 	check(err)
 	n.deliver(now, received.Ack)
 	response, err := other.agent.Respond(now, received.Query.Number, []byte(answer))

@@ -64,7 +64,7 @@ func Proved(agent *serfagent.Agent) Agent { return &proved{Agent: agent} }
 func (p *proved) TakeAll(now uint64, packets []Packet, firings []Firing) ([]serfagent.Outcome, error) {
 	p.burst.Reset()
 	for _, one := range packets {
-		p.burst.ReceiveTagged(now, one.Data, one.TagsPass)
+		p.burst.Receive(now, one.Data, one.TagsPass)
 	}
 	for _, one := range firings {
 		p.burst.Fire(one.Name, one.Payload, one.Coalesce)

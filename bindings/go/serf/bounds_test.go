@@ -102,8 +102,11 @@ func TestBounds(t *testing.T) {
 	for i := 0; i < 2*Waiting; i++ {
 		must(t, a.UserEvent("x", nil, false))
 	}
-	if events := a.Serf.events.NumQueued(); events > Waiting {
-		t.Error(events)
+	a.Serf.events.mu.Lock()
+	fresh := len(a.Serf.events.fresh)
+	a.Serf.events.mu.Unlock()
+	if events := a.Serf.events.NumQueued(); fresh > Waiting || events > Waiting {
+		t.Error(fresh, events)
 	}
 	waiting := newLines()
 	for i := 0; i < 2*maxLines; i++ {
@@ -308,16 +311,35 @@ func TestFiringsShareAFlush(t *testing.T) {
 	eventually(t, "all are handed out", func() bool { return len(a.got("x")) == 100 })
 }
 
-// Those whom a flush told are waited for until they are back, if they are mostly back sooner than another flush would be over.
+// What was fired waits to be gossiped once its call returns: else the others had it by an exchange of states alone.
+func TestWhatIsFiredIsGossiped(t *testing.T) {
+	a := start(t, "a", "")
+	for i := 1; i <= 3; i++ {
+		if err := a.UserEvent("deploy", nil, false); err != nil || a.events.NumQueued() != i {
+			t.Fatalf("%v, and %d wait to be gossiped, not %d", err, a.events.NumQueued(), i)
+		}
+	}
+}
+
+// Those whom a flush told are waited for until they are back, if they are mostly back sooner than another flush would be over. Where others
+// waited then, all together would take longer to be back.
 func TestWhoIsWaitedFor(t *testing.T) {
 	const flush = time.Hour
-	f, told := newFirings(), []*firing{{isDone: make(chan struct{}, 9)}, {isDone: make(chan struct{}, 9)}}
+	f, told := newFirings(), []*firing{{isDone: make(chan struct{}, 99)}, {isDone: make(chan struct{}, 99)}}
 	for _, one := range []struct {
 		sinceTold time.Duration
+		others    int
 		isAwaited bool
-	}{{0, true}, {0, true}, {2 * flush, true}, {2 * flush, true}, {flush, false}, {0, false}, {0, true}} {
+	}{
+		{0, 0, true}, {0, 0, true}, {2 * flush, 0, true}, {2 * flush, 0, true}, {flush, 0, false}, {0, 0, false}, {flush / 4, 0, true}, {flush / 4, 0, true},
+		{flush / 2, 2, true}, {flush / 2, 2, true}, {flush / 2, 2, true}, {1 << 62, 2, true}, {flush, 200, false}, {0, 0, false}, {0, 200, true},
+	} {
 		if f.patience() != 0 {
 			t.Error("nobody is missing")
+		}
+		f.first(Burst)
+		for i := 0; i < one.others; i++ {
+			f.add(&firing{})
 		}
 		f.done(told, flush)
 		if left := f.patience(); left > gatherTime || (left > 0) != one.isAwaited {

@@ -1,6 +1,7 @@
 package serf
 
 import (
+	"sync"
 	"time"
 
 	"github.com/hashicorp/memberlist"
@@ -49,7 +50,7 @@ func (d delegate) MergeRemoteState(state []byte, isJoin bool) {
 // to what comes behind them, so that no flood of one kind holds the others up.
 func (d delegate) GetBroadcasts(overhead, limit int) [][]byte {
 	var all [][]byte
-	queues := []*memberlist.TransmitLimitedQueue{d.Serf.intents, d.Serf.queries, d.Serf.events}
+	queues := []*memberlist.TransmitLimitedQueue{d.Serf.intents.settle(), d.Serf.queries.settle(), d.Serf.events.settle()}
 	for i, queue := range queues {
 		room := limit
 		for _, later := range queues[i+1:] {
@@ -184,23 +185,66 @@ func (b *broadcast) Finished() {
 // UniqueBroadcast marks it for memberlist, which then doesn't look through all that wait.
 func (b *broadcast) UniqueBroadcast() {}
 
-// gossip queues a packet. Where too many wait, those that were sent most often are dropped, and so is one that is too long to be sent at
-// all.
-func (s *Serf) gossip(queue *memberlist.TransmitLimitedQueue, packet []byte, sent chan struct{}) {
-	one := &broadcast{packet, sent}
-	if len(packet) > s.longest {
-		s.dropped.Add(1)
-		one.Finished()
-		return
+// broadcasts are packets that wait to be gossiped. What came since memberlist last asked stands in front of its queue: to go in there
+// takes longer than all else that is done for an event that is fired.
+type broadcasts struct {
+	serf *Serf
+
+	mu    sync.Mutex
+	fresh []*broadcast
+	// settling is held while what is fresh goes into the queue.
+	settling sync.Mutex
+	queue    memberlist.TransmitLimitedQueue
+}
+
+// add queues packets, without those that are too long to be sent at all. Where there are too many that are fresh, the oldest are dropped.
+func (b *broadcasts) add(all ...broadcast) {
+	most := b.serf.mostQueued()
+	b.mu.Lock()
+	defer b.mu.Unlock()
+	for i := range all {
+		if len(all[i].packet) > b.serf.longest {
+			b.drop(&all[i])
+		} else {
+			b.fresh = append(b.fresh, &all[i])
+		}
 	}
-	s.gossiping.Lock()
-	defer s.gossiping.Unlock()
-	queue.QueueBroadcast(one)
-	most := s.mostQueued()
-	if over := queue.NumQueued() - most; over > 0 {
-		queue.Prune(most)
-		s.dropped.Add(int64(over))
+	for ; len(b.fresh) > most; b.fresh = b.fresh[1:] {
+		b.drop(b.fresh[0])
+		b.fresh[0] = nil
 	}
+}
+
+func (b *broadcasts) drop(one *broadcast) {
+	one.Finished()
+	b.serf.dropped.Add(1)
+}
+
+// settle has what is fresh go into memberlist's queue. Where too many wait there, those that were sent most often are dropped.
+func (b *broadcasts) settle() *memberlist.TransmitLimitedQueue {
+	b.settling.Lock()
+	defer b.settling.Unlock()
+	b.mu.Lock()
+	fresh := b.fresh
+	b.fresh = nil
+	b.mu.Unlock()
+	for _, one := range fresh {
+		b.queue.QueueBroadcast(one)
+	}
+	most := b.serf.mostQueued()
+	if over := b.queue.NumQueued() - most; over > 0 {
+		b.queue.Prune(most)
+		b.serf.dropped.Add(int64(over))
+	}
+	return &b.queue
+}
+
+// NumQueued is how many wait.
+func (b *broadcasts) NumQueued() int { return b.settle().NumQueued() }
+
+// gossip queues a packet.
+func (s *Serf) gossip(queue *broadcasts, packet []byte, sent chan struct{}) {
+	queue.add(broadcast{packet, sent})
 }
 
 // mostQueued is how many packets may wait to be sent.
@@ -224,7 +268,7 @@ func (s *Serf) checkQueues() {
 			return
 		case <-ticker.C:
 		}
-		for name, queue := range map[string]*memberlist.TransmitLimitedQueue{"Intent": s.intents, "Event": s.events, "Query": s.queries} {
+		for name, queue := range map[string]*broadcasts{"Intent": s.intents, "Event": s.events, "Query": s.queries} {
 			depth := queue.NumQueued()
 			sample(depth, []string{"serf", "queue", name})
 			if depth >= s.config.QueueDepthWarning && depth > 0 {

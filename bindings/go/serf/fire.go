@@ -3,29 +3,23 @@ package serf
 import (
 	"errors"
 	"fmt"
-	"runtime"
 	"sync"
 	"time"
 
 	"kitchenrue.example/serfagent"
 )
 
-// spinTime is how long those who were told of a flush just now are waited for without a sleep, since who calls in a loop is back sooner; and
-// gatherTime how long at most.
-const (
-	spinTime   = 20 * time.Microsecond
-	gatherTime = 5 * time.Millisecond
-)
+// gatherTime is how long those who were told of a flush are waited for at most.
+const gatherTime = 5 * time.Millisecond
 
 // firing is an event that is to be fired. What came of it is there when it is done.
 type firing struct {
 	Firing
 
 	isDone chan struct{}
-	// The event's time and its packet, or why it wasn't fired.
-	time   LamportTime
-	packet []byte
-	err    error
+	// The event's time, or why it wasn't fired.
+	time LamportTime
+	err  error
 }
 
 // firingsOver are firings that are over: another event takes the place of each.
@@ -37,10 +31,11 @@ type firings struct {
 	waiting []*firing
 	// isBusy: somebody fires what waits. isOver: no more are taken.
 	isBusy, isOver bool
-	// told is when some were told last, of whom missing didn't fire again yet. took is how long their flush took, and back how long it
-	// takes, by the last times, until all of them fire again.
+	// told is when some were told last, of whom missing didn't fire again yet: so many, of so many with those who waited then. took is
+	// how long their flush took, and back how long it would take, by the last times, until all fire again who were told at once.
 	told       time.Time
 	missing    int
+	some, all  int
 	took, back time.Duration
 	// areBack has something where nobody is missing any more.
 	areBack chan struct{}
@@ -80,12 +75,17 @@ func (f *firings) pass() {
 	}
 }
 
-// learn notes how long those who were told last took to fire again, or took at least. mu is held.
+// learn notes how long those who were told last took to fire again, or took at least. Where others waited all together would take as much
+// longer as they are more, and it counts the less. mu is held.
 func (f *firings) learn(length time.Duration) {
-	if most := 2 * f.took; length > most {
+	some, all, most := time.Duration(f.some), time.Duration(f.all), 2*f.took
+	if length < most {
+		length = length * all / some
+	}
+	if length > most {
 		length = most
 	}
-	f.back = (3*f.back + length) / 4
+	f.back += (length - f.back) * some / (4 * all)
 }
 
 // patience is for how long those are waited for who are missing. If all of them are back before the flush of the others would be over, one
@@ -109,7 +109,7 @@ func (f *firings) done(told []*firing, took time.Duration) {
 	if f.missing > 0 {
 		f.learn(time.Since(f.told))
 	}
-	f.told, f.missing, f.took = time.Now(), len(told), took
+	f.told, f.missing, f.some, f.all, f.took = time.Now(), len(told), len(told), len(told)+len(f.waiting), took
 	f.mu.Unlock()
 	for _, one := range told {
 		one.isDone <- struct{}{}
@@ -173,11 +173,6 @@ func (s *Serf) takeFirings() {
 
 // gather waits until all wait again whom a flush has just told, where that is worth it.
 func (s *Serf) gather() {
-	for began := time.Now(); time.Since(began) < spinTime; runtime.Gosched() {
-		if s.firings.patience() <= 0 {
-			return
-		}
-	}
 	for left := s.firings.patience(); left > 0; left = s.firings.patience() {
 		late := time.NewTimer(left)
 		select {
@@ -222,7 +217,7 @@ func (s *Serf) Fire(name string, payload []byte, coalesce bool) (LamportTime, er
 	}
 }
 
-// fired waits until an event is fired, and queues its packet: why it wasn't.
+// fired waits until an event is fired: why it wasn't.
 func (s *Serf) fired(one *firing) error {
 	leads, is := s.firings.add(one)
 	if !is {
@@ -232,10 +227,6 @@ func (s *Serf) fired(one *firing) error {
 		s.takeFirings()
 	}
 	<-one.isDone
-	if one.err == nil {
-		s.gossip(s.events, one.packet, nil)
-	}
-	one.packet = nil
 	return one.err
 }
 

@@ -102,9 +102,8 @@ type Serf struct {
 	internal  chan *serfagent.Handed
 	conflicts chan struct{}
 
-	// gossiping is held while a packet is queued for broadcast. longest is how long one is at most that memberlist can gossip.
-	gossiping                sync.Mutex
-	intents, queries, events *memberlist.TransmitLimitedQueue
+	// What waits to be gossiped; longest is how long a packet is at most that memberlist can gossip.
+	intents, queries, events *broadcasts
 	longest                  int
 	// turns counts how often packets of a queue were longer than half of the room.
 	turns atomic.Uint64
@@ -252,8 +251,8 @@ func (s *Serf) listen() error {
 	if err := s.guardIt(conf); err != nil {
 		return err
 	}
-	for _, queue := range []**memberlist.TransmitLimitedQueue{&s.intents, &s.queries, &s.events} {
-		*queue = &memberlist.TransmitLimitedQueue{RetransmitMult: conf.RetransmitMult, NumNodes: s.members.size}
+	for _, queue := range []**broadcasts{&s.intents, &s.queries, &s.events} {
+		*queue = &broadcasts{serf: s, queue: memberlist.TransmitLimitedQueue{RetransmitMult: conf.RetransmitMult, NumNodes: s.members.size}}
 	}
 	list, err := memberlist.Create(conf)
 	if err != nil {

@@ -193,26 +193,36 @@ func (s *Serf) makeBurst(packets []Packet) ([]serfagent.Outcome, error) {
 	took := time.Since(began)
 	metrics.MeasureSince(appendKey, began)
 	sample(len(packets)+len(firings), burstKey)
-	for i, outcome := range outcomes {
-		if i < len(packets) && outcome.Received != nil {
-			s.hand(outcome.Received.Event)
-			s.handQuery(outcome.Received.Query)
-			s.counted(outcome.Received)
-		}
-	}
-	for i, one := range firings {
-		one.err = err
-		if at := len(packets) + i; at < len(outcomes) {
-			one.err = outcomes[at].Err
-			if fired := outcomes[at].Fired; fired != nil {
-				one.time, one.packet = LamportTime(fired.Event.Time), fired.Packet
-				s.hand(fired.Event)
-			}
+	s.noteFired(firings, outcomes, len(packets), err)
+	// (who was told fires again soon, beside what is still done here)
+	s.firings.done(firings, took)
+	for _, outcome := range outcomes {
+		if received := outcome.Received; received != nil {
+			s.hand(received.Event)
+			s.handQuery(received.Query)
+			s.counted(received)
+		} else if outcome.Fired != nil {
+			s.hand(outcome.Fired.Event)
 		}
 	}
 	s.handOver()
-	s.firings.done(firings, took)
 	return outcomes, err
+}
+
+// noteFired notes what came of firings, whose outcomes stand behind so many others, and queues their packets. order is held.
+func (s *Serf) noteFired(firings []*firing, outcomes []serfagent.Outcome, behind int, err error) {
+	sent := make([]broadcast, 0, len(firings))
+	for i, one := range firings {
+		one.err = err
+		if at := behind + i; at < len(outcomes) {
+			one.err = outcomes[at].Err
+			if fired := outcomes[at].Fired; fired != nil {
+				one.time = LamportTime(fired.Event.Time)
+				sent = append(sent, broadcast{fired.Packet, nil})
+			}
+		}
+	}
+	s.events.add(sent...)
 }
 
 // takeIntent takes an intent. The error says that nothing more can be taken.

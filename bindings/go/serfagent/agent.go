@@ -246,18 +246,13 @@ func answer(packet []byte) (*Answer, error) {
 	return &Answer{uint64(about.time), uint32(about.id), from, payload}, nil
 }
 
-// Receive takes a packet of the network. A query that has a tag filter is not handed out.
-func (a *Agent) Receive(now uint64, packet []byte) (*Received, error) {
-	return a.ReceiveTagged(now, packet, false)
-}
-
-// ReceiveTagged takes a packet where the host says whether its tags pass every tag filter of the packet's query, as FiltersOf
-// gives them: then the query is handed out where its other filters let this node pass. Say true only where each of them could
-// be read and passes.
-func (a *Agent) ReceiveTagged(now uint64, packet []byte, tagsPass bool) (*Received, error) {
+// Receive takes a packet of the network, where the host says whether its tags pass every tag filter of the packet's query, as
+// FiltersOf gives them: then the query is handed out where its other filters let this node pass. Say true only where each of
+// them could be read and passes; a host without tags says false.
+func (a *Agent) Receive(now uint64, packet []byte, tagsPass bool) (*Received, error) {
 	a.mu.Lock()
 	defer a.mu.Unlock()
-	code := C.serf_agent_receive_tagged(a.handle, C.uint64_t(now), ptr(packet), size(packet), C.bool(tagsPass))
+	code := C.serf_agent_receive(a.handle, C.uint64_t(now), ptr(packet), size(packet), C.bool(tagsPass))
 	if err := a.settled(code); err != nil {
 		return nil, err
 	}

@@ -98,13 +98,9 @@ const (
 	asks
 )
 
-// Receive adds a packet of the network, which comes at a moment.
-func (b *Burst) Receive(now uint64, packet []byte) {
-	b.calls = append(b.calls, burstCall{kind: receives, now: now, packet: packet})
-}
-
-// ReceiveTagged adds a packet of the network, with what the host says of tag filters, as Agent.ReceiveTagged has it.
-func (b *Burst) ReceiveTagged(now uint64, packet []byte, tagsPass bool) {
+// Receive adds a packet of the network, which comes at a moment, with what the host says of tag filters, as Agent.Receive has
+// it.
+func (b *Burst) Receive(now uint64, packet []byte, tagsPass bool) {
 	b.calls = append(b.calls, burstCall{kind: receives, now: now, packet: packet, tagsPass: tagsPass})
 }
 
@@ -239,9 +235,11 @@ const sharedRoom = 1 << 10
 // readAll reads what came of events that were fired.
 func (a *Agent) readAll(calls []burstCall, found []Outcome) ([]Outcome, error) {
 	many := &a.many
-	if room := 2*many.of(calls) + packetRoom*len(calls); room > len(many.texts) {
+	room := 2*many.of(calls) + packetRoom*len(calls)
+	if room > cap(many.texts) {
 		many.texts = make([]byte, room)
 	}
+	many.texts = many.texts[:room]
 	done := C.read_all(a.handle, &many.all[0], C.size_t(len(calls)), ptr(many.texts), packetRoom)
 	a.unread, a.place = a.unread[done.count:], a.place+int(done.count)
 	rest, shared := many.texts, []byte(nil)
@@ -284,11 +282,11 @@ func roomFor(length, events int) int {
 // makeOne makes a call of a burst that is no firing.
 func (a *Agent) makeOne(call *burstCall) C.uint32_t {
 	if call.kind == receives {
-		return C.serf_agent_burst_receive_tagged(a.handle, C.uint64_t(call.now), ptr(call.packet), size(call.packet), C.bool(call.tagsPass))
+		return C.serf_agent_burst_receive(a.handle, C.uint64_t(call.now), ptr(call.packet), size(call.packet), C.bool(call.tagsPass))
 	}
 	for _, filter := range call.params.Filters {
 		a.staleFilters = true
-		if code := C.serf_agent_burst_filter(a.handle, ptr(filter), size(filter)); code != C.SERF_AGENT_OK {
+		if code := C.serf_agent_add_filter(a.handle, ptr(filter), size(filter)); code != C.SERF_AGENT_OK {
 			return code
 		}
 	}

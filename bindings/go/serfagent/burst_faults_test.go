@@ -40,7 +40,7 @@ func TestABurstBehindOneThatNobodyRead(t *testing.T) {
 	defer agent.Close()
 	var burst Burst
 	burst.Fire([]byte("x"), nil, false)
-	burst.Receive(1, nil)
+	burst.Receive(1, nil, false)
 	if fault := agent.makeAll(burst.calls); fault != nil || agent.settled(0) != nil {
 		t.Fatal(fault)
 	}

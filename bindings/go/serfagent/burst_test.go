@@ -42,10 +42,10 @@ func TestABurstIsItsCallsInOrder(t *testing.T) {
 	_, packet, err := one.Fire([]byte("deploy"), nil, false)
 	must(t, err)
 	var burst Burst
-	burst.Receive(1, packet)
-	burst.Receive(1, packet[:len(packet)-1])
+	burst.Receive(1, packet, false)
+	burst.Receive(1, packet[:len(packet)-1], false)
 	burst.Fire([]byte("own"), nil, false)
-	burst.Receive(1, packet)
+	burst.Receive(1, packet, false)
 	if burst.Len() != 4 {
 		t.Error(burst.Len())
 	}
@@ -94,7 +94,7 @@ func TestTextsOfEveryLength(t *testing.T) {
 		if err != nil || !bytes.Equal(event.Name, name) || !bytes.Equal(event.Payload, payload) {
 			t.Fatal(lengths, err)
 		}
-		received, err := other.Receive(0, packet)
+		received, err := other.Receive(0, packet, false)
 		if err != nil || received.Event == nil || !bytes.Equal(received.Event.Name, name) || !bytes.Equal(received.Event.Payload, payload) {
 			t.Fatal(lengths, received, err)
 		}

@@ -36,7 +36,7 @@ func Example() {
 		}
 		for life := 1; life <= 2; life++ {
 			beta := mustOpen("beta", filepath.Join(folder, "beta.snapshot"))
-			received, err := beta.Receive(uint64(life), packet)
+			received, err := beta.Receive(uint64(life), packet, false)
 			if err != nil {
 				log.Fatal(err)
 			}
@@ -92,7 +92,7 @@ func ExampleAgent_Query() {
 		if err != nil {
 			log.Fatal(err)
 		}
-		received, err := beta.Receive(1, asked.Packet)
+		received, err := beta.Receive(1, asked.Packet, false)
 		if err != nil {
 			log.Fatal(err)
 		}
@@ -100,7 +100,7 @@ func ExampleAgent_Query() {
 		if err != nil {
 			log.Fatal(err)
 		}
-		if _, err := alpha.Receive(3, answer); err != nil {
+		if _, err := alpha.Receive(3, answer, false); err != nil {
 			log.Fatal(err)
 		}
 		closed, err := alpha.CloseDue(1002)

@@ -5,7 +5,7 @@ import "C"
 
 import "encoding/binary"
 
-// TagFilter is the first byte of a filter that asks for a tag. The agent knows no tags: see Agent.ReceiveTagged.
+// TagFilter is the first byte of a filter that asks for a tag. The agent knows no tags: see Agent.Receive.
 const TagFilter = 1
 
 // FilterByNames is a filter that the nodes of these names pass, for QueryParams.

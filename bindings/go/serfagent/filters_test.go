@@ -33,12 +33,12 @@ func TestWhatTheHostSaysOfTags(t *testing.T) {
 			if found, err := FiltersOf(first); err != nil || !reflect.DeepEqual(found, filters) {
 				t.Errorf("%q: %q %v", one.filters, found, err)
 			}
-			received, err := agent.ReceiveTagged(1, first, passes)
+			received, err := agent.Receive(1, first, passes)
 			if err != nil || received.Kind != NewQuery || (received.Query != nil) != one.handed[i] {
 				t.Errorf("%q, %v: %v %v", one.filters, passes, received, err)
 			}
 			var burst Burst
-			burst.ReceiveTagged(1, packet(), passes)
+			burst.Receive(1, packet(), passes)
 			outcomes, err := agent.Burst(&burst)
 			if err != nil || (outcomes[0].Received.Query != nil) != one.handed[i] {
 				t.Errorf("%q, %v, in a burst: %v %v", one.filters, passes, outcomes, err)
@@ -55,7 +55,7 @@ func TestWhatTheHostSaysOfTags(t *testing.T) {
 				t.Errorf("its own of %q, %v, in a burst: %v %v", one.filters, passes, outcomes, err)
 			}
 		}
-		received, err := agent.Receive(1, packet())
+		received, err := agent.Receive(1, packet(), false)
 		if err != nil || (received.Query != nil) != one.handed[0] {
 			t.Errorf("%q, and nothing is said: %v %v", one.filters, received, err)
 		}

@@ -34,7 +34,7 @@ func life(t *testing.T, path string, keeps bool, packets [10][]byte, times ...in
 	agent := openKeeping(t, path, keeps)
 	defer agent.Close()
 	for i, time := range times {
-		received, err := agent.Receive(1, packets[time])
+		received, err := agent.Receive(1, packets[time], false)
 		must(t, err)
 		what := map[Reason]string{0: "new", Seen: "seen", BelowMinimum: "below"}[received.Reason]
 		if what == "new" && (received.Event == nil || received.Event.Time != uint64(time)) {
@@ -132,7 +132,7 @@ func TestABurstIsKept(t *testing.T) {
 	agent := openKeeping(t, path, true)
 	var burst Burst
 	for _, time := range []int{3, 2, 3} {
-		burst.Receive(1, packets[time])
+		burst.Receive(1, packets[time], false)
 	}
 	if outcomes, err := agent.Burst(&burst); err != nil || len(outcomes) != 3 || agent.Flushes() != 1 {
 		t.Error(outcomes, err, agent.Flushes())

@@ -80,7 +80,7 @@ func main() {
 	merge(other, whole)
 	merge(other, whole)
 	query(other, "a")
-	_, err = other.Receive(1, load.Packet)
+	_, err = other.Receive(1, load.Packet, false)
 	check(err)
 	query(other, "b")
 	query(other, "c")

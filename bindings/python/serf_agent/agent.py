@@ -330,7 +330,7 @@ class Agent:
         """
         with self._alone():
             passing = flag("tags_pass", tags_pass)
-            self._do("receive_tagged", self._moment(now), *texts(packet=packet), passing)
+            self._do("receive", self._moment(now), *texts(packet=packet), passing)
             return self._received(packet)
 
     def fire(self, name: Buffer, payload: Buffer = b"", coalesce: bool = False) -> Fired:

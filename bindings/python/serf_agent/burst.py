@@ -66,7 +66,7 @@ class Burst:
         """Takes a packet of the network, as ``Agent.receive`` does."""
         passing = flag("tags_pass", tags_pass)
         moment, (own, length) = self._agent._moment(now), texts(packet=packet)
-        self._calls.append(Call("burst_receive_tagged", (moment, own, length, passing), lambda agent: agent._received(own)))
+        self._calls.append(Call("burst_receive", (moment, own, length, passing), lambda agent: agent._received(own)))
 
     def fire(self, name: Buffer, payload: Buffer = b"", coalesce: bool = False) -> None:
         """Fires an event."""
@@ -119,7 +119,7 @@ class Burst:
         agent = self._agent
         agent._stale_filters = bool(call.filters)
         for one in call.filters:
-            agent._call("burst_filter", *one)
+            agent._call("add_filter", *one)
         code = getattr(agent._library, call.name)(agent._handle, *call.words)
         if code in (Code.OUT_OF_MEMORY, Code.EMPTY):
             raise AgentError(code)

@@ -63,11 +63,11 @@ fn done(agent: &mut Agent, calls: &[Call]) -> Result<Vec<CallOutcome>, Error> {
 fn starve(third: &mut Agent, events: &[Vec<u8>], load: &[u8]) -> Result<(), Error> {
     for filter in [b"\0\x91\xa5other", b"\0\x91\xa5third"] {
         let params = QueryParams { timeout: 9, want_ack: true, filters: vec![filter.to_vec()], ..QueryParams::default() };
-        let mut calls: Vec<_> = events.iter().map(|packet| Call::Receive { now: 5, packet }).collect();
-        calls.push(Call::Receive { now: 5, packet: load });
+        let mut calls: Vec<_> = events.iter().map(|packet| Call::Receive { now: 5, packet, tags_pass: false }).collect();
+        calls.push(Call::Receive { now: 5, packet: load, tags_pass: false });
         calls.push(Call::Fire { name: b"own", payload: b"", coalesce: false });
         calls.push(Call::Query { now: 5, id: 9, name: b"load", payload: b"", params: &params });
-        calls.push(Call::Receive { now: 5, packet: &events[0] });
+        calls.push(Call::Receive { now: 5, packet: &events[0], tags_pass: false });
         done(third, &calls)?;
     }
     Ok(())
@@ -77,12 +77,12 @@ fn take_all(one: &mut Agent, other: &mut Agent, events: &[Vec<u8>], load: &[u8],
     let no_time = QueryParams { want_ack: true, ..QueryParams::default() };
     let params = QueryParams { timeout: 9, filters: vec![b"\0\x91\xa5other".to_vec()], ..no_time.clone() };
     let packets = [&events[0], &b""[..], &events[1], &events[0], b"\x03\x81\xa5LTim", load, b"\0", whole];
-    let mut calls: Vec<_> = packets.into_iter().map(|packet| Call::Receive { now: 5, packet }).collect();
+    let mut calls: Vec<_> = packets.into_iter().map(|packet| Call::Receive { now: 5, packet, tags_pass: false }).collect();
     calls.push(Call::Fire { name: b"own", payload: b"", coalesce: false });
     calls.push(Call::Fire { name: &[0; 600], payload: b"", coalesce: false });
     calls.push(Call::Query { now: 5, id: 9, name: b"load", payload: b"", params: &no_time });
     calls.push(Call::Query { now: 5, id: 9, name: b"load", payload: b"", params: &params });
-    calls.push(Call::Receive { now: 5, packet: &events[2] });
+    calls.push(Call::Receive { now: 5, packet: &events[2], tags_pass: false });
     let outcomes = done(other, &calls)?;
     let number = outcomes.iter().find_map(|outcome| match outcome {
         CallOutcome::Received(received) => match &received.outcome {
@@ -93,7 +93,7 @@ fn take_all(one: &mut Agent, other: &mut Agent, events: &[Vec<u8>], load: &[u8],
     });
     let reply = other.respond(5, number.expect("a query"), b"yes")?;
     done(one, &[])?;
-    let mut calls = vec![Call::Receive { now: 5, packet: &reply }; 2];
+    let mut calls = vec![Call::Receive { now: 5, packet: &reply, tags_pass: false }; 2];
     calls.extend([Call::Fire { name: b"again", payload: b"", coalesce: false }; 5]);
     done(one, &calls)?;
     Ok(())

@@ -50,7 +50,7 @@ fn main() -> Result<(), Error> {
     merge(&mut other, &whole)?;
     merge(&mut other, &whole)?;
     query(&mut other, 'a')?;
-    other.receive(1, &load)?;
+    other.receive(1, &load, false)?;
     query(&mut other, 'b')?;
     query(&mut other, 'c')?;
     ['a', 'b', 'c'].into_iter().try_for_each(|letter| state(&mut other, letter))

@@ -41,7 +41,7 @@ impl Node {
     }
 
     fn deliver(&mut self, now: u64, packet: &[u8]) -> Result<(), Error> {
-        match self.agent.receive(now, packet)?.outcome {
+        match self.agent.receive(now, packet, false)?.outcome {
             Outcome::Event(event) => self.handle(&event),
             Outcome::Ignored(Reason::Seen) => println!("{} ignored it: seen", self.name),
             Outcome::Ignored(Reason::BelowMinimum) => println!("{} ignored it: below the minimum", self.name),
@@ -54,10 +54,10 @@ impl Node {
     fn ask(&mut self, other: &mut Node, now: u64, name: &str, answer: &str) -> Result<(), Error> {
         let params = QueryParams { timeout: 1000, want_ack: true, ..QueryParams::default() };
         let asked = self.agent.query(now, 7, name.as_bytes(), b"", &params)?;
-        if let Outcome::Query { handed: Some(query), ack: Some(ack) } = other.agent.receive(now, &asked.packet)?.outcome {
-            self.agent.receive(now, &ack)?;
+        if let Outcome::Query { handed: Some(query), ack: Some(ack) } = other.agent.receive(now, &asked.packet, false)?.outcome {
+            self.agent.receive(now, &ack, false)?;
             let response = other.agent.respond(now, query.number, answer.as_bytes())?;
-            self.agent.receive(now, &response)?;
+            self.agent.receive(now, &response, false)?;
         }
         Ok(())
     }

@@ -211,20 +211,13 @@ impl Agent {
         Ok(Some(Handed { number, time, id, name, payload, source, addr, port, relay_factor, deadline }))
     }
 
-    /// Takes a packet of the network. A query that has a tag filter is not handed out.
-    pub fn receive(&mut self, now: u64, packet: &[u8]) -> Result<Received, Error> {
-        // SAFETY: the pointer comes with its length.
-        self.settled(|handle| unsafe { raw::serf_agent_receive(handle, now, packet.as_ptr(), packet.len()) })?;
-        self.received(packet)
-    }
-
-    /// Takes a packet where the host says whether its tags pass every tag filter of the packet's query, as
+    /// Takes a packet of the network, where the host says whether its tags pass every tag filter of the packet's query, as
     /// [`crate::query_filters`] gives them: then the query is handed out where its other filters let this node pass.
     ///
-    /// Say `true` only where each of them could be read and passes.
-    pub fn receive_tagged(&mut self, now: u64, packet: &[u8], tags_pass: bool) -> Result<Received, Error> {
+    /// Say `true` only where each of them could be read and passes; a host without tags says `false`.
+    pub fn receive(&mut self, now: u64, packet: &[u8], tags_pass: bool) -> Result<Received, Error> {
         // SAFETY: the pointer comes with its length.
-        self.settled(|handle| unsafe { raw::serf_agent_receive_tagged(handle, now, packet.as_ptr(), packet.len(), tags_pass) })?;
+        self.settled(|handle| unsafe { raw::serf_agent_receive(handle, now, packet.as_ptr(), packet.len(), tags_pass) })?;
         self.received(packet)
     }
 

@@ -3,7 +3,7 @@
 use crate::error::{answered, Code, Error};
 use crate::raw;
 
-/// The first byte of a filter that asks for a tag. The agent knows no tags: see [`crate::Agent::receive_tagged`].
+/// The first byte of a filter that asks for a tag. The agent knows no tags: see [`crate::Agent::receive`].
 pub const TAG_FILTER: u8 = 1;
 
 /// The first byte of a filter that asks for names.

@@ -17,7 +17,7 @@
 //!     handle(&fired.event);
 //!     // fired.packet goes to the other agents, and what they send comes in
 //!     for (now, packet) in packets() {
-//!         if let Outcome::Event(event) = agent.receive(now, &packet)?.outcome {
+//!         if let Outcome::Event(event) = agent.receive(now, &packet, false)?.outcome {
 //!             handle(&event);
 //!         }
 //!     }

@@ -175,8 +175,7 @@ extern "C" {
         payload_len: usize,
         coalesce: bool,
     ) -> u32;
-    pub fn serf_agent_receive(handle: *mut Handle, now: u64, packet: *const u8, packet_len: usize) -> u32;
-    pub fn serf_agent_receive_tagged(handle: *mut Handle, now: u64, packet: *const u8, packet_len: usize, tags_pass: bool) -> u32;
+    pub fn serf_agent_receive(handle: *mut Handle, now: u64, packet: *const u8, packet_len: usize, tags_pass: bool) -> u32;
     pub fn serf_agent_merge(handle: *mut Handle, packet: *const u8, packet_len: usize, is_join: bool) -> u32;
     pub fn serf_agent_local_state(handle: *mut Handle) -> u32;
     pub fn serf_agent_add_status(handle: *mut Handle, name: *const u8, name_len: usize, status_time: u64) -> u32;
@@ -200,8 +199,7 @@ extern "C" {
     pub fn serf_agent_observe_member(handle: *mut Handle, time: u64) -> u32;
     pub fn serf_agent_save_member_clock(handle: *mut Handle) -> u32;
     pub fn serf_agent_compact(handle: *mut Handle) -> u32;
-    pub fn serf_agent_burst_receive(handle: *mut Handle, now: u64, packet: *const u8, packet_len: usize) -> u32;
-    pub fn serf_agent_burst_receive_tagged(
+    pub fn serf_agent_burst_receive(
         handle: *mut Handle,
         now: u64,
         packet: *const u8,
@@ -228,7 +226,6 @@ extern "C" {
         addr_len: usize,
         params: *const Params,
     ) -> u32;
-    pub fn serf_agent_burst_filter(handle: *mut Handle, filter: *const u8, filter_len: usize) -> u32;
     pub fn serf_agent_next(handle: *mut Handle, answered: *mut u32) -> u32;
     pub fn serf_agent_outcomes(handle: *mut Handle, total: *mut usize) -> u32;
     pub fn serf_agent_gave(handle: *mut Handle, gave: *mut Gave) -> u32;

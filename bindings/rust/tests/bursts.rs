@@ -18,7 +18,7 @@ fn outcomes_in_order() {
     let (mut one, first) = opened("order", "one");
     let (mut other, path) = opened("order", "other");
     let packet = one.fire(b"deploy", b"", false).unwrap().packet;
-    let receive = |packet| Call::Receive { now: 1, packet };
+    let receive = |packet| Call::Receive { now: 1, packet, tags_pass: false };
     let calls = [receive(&packet), receive(&packet[1..]), FIRE, receive(&packet)];
     let outcomes: Vec<_> = other.burst(calls).unwrap().collect();
     let (event, fault, fired, repeat) = match &outcomes[..] {

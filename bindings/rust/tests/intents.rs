@@ -141,9 +141,9 @@ fn what_the_host_says_of_tags() {
             let found = query_filters(&packet).unwrap().unwrap();
             assert_eq!(found, filters);
             assert!(found.iter().zip(filters).all(|(one, filter)| (one[0] == TAG_FILTER) == (*filter == TAG)));
-            assert_eq!(is_handed(&agent.receive_tagged(1, &packet, tags_pass).unwrap()), wanted, "{filters:?}");
+            assert_eq!(is_handed(&agent.receive(1, &packet, tags_pass).unwrap()), wanted, "{filters:?}");
             let packet = packet_of(filters);
-            let outcomes: Vec<_> = agent.burst([Call::ReceiveTagged { now: 1, packet: &packet, tags_pass }]).unwrap().collect();
+            let outcomes: Vec<_> = agent.burst([Call::Receive { now: 1, packet: &packet, tags_pass }]).unwrap().collect();
             let received = match &outcomes[..] {
                 [Ok(CallOutcome::Received(received))] => received,
                 _ => panic!("{outcomes:?}"),
@@ -162,7 +162,7 @@ fn what_the_host_says_of_tags() {
             assert_eq!(asked.handed.is_some(), wanted, "its own of {filters:?} in a burst");
         }
     }
-    assert!(!is_handed(&agent.receive(1, &packet_of(&[TAG])).unwrap()));
+    assert!(!is_handed(&agent.receive(1, &packet_of(&[TAG]), false).unwrap()));
     assert_eq!((node_filter(&["a"]), tag_filter(b"a", b"")), (NODE.to_vec(), TAG.to_vec()));
     let long = node_filter(&[vec![b'x'; 32], vec![b'y'; 65536]]);
     assert_eq!((&long[..5], &long[37..42]), (&b"\x00\x92\xda\x00\x20"[..], &b"\xdb\x00\x01\x00\x00"[..]));

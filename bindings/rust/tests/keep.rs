@@ -28,7 +28,7 @@ fn packets(folder: &Path) -> Vec<Vec<u8>> {
 
 /// What comes of the event of this time: it is handed out, or ignored.
 fn came(agent: &mut Agent, packets: &[Vec<u8>], time: usize) -> Result<(), Reason> {
-    match agent.receive(1, &packets[time - 1]).unwrap().outcome {
+    match agent.receive(1, &packets[time - 1], false).unwrap().outcome {
         Outcome::Event(event) => {
             assert_eq!(event.time, time as u64);
             Ok(())
@@ -110,7 +110,7 @@ fn bursts_that_are_kept() {
     let folder = folder("burst");
     let (packets, path) = (packets(&folder), folder.join("burst"));
     let mut agent = opened(&path, true);
-    let calls = [3, 2, 3].map(|time| Call::Receive { now: 1, packet: &packets[time - 1] });
+    let calls = [3, 2, 3].map(|time| Call::Receive { now: 1, packet: &packets[time - 1], tags_pass: false });
     assert_eq!(agent.burst(calls).unwrap().count(), 3);
     drop(agent);
     let lines = "event-clock: 03\n#event 3 6533 \n#event 2 6532 \n#event 1 6531 \n".to_string();

@@ -12,7 +12,7 @@ fn threads_share_an_agent() {
     for time in 1..20 {
         let packet = one.fire(b"deploy", b"", false).unwrap().packet;
         let agent = Arc::clone(&other);
-        let received = std::thread::spawn(move || agent.lock().unwrap().receive(1, &packet)).join().unwrap().unwrap();
+        let received = std::thread::spawn(move || agent.lock().unwrap().receive(1, &packet, false)).join().unwrap().unwrap();
         assert!(matches!(received.outcome, Outcome::Event(event) if event.time == time));
     }
     std::fs::remove_dir_all(path).unwrap();

@@ -1,5 +1,6 @@
 -- What becomes of an agent by an act, by what is noted of it: so a property of agents that each note keeps is kept by each act.
-use Rattle.serf_agent.proofs.Names.{◌≡◌, ℕ, ◌-◌, ◌^◌, ◌<◌, ◌≤◌, ◌&&◌, nat_le, nat_lt, cond, Bool, true, false, List, [], ◌∷◌, ◌++◌, Option, Some, None, Result, Ok, Err, map, refl, sym, subst, arith, and_parts, leb-false, ltb-false, WireFault, EventBody, TimedEntry, decoded, Message, PushPull, Query, QueryResponse, user_event, query, query_response, push_pull, foreign, InRange, event_of, Writing, Kept, Failed, noted, written}
+use Rattle.serf_agent.proofs.Names.{◌≡◌, ◌≢◌, ◌⊎◌, ℕ, inl, inr, All, ◌-◌, ◌^◌, ◌<◌, ◌≤◌, ◌&&◌, nat_le, nat_lt, cond, Bool, true, false, List, [], ◌∷◌, Option, Some, None, Result, Ok, Err, map, refl, sym, subst, arith, and_parts, leb-false, ltb-false, WireFault, EventBody, TimedEntry, decoded, Message, PushPull, Query, QueryResponse, user_event, query, query_response, push_pull, foreign, InRange, event_of, same_texts, Writing, Kept, Failed, noted, written}
+use Rattle.serf_wire.specs.Laws.{DecodesInRange}
 use Rattle.serf_snap.specs.declared.kind.ClockKind.TheVariants as kinds
 use Rattle.serf_snap.specs.EventLines.{least_line}
 use Rattle.serf_snap.specs.Notes.{MayReplaceBy, text_replaced}
@@ -14,19 +15,24 @@ use Rattle.serf_agent.specs.declared.outcome.Reason.TheVariants.{BelowMinimum}
 use Rattle.serf_agent.specs.declared.outcome.ReceiveFault.{ReceiveFault}
 use Rattle.serf_agent.specs.declared.outcome.ReceiveFault.TheVariants as receives
 use Rattle.serf_agent.specs.Calls.{AsksSink, MayEnd, answers, ended}
-use Rattle.serf_agent.specs.Events.{admission, drawn, event_entered, event_observed, fire_fault, fired_as, is_too_large, received_as, told_event}
+use Rattle.serf_agent.specs.Events.{admission, drawn, event_entered, event_observed, fire_fault, fired_as, is_too_large, received_as, texts_len, told_event}
 use Rattle.serf_agent.specs.Ideal.{IdealAgent, Track, with_asked, with_snapshot}
-use Rattle.serf_agent.specs.KeptLives.{MayGoOn}
-use Rattle.serf_agent.specs.Lives.{Act, Fires, Asks, Gets, Hears, Takes, Saves, Compacts, Closes, Opens, MayAct, after, event_entry, events_out, fired_entries}
-use Rattle.serf_agent.specs.Queries.{answer_ignore_reason, asked_at, close_due, counted, counts_where, is_ack, is_full, is_no_timeout, is_too_large_query, opened_query, query_admission, query_at, query_entered, query_fault, query_fired_as, query_observed, query_received_as, response_received_as, response_received_at, told_query, with_asked_at}
+use Rattle.serf_agent.specs.Handed.{Handed}
+use Rattle.serf_agent.specs.KeptLives.{IsMessageTold, IsTellable}
+use Rattle.serf_agent.specs.KeptTexts.{IsIdTold, IsTold}
+use Rattle.serf_agent.specs.Lives.{Act, Fires, Asks, Gets, Hears, Takes, Saves, Compacts, Closes, Opens, MayAct, after, asked_entries, event_entry, events_out, fired_entries, got_entries, queries_out, query_entries}
+use Rattle.serf_agent.specs.Queries.{all_pass, answer_ignore_reason, asked_at, close_due, counted, counts_where, handed_if_passed, handed_query, is_ack, is_full, is_no_timeout, is_too_large_query, query_admission, query_asked, query_at, query_entered, query_fault, query_fired_as, query_observed, query_received_as, response_received_as, response_received_at, told_query, with_asked_at}
 use Rattle.serf_agent.specs.Receive.{receive_message, receive_read}
+use Rattle.serf_agent.specs.Sound.{IsSound}
 use Rattle.serf_agent.specs.States.{compact, handed_by, heard_by, joined, told_lines}
 use Rattle.serf_agent.specs.Told.{MayNote, noted_with, text_with}
 use Rattle.serf_agent.specs.View.{view_of}
+use Rattle.serf_agent.specs.Tracks.{track_reason}
 use Rattle.serf_agent.specs.TrackOf.{asked_query, got_query, queries_entered}
-use Rattle.serf_agent.proofs.KeptLifeLaws.{BelowKeptLives}
-use Rattle.serf_agent.proofs.LifeLaws.{none-if}
 use Rattle.serf_agent.proofs.LineLaws.{compacts_so, saves_so}
+use Rattle.serf_agent.proofs.SoundLaws.{admission-new, query_admission-new, sound-closed, sound-counted, sound-event_observed, sound-query_observed}
+use Rattle.serf_agent.proofs.StepLaws.{small-short}
+use Rattle.serf_agent.proofs.TrackLaws.{later-fresh, none-from}
 
 -- nothing changes of a track but its clock, which doesn't fall
 pub record IsSeen {K : Type 0} (track next : Track K) : Type 0 where
@@ -40,26 +46,47 @@ pub record IsQuiet (i j : IdealAgent) : Type 0 where
   pub events : IsSeen i.events j.events
   pub queries : IsSeen i.queries j.queries
 
--- A property of an agent, of the events that were handed out and of the queries that entered, that each note keeps.
+-- A property of an agent, of the events that were handed out, of the queries that entered, and of those that were handed out.
 abbrev pub Property : Type 1
-Property = IdealAgent → List (TimedEntry EventBody) → List (TimedEntry ℕ) → Type 0
+Property = IdealAgent → List (TimedEntry EventBody) → List (TimedEntry ℕ) → List (TimedEntry ℕ) → Type 0
 
-pub record Noting (i : IdealAgent) (P : Property) : Type 0 where
-  pub quiet : (j : IdealAgent) → IsQuiet i j → P j [] []
-  pub event : (t : ℕ) (what : EventBody) → i.snapshot.stopped ≡ false → t < 2 ^ 64 - 1
-      → P (with_snapshot (noted_with kinds.Event t (told_event i.config t what) i.snapshot Kept) (event_entered t what i)) (record { time = t; key = what } ∷ []) []
+-- what is known of an event that enters
+pub record EventEnters (i : IdealAgent) (t : ℕ) (what : EventBody) : Type 0 where
+  pub runs : i.snapshot.stopped ≡ false
+  pub from : i.events.minimum ≤ t
+  pub small : t < 2 ^ 64 - 1
+  pub short : texts_len what ≤ 9216
+  pub fresh : All (λ p. p.entry ≢ record { time = t; key = what }) i.events.history
+
+-- and of a query
+pub record QueryEnters (i : IdealAgent) (t id : ℕ) : Type 0 where
+  pub runs : i.snapshot.stopped ≡ false
+  pub from : i.queries.minimum ≤ t
+  pub small : t < 2 ^ 64 - 1
+  pub fresh : All (λ p. p.entry ≢ record { time = t; key = id }) i.queries.history
+
+-- a query that entered is handed out, or it isn't
+abbrev pub IsPassed : ℕ → ℕ → List (TimedEntry ℕ) → Type 0
+IsPassed t id out = (out ≡ record { time = t; key = id } ∷ []) ⊎ (out ≡ [])
+
+-- What is to be shown of a property at each note of an act. Where the act's texts and IDs can be told in lines (`Told`), so can what
+-- enters.
+pub record Noting (i : IdealAgent) (Told : Type 0) (P : Property) : Type 0 where
+  pub quiet : (j : IdealAgent) → IsQuiet i j → IsSound j → P j [] [] []
+  pub event : (t : ℕ) (what : EventBody) → EventEnters i t what → (Told → IsTold what)
+      → P (with_snapshot (noted_with kinds.Event t (told_event i.config t what) i.snapshot Kept) (event_entered t what i)) (record { time = t; key = what } ∷ []) [] []
   pub event_fails : (t : ℕ) (what : EventBody) (durable : Option (List ℕ)) → i.snapshot.stopped ≡ false → t < 2 ^ 64 - 1 → MayNote kinds.Event t (told_event i.config t what) i.snapshot (Failed durable)
-      → P (with_snapshot (written kinds.Event t i.snapshot (Failed durable)) i) [] []
-  pub query : (t id : ℕ) → i.queries.minimum ≤ t → i.snapshot.stopped ≡ false → t < 2 ^ 64 - 1 → id < 2 ^ 32
-      → P (with_snapshot (noted_with kinds.Query t (told_query i.config t id) i.snapshot Kept) (query_entered t id i)) [] (record { time = t; key = id } ∷ [])
-  pub asks : (t id : ℕ) (asked : List (ℕ × OpenQuery)) → t ≡ i.queries.clock → i.snapshot.stopped ≡ false → t < 2 ^ 64 - 1 → id < 2 ^ 32
-      → P (with_snapshot (noted_with kinds.Query t (told_query i.config t id) i.snapshot Kept) (with_asked asked (query_entered t id i))) [] (record { time = t; key = id } ∷ [])
-  pub query_fails : (t id : ℕ) (durable : Option (List ℕ)) → i.snapshot.stopped ≡ false → t < 2 ^ 64 - 1 → id < 2 ^ 32 → MayNote kinds.Query t (told_query i.config t id) i.snapshot (Failed durable)
-      → P (with_snapshot (written kinds.Query t i.snapshot (Failed durable)) i) [] []
-  pub saves : (t : ℕ) → i.snapshot.stopped ≡ false → P (with_snapshot (noted kinds.Member t i.snapshot Kept) i) [] []
-  pub save_fails : (t : ℕ) (durable : Option (List ℕ)) → i.snapshot.stopped ≡ false → MayNote kinds.Member t None i.snapshot (Failed durable) → P (with_snapshot (written kinds.Member t i.snapshot (Failed durable)) i) [] []
+      → P (with_snapshot (written kinds.Event t i.snapshot (Failed durable)) i) [] [] []
+  pub query : (t id : ℕ) (out : List (TimedEntry ℕ)) → QueryEnters i t id → (Told → IsIdTold id) → IsPassed t id out
+      → P (with_snapshot (noted_with kinds.Query t (told_query i.config t id) i.snapshot Kept) (query_entered t id i)) [] (record { time = t; key = id } ∷ []) out
+  pub asks : (now : ℕ) (q : Query) (out : List (TimedEntry ℕ)) → q.time ≡ i.queries.clock → QueryEnters i q.time q.id → (Told → IsIdTold q.id) → IsPassed q.time q.id out
+      → P (with_snapshot (noted_with kinds.Query q.time (told_query i.config q.time q.id) i.snapshot Kept) (query_asked now q i)) [] (record { time = q.time; key = q.id } ∷ []) out
+  pub query_fails : (t id : ℕ) (durable : Option (List ℕ)) → i.snapshot.stopped ≡ false → t < 2 ^ 64 - 1 → (Told → IsIdTold id) → MayNote kinds.Query t (told_query i.config t id) i.snapshot (Failed durable)
+      → P (with_snapshot (written kinds.Query t i.snapshot (Failed durable)) i) [] [] []
+  pub saves : (t : ℕ) → t < 2 ^ 64 - 1 → i.snapshot.stopped ≡ false → P (with_snapshot (noted kinds.Member t i.snapshot Kept) i) [] [] []
+  pub save_fails : (t : ℕ) (durable : Option (List ℕ)) → i.snapshot.stopped ≡ false → MayNote kinds.Member t None i.snapshot (Failed durable) → P (with_snapshot (written kinds.Member t i.snapshot (Failed durable)) i) [] [] []
 
-same-track : {K : Type 0} (track : Track K) → IsSeen track track
+pub same-track : {K : Type 0} (track : Track K) → IsSeen track track
 same-track track = record { clock = omega arith; history = refl; minimum = refl }
 
 same-agent : (i : IdealAgent) → IsQuiet i i
@@ -67,16 +94,31 @@ same-agent i = record { settings = refl; snapshot = refl; events = same-track i.
 
 -- ---- events
 
-received : (i : IdealAgent) (P : Property) → Noting i P → (t : ℕ) (what : EventBody) (flag : Bool) (w : Writing) (r : Option Reason) → i.snapshot.stopped ≡ false → t < 2 ^ 64 - 1 → MayEnd i (received_as r i t what flag) w
-    → P (ended i (received_as r i t what flag) w).agent (map event_entry (handed_by (ended i (received_as r i t what flag) w).answer)) []
-received i P n t what flag w (Some reason) runs small may = n.quiet (event_observed t i) (record { settings = refl; snapshot = refl; events = record { clock = omega arith; history = refl; minimum = refl }; queries = same-track i.queries })
-received i P n t what flag Kept None runs small may = n.event t what runs small
-received i P n t what flag (Failed durable) None runs small may = n.event_fails t what durable runs small may
+-- what is admitted isn't below the least time
+event-from : (i : IdealAgent) (t : ℕ) (what : EventBody) → admission i t what ≡ None → i.events.minimum ≤ t
+event-from i t what none =
+    let parts = none-from (nat_lt 9216 (texts_len what)) _ (track_reason same_texts i.config.event_buffer i.config.per_time i.life i.events t what) none in
+    ltb-false t i.events.minimum (none-from (nat_lt t i.events.minimum) BelowMinimum _ parts.1).0
 
-fired : (i : IdealAgent) (P : Property) → Noting i P → (what : EventBody) (flag : Bool) (w : Writing) (r : Option FireFault) → fire_fault i what flag ≡ r → MayEnd i (fired_as r i what flag) w
-    → P (ended i (fired_as r i what flag) w).agent (fired_entries (ended i (fired_as r i what flag) w).answer) []
-fired i P n what flag w (Some fault) is may = n.quiet i (same-agent i)
-fired i P n what flag w None is may = by w may
+received : {T : Type 0} (i : IdealAgent) (P : Property) → IsSound i → Noting i T P → (t : ℕ) (what : EventBody) (flag : Bool) (w : Writing) (r : Option Reason) → admission i t what ≡ r → i.snapshot.stopped ≡ false → t < 2 ^ 64 - 1 → (T → IsTold what) → MayEnd i (received_as r i t what flag) w
+    → (let step = ended i (received_as r i t what flag) w in P step.agent (map event_entry (handed_by step.answer)) [] [])
+received i P s n t what flag w (Some reason) is runs small told may =
+    n.quiet (event_observed t i) (record { settings = refl; snapshot = refl; events = record { clock = omega arith; history = refl; minimum = refl }; queries = same-track i.queries }) (sound-event_observed t i s)
+received i P s n t what flag Kept None is runs small told may =
+    let new = admission-new i t what is in
+    n.event t what (record { runs = runs; from = event-from i t what is; small = small; short = new.0; fresh = new.1 }) told
+received i P s n t what flag (Failed durable) None is runs small told may = n.event_fails t what durable runs small may
+
+-- an event hands out no query
+no-queries : (i : IdealAgent) (t : ℕ) (what : EventBody) (flag : Bool) (w : Writing) (r : Option Reason) → got_entries (ended i (received_as r i t what flag) w).answer ≡ []
+no-queries i t what flag w (Some reason) = refl
+no-queries i t what flag Kept None = refl
+no-queries i t what flag (Failed durable) None = refl
+
+fired : {T : Type 0} (i : IdealAgent) (P : Property) → IsSound i → Noting i T P → (what : EventBody) (flag : Bool) (w : Writing) (r : Option FireFault) → fire_fault i what flag ≡ r → (T → IsTold what) → MayEnd i (fired_as r i what flag) w
+    → P (ended i (fired_as r i what flag) w).agent (fired_entries (ended i (fired_as r i what flag) w).answer) [] []
+fired i P s n what flag w (Some fault) is told may = n.quiet i (same-agent i) s
+fired i P s n what flag w None is told may = by w may
   where
     large : Bool
     large = is_too_large i.config.event_limit (drawn i.events.clock) what flag
@@ -84,33 +126,46 @@ fired i P n what flag w None is may = by w may
     spent : Bool
     spent = nat_le (2 ^ 64 - 1) i.events.clock
 
-    runs : (i.snapshot.stopped ≡ false) × (i.events.clock < 2 ^ 64 - 1)
+    runs : (i.snapshot.stopped ≡ false) × (large ≡ false) × (i.events.clock < 2 ^ 64 - 1)
     runs =
-        let a = none-if i.snapshot.stopped fires.Stopped (cond large (Some fires.TooLarge) (cond spent (Some fires.Exhausted) None)) is in
-        let b = none-if large fires.TooLarge (cond spent (Some fires.Exhausted) None) a.1 in
-        (a.0, leb-false (2 ^ 64 - 1) i.events.clock (none-if spent fires.Exhausted None b.1).0)
+        let a = none-from i.snapshot.stopped fires.Stopped (cond large (Some fires.TooLarge) (cond spent (Some fires.Exhausted) None)) is in
+        let b = none-from large fires.TooLarge (cond spent (Some fires.Exhausted) None) a.1 in
+        (a.0, b.0, leb-false (2 ^ 64 - 1) i.events.clock (none-from spent fires.Exhausted None b.1).0)
 
-    by : (w : Writing) → MayEnd i (fired_as None i what flag) w → P (ended i (fired_as None i what flag) w).agent (fired_entries (ended i (fired_as None i what flag) w).answer) []
-    by Kept m = n.event i.events.clock what runs.0 runs.1
-    by (Failed durable) m = n.event_fails i.events.clock what durable runs.0 runs.1 m
+    by : (w : Writing) → MayEnd i (fired_as None i what flag) w → P (ended i (fired_as None i what flag) w).agent (fired_entries (ended i (fired_as None i what flag) w).answer) [] []
+    by Kept m = n.event i.events.clock what (record {
+      runs = runs.0;
+      from = s.events.minimum;
+      small = runs.2;
+      short = small-short i (drawn i.events.clock) what flag s runs.1;
+      fresh = later-fresh i.events.history i.events.clock what s.events.below_clock;
+    }) told
+    by (Failed durable) m = n.event_fails i.events.clock what durable runs.0 runs.2 m
 
 -- ---- queries
 
--- what is admitted isn't below the least time
-admitted-from : (i : IdealAgent) (t id : ℕ) → query_admission i t id ≡ None → i.queries.minimum ≤ t
-admitted-from i t id none = ltb-false t i.queries.minimum (none-if (nat_lt t i.queries.minimum) BelowMinimum _ none).0
+query-from : (i : IdealAgent) (t id : ℕ) → query_admission i t id ≡ None → i.queries.minimum ≤ t
+query-from i t id none = ltb-false t i.queries.minimum (none-from (nat_lt t i.queries.minimum) BelowMinimum _ none).0
 
-query-received : (i : IdealAgent) (P : Property) → Noting i P → (tags : Bool) (now : ℕ) (q : Query) (w : Writing) (r : Option Reason) → query_admission i q.time q.id ≡ r → i.snapshot.stopped ≡ false → q.time < 2 ^ 64 - 1 → q.id < 2 ^ 32 → MayEnd i (query_received_as tags r i now q) w
-    → (let step = ended i (query_received_as tags r i now q) w in P step.agent (map event_entry (handed_by step.answer)) (got_query (Ok (query q)) step.answer))
-query-received i P n tags now q w (Some reason) is runs small low may = n.quiet (query_observed q.time i) (record { settings = refl; snapshot = refl; events = same-track i.events; queries = record { clock = omega arith; history = refl; minimum = refl } })
-query-received i P n tags now q Kept None is runs small low may = n.query q.time q.id (admitted-from i q.time q.id is) runs small low
-query-received i P n tags now q (Failed durable) None is runs small low may = n.query_fails q.time q.id durable runs small low may
+-- the filters let the node pass, or they don't
+passed : (h : Handed) (b : Bool) → IsPassed h.time h.id (query_entries (cond b (Some h) None))
+passed h true = inl refl
+passed h false = inr refl
 
-query-fired : (i : IdealAgent) (P : Property) → Noting i P → (now id : ℕ) (name payload : List ℕ) (params : QueryParams) (w : Writing) (r : Option QueryFault) → id < 2 ^ 32 → query_fault i id name payload params ≡ r
+query-received : {T : Type 0} (i : IdealAgent) (P : Property) → IsSound i → Noting i T P → (tags : Bool) (now : ℕ) (q : Query) (w : Writing) (r : Option Reason) → query_admission i q.time q.id ≡ r → i.snapshot.stopped ≡ false → q.time < 2 ^ 64 - 1 → q.id < 2 ^ 32 → MayEnd i (query_received_as tags r i now q) w
+    → (let step = ended i (query_received_as tags r i now q) w in P step.agent (map event_entry (handed_by step.answer)) (got_query (Ok (query q)) step.answer) (got_entries step.answer))
+query-received i P s n tags now q w (Some reason) is runs small low may =
+    n.quiet (query_observed q.time i) (record { settings = refl; snapshot = refl; events = same-track i.events; queries = record { clock = omega arith; history = refl; minimum = refl } }) (sound-query_observed q.time i s)
+query-received i P s n tags now q Kept None is runs small low may =
+    n.query q.time q.id (query_entries (handed_if_passed tags i.config now q)) (record { runs = runs; from = query-from i q.time q.id is; small = small; fresh = query_admission-new i q.time q.id is })
+    (λ told. low) (passed (handed_query i.config now q) (all_pass tags q.filters i.config.name))
+query-received i P s n tags now q (Failed durable) None is runs small low may = n.query_fails q.time q.id durable runs small (λ told. low) may
+
+query-fired : {T : Type 0} (i : IdealAgent) (P : Property) → IsSound i → Noting i T P → (now id : ℕ) (name payload : List ℕ) (params : QueryParams) (w : Writing) (r : Option QueryFault) → (T → IsIdTold id) → query_fault i id name payload params ≡ r
     → (let q = query_at i.queries.clock i.config.name id name payload params in MayEnd i (query_fired_as params.tags_pass r i now q) w
-    → (let step = ended i (query_fired_as params.tags_pass r i now q) w in P step.agent [] (asked_query id step.answer)))
-query-fired i P n now id name payload params w (Some fault) low is may = n.quiet i (same-agent i)
-query-fired i P n now id name payload params w None low is may = by w may
+    → (let step = ended i (query_fired_as params.tags_pass r i now q) w in P step.agent [] (asked_query id step.answer) (asked_entries step.answer)))
+query-fired i P s n now id name payload params w (Some fault) low is may = n.quiet i (same-agent i) s
+query-fired i P s n now id name payload params w None low is may = by w may
   where
     q : Query
     q = query_at i.queries.clock i.config.name id name payload params
@@ -126,43 +181,56 @@ query-fired i P n now id name payload params w None low is may = by w may
 
     runs : (i.snapshot.stopped ≡ false) × (i.queries.clock < 2 ^ 64 - 1)
     runs =
-        let a = none-if i.snapshot.stopped asks_faults.Stopped (cond large (Some asks_faults.TooLarge) (cond none (Some asks_faults.ZeroTimeout) (cond spent (Some asks_faults.Exhausted) None))) is in
-        let b = none-if large asks_faults.TooLarge (cond none (Some asks_faults.ZeroTimeout) (cond spent (Some asks_faults.Exhausted) None)) a.1 in
-        let d = none-if none asks_faults.ZeroTimeout (cond spent (Some asks_faults.Exhausted) None) b.1 in
-        (a.0, leb-false (2 ^ 64 - 1) i.queries.clock (none-if spent asks_faults.Exhausted None d.1).0)
+        let a = none-from i.snapshot.stopped asks_faults.Stopped (cond large (Some asks_faults.TooLarge) (cond none (Some asks_faults.ZeroTimeout) (cond spent (Some asks_faults.Exhausted) None))) is in
+        let b = none-from large asks_faults.TooLarge (cond none (Some asks_faults.ZeroTimeout) (cond spent (Some asks_faults.Exhausted) None)) a.1 in
+        let d = none-from none asks_faults.ZeroTimeout (cond spent (Some asks_faults.Exhausted) None) b.1 in
+        (a.0, leb-false (2 ^ 64 - 1) i.queries.clock (none-from spent asks_faults.Exhausted None d.1).0)
 
-    by : (w : Writing) → MayEnd i (query_fired_as params.tags_pass None i now q) w → (let step = ended i (query_fired_as params.tags_pass None i now q) w in P step.agent [] (asked_query id step.answer))
-    by Kept m = n.asks i.queries.clock id (i.asked ++ (i.queries.clock, opened_query now q) ∷ []) refl runs.0 runs.1 low
+    by : (w : Writing) → MayEnd i (query_fired_as params.tags_pass None i now q) w → (let step = ended i (query_fired_as params.tags_pass None i now q) w in P step.agent [] (asked_query id step.answer) (asked_entries step.answer))
+    by Kept m =
+        n.asks now q (query_entries (handed_if_passed params.tags_pass i.config now q)) refl
+        (record { runs = runs.0; from = s.queries.minimum; small = runs.1; fresh = later-fresh i.queries.history i.queries.clock id s.queries.below_clock })
+        low (passed (handed_query i.config now q) (all_pass params.tags_pass q.filters i.config.name))
     by (Failed durable) m = n.query_fails i.queries.clock id durable runs.0 runs.1 low m
 
-response : (i : IdealAgent) (P : Property) → Noting i P → (now : ℕ) (r : QueryResponse) (w : Writing) (o : Option OpenQuery)
-    → (let step = ended i (response_received_at o i now r) w in P step.agent (map event_entry (handed_by step.answer)) [])
-response i P n now r w None = n.quiet i (same-agent i)
-response i P n now r w (Some q) = by (answer_ignore_reason now r q)
+response : {T : Type 0} (i : IdealAgent) (P : Property) → IsSound i → Noting i T P → (now : ℕ) (r : QueryResponse) (w : Writing) (o : Option OpenQuery) → asked_at r.time i.asked ≡ o
+    → (let step = ended i (response_received_at o i now r) w in P step.agent (map event_entry (handed_by step.answer)) [] (got_entries step.answer))
+response i P s n now r w None at = n.quiet i (same-agent i) s
+response i P s n now r w (Some q) at = by (answer_ignore_reason now r q) refl
   where
-    full : (b ack : Bool) → (let step = ended i (counts_where b ack i r q) w in P step.agent (map event_entry (handed_by step.answer)) [])
-    full true ack = n.quiet i (same-agent i)
-    full false true = n.quiet (with_asked (with_asked_at r.time (counted r q) i.asked) i) (record { settings = refl; snapshot = refl; events = same-track i.events; queries = same-track i.queries })
-    full false false = n.quiet (with_asked (with_asked_at r.time (counted r q) i.asked) i) (record { settings = refl; snapshot = refl; events = same-track i.events; queries = same-track i.queries })
+    next : IdealAgent
+    next = with_asked (with_asked_at r.time (counted r q) i.asked) i
 
-    by : (x : Option Reason) → (let step = ended i (response_received_as x i r q) w in P step.agent (map event_entry (handed_by step.answer)) [])
-    by (Some reason) = n.quiet i (same-agent i)
-    by None = full (is_full i.config.responders r q) (is_ack r)
+    counts : answer_ignore_reason now r q ≡ None → P next [] [] []
+    counts none = n.quiet next (record { settings = refl; snapshot = refl; events = same-track i.events; queries = same-track i.queries }) (sound-counted now r q i s at none)
+
+    full : (b ack : Bool) → answer_ignore_reason now r q ≡ None → (let step = ended i (counts_where b ack i r q) w in P step.agent (map event_entry (handed_by step.answer)) [] (got_entries step.answer))
+    full true ack none = n.quiet i (same-agent i) s
+    full false true none = counts none
+    full false false none = counts none
+
+    by : (x : Option Reason) → answer_ignore_reason now r q ≡ x → (let step = ended i (response_received_as x i r q) w in P step.agent (map event_entry (handed_by step.answer)) [] (got_entries step.answer))
+    by (Some reason) is = n.quiet i (same-agent i) s
+    by None is = full (is_full i.config.responders r q) (is_ack r) is
 
 -- ---- packets
 
-message : (i : IdealAgent) (P : Property) → Noting i P → (tags : Bool) (now : ℕ) (m : Message) (w : Writing) → i.snapshot.stopped ≡ false → InRange m → MayEnd i (receive_message tags i now m) w
-    → (let step = ended i (receive_message tags i now m) w in P step.agent (map event_entry (handed_by step.answer)) (got_query (Ok m) step.answer))
-message i P n tags now (user_event e) w runs ranged may = received i P n e.time (event_of e.name e.payload) e.coalesce w (admission i e.time (event_of e.name e.payload)) runs ranged may
-message i P n tags now (query q) w runs ranged may = query-received i P n tags now q w (query_admission i q.time q.id) refl runs ranged.time ranged.id may
-message i P n tags now (query_response r) w runs ranged may = response i P n now r w (asked_at r.time i.asked)
-message i P n tags now (push_pull m) w runs ranged may = n.quiet i (same-agent i)
-message i P n tags now (foreign kind) w runs ranged may = n.quiet i (same-agent i)
+message : {T : Type 0} (i : IdealAgent) (P : Property) → IsSound i → Noting i T P → (tags : Bool) (now : ℕ) (m : Message) (w : Writing) → i.snapshot.stopped ≡ false → InRange m → (T → IsMessageTold m) → MayEnd i (receive_message tags i now m) w
+    → (let step = ended i (receive_message tags i now m) w in P step.agent (map event_entry (handed_by step.answer)) (got_query (Ok m) step.answer) (got_entries step.answer))
+message i P s n tags now (user_event e) w runs ranged told may =
+    let what = event_of e.name e.payload in
+    let step = ended i (receive_message tags i now (user_event e)) w in
+    subst (P step.agent (map event_entry (handed_by step.answer)) []) (sym (no-queries i e.time what e.coalesce w (admission i e.time what)))
+    (received i P s n e.time what e.coalesce w (admission i e.time what) refl runs ranged told may)
+message i P s n tags now (query q) w runs ranged told may = query-received i P s n tags now q w (query_admission i q.time q.id) refl runs ranged.time ranged.id may
+message i P s n tags now (query_response r) w runs ranged told may = response i P s n now r w (asked_at r.time i.asked) refl
+message i P s n tags now (push_pull m) w runs ranged told may = n.quiet i (same-agent i) s
+message i P s n tags now (foreign kind) w runs ranged told may = n.quiet i (same-agent i) s
 
-read : BelowKeptLives → (i : IdealAgent) (P : Property) → Noting i P → (tags : Bool) (now : ℕ) (packet : List ℕ) (r : Result Message WireFault) (w : Writing) → i.snapshot.stopped ≡ false → decoded packet ≡ r → MayEnd i (receive_read tags i now r) w
-    → (let step = ended i (receive_read tags i now r) w in P step.agent (map event_entry (handed_by step.answer)) (got_query r step.answer))
-read laws i P n tags now packet (Ok m) w runs is may = message i P n tags now m w runs (laws.life.ranged packet m is) may
-read laws i P n tags now packet (Err fault) w runs is may = n.quiet i (same-agent i)
+read : {T : Type 0} → DecodesInRange → (i : IdealAgent) (P : Property) → IsSound i → Noting i T P → (tags : Bool) (now : ℕ) (packet : List ℕ) (r : Result Message WireFault) (w : Writing) → i.snapshot.stopped ≡ false → (T → (m : Message) → decoded packet ≡ Ok m → IsMessageTold m) → decoded packet ≡ r → MayEnd i (receive_read tags i now r) w
+    → (let step = ended i (receive_read tags i now r) w in P step.agent (map event_entry (handed_by step.answer)) (got_query r step.answer) (got_entries step.answer))
+read ranged i P s n tags now packet (Ok m) w runs told is may = message i P s n tags now m w runs (ranged packet m is) (λ h. told h m is) may
+read ranged i P s n tags now packet (Err fault) w runs told is may = n.quiet i (same-agent i) s
 
 -- a fault enters none
 got-none : (r : Result Message WireFault) (fault : ReceiveFault) → got_query r (Err fault) ≡ []
@@ -173,21 +241,20 @@ got-none (Ok (push_pull m)) fault = refl
 got-none (Ok (foreign kind)) fault = refl
 got-none (Err e) fault = refl
 
-got : BelowKeptLives → (i : IdealAgent) (P : Property) → Noting i P → (tags : Bool) (now : ℕ) (packet : List ℕ) (w : Writing) → MayGoOn i (Gets tags now packet w)
-    → P (after i (Gets tags now packet w)) (events_out i (Gets tags now packet w)) (queries_entered i (Gets tags now packet w))
-got laws i P n tags now packet w go = by i.snapshot.stopped refl go.0
+got : DecodesInRange → (tags : Bool) (now : ℕ) (packet : List ℕ) (w : Writing) (i : IdealAgent) (P : Property) → (let a = Gets tags now packet w in IsSound i → Noting i (IsTellable a) P → MayAct i a → P (after i a) (events_out i a) (queries_entered i a) (queries_out i a))
+got ranged tags now packet w i P s n may = by i.snapshot.stopped refl may
   where
     by : (b : Bool) → i.snapshot.stopped ≡ b → MayEnd i (cond b (answers i (Err receives.Stopped)) (receive_read tags i now (decoded packet))) w
-        → (let step = ended i (cond b (answers i (Err receives.Stopped)) (receive_read tags i now (decoded packet))) w in P step.agent (map event_entry (handed_by step.answer)) (got_query (decoded packet) step.answer))
-    by true is m = subst (P i []) (sym (got-none (decoded packet) receives.Stopped)) (n.quiet i (same-agent i))
-    by false is m = read laws i P n tags now packet (decoded packet) w is refl m
+        → (let step = ended i (cond b (answers i (Err receives.Stopped)) (receive_read tags i now (decoded packet))) w in P step.agent (map event_entry (handed_by step.answer)) (got_query (decoded packet) step.answer) (got_entries step.answer))
+    by true is m = subst (λ (l : List (TimedEntry ℕ)). P i [] l []) (sym (got-none (decoded packet) receives.Stopped)) (n.quiet i (same-agent i) s)
+    by false is m = read ranged i P s n tags now packet (decoded packet) w is (λ told. told) refl m
 
 -- ---- acts
 
-saved : (i : IdealAgent) (P : Property) → Noting i P → (b : Bool) (w : Writing) → i.snapshot.stopped ≡ b → MayEnd i (saves_so i b) w → P (ended i (saves_so i b) w).agent [] []
-saved i P n true w is m = n.quiet i (same-agent i)
-saved i P n false Kept is m = n.saves (i.member_clock - 1) is
-saved i P n false (Failed durable) is m = n.save_fails (i.member_clock - 1) durable is m
+saved : {T : Type 0} (i : IdealAgent) (P : Property) → IsSound i → Noting i T P → (b : Bool) (w : Writing) → i.snapshot.stopped ≡ b → MayEnd i (saves_so i b) w → P (ended i (saves_so i b) w).agent [] [] []
+saved i P s n true w is m = n.quiet i (same-agent i) s
+saved i P s n false Kept is m = n.saves (i.member_clock - 1) (omega (arith, s.member_clock)) is
+saved i P s n false (Failed durable) is m = n.save_fails (i.member_clock - 1) durable is m
 
 -- an act that is neither a state that is heard of, nor a compaction, nor an opening
 abbrev pub IsNoted : Act → Type 0
@@ -196,16 +263,17 @@ IsNoted (Compacts w) = ⊥
 IsNoted (Opens config text d) = ⊥
 IsNoted _ = Unit {0}
 
-pub acts : BelowKeptLives → (i : IdealAgent) (P : Property) → Noting i P → (a : Act) → IsNoted a → MayGoOn i a → P (after i a) (events_out i a) (queries_entered i a)
-acts laws i P n (Fires what flag w) noted go = fired i P n what flag w (fire_fault i what flag) refl go.0
-acts laws i P n (Asks now id name payload params w) noted go = query-fired i P n now id name payload params w (query_fault i id name payload params) go.1 refl go.0
-acts laws i P n (Gets tags now packet w) noted go = got laws i P n tags now packet w go
-acts laws i P n (Takes e w) noted go = received i P n e.time e.key false w (admission i e.time e.key) go.0.0 go.0.1 go.0.2
-acts laws i P n (Saves w) noted go = saved i P n i.snapshot.stopped w refl go.0
-acts laws i P n (Closes now) noted go = n.quiet (close_due i now).agent (record { settings = refl; snapshot = refl; events = same-track i.events; queries = same-track i.queries })
-acts laws i P n (Hears m is_join w) noted go = absurd noted
-acts laws i P n (Compacts w) noted go = absurd noted
-acts laws i P n (Opens config text d) noted go = absurd noted
+-- what each note keeps, such an act keeps
+pub acts : DecodesInRange → (i : IdealAgent) (a : Act) (P : Property) → IsSound i → Noting i (IsTellable a) P → IsNoted a → MayAct i a → P (after i a) (events_out i a) (queries_entered i a) (queries_out i a)
+acts ranged i (Fires what flag w) P s n noted may = fired i P s n what flag w (fire_fault i what flag) refl (λ told. told) may
+acts ranged i (Asks now id name payload params w) P s n noted may = query-fired i P s n now id name payload params w (query_fault i id name payload params) (λ told. told) refl may
+acts ranged i (Gets tags now packet w) P s n noted may = got ranged tags now packet w i P s n may
+acts ranged i (Takes e w) P s n noted may = received i P s n e.time e.key false w (admission i e.time e.key) refl may.0 may.1 (λ told. told) may.2
+acts ranged i (Saves w) P s n noted may = saved i P s n i.snapshot.stopped w refl may
+acts ranged i (Closes now) P s n noted may = n.quiet (close_due i now).agent (record { settings = refl; snapshot = refl; events = same-track i.events; queries = same-track i.queries }) (sound-closed now i s)
+acts ranged i (Hears m is_join w) P s n noted may = absurd noted
+acts ranged i (Compacts w) P s n noted may = absurd noted
+acts ranged i (Opens config text d) P s n noted may = absurd noted
 
 -- a state is heard of: nothing is written, or the line of a least time, or that fails
 pub heard : (i : IdealAgent) (m : PushPull) (is_join : Bool) (w : Writing) (P : IdealAgent → Type 0) → P (joined m is_join i)

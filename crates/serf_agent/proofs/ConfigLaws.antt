@@ -14,27 +14,14 @@ packets_of c = buffers_of c && nat_le c.event_limit 9216 && nat_le c.query_limit
 packets : (c : Config) → is_sound c ≡ true → packets_of c ≡ true
 packets c h = (and_parts (packets_of c) (is_between 1 65536 c.responders) (and_parts (packets_of c && is_between 1 65536 c.responders) (is_between 1 65536 c.per_time) h).0).0
 
-pub response_limit-sound : (c : Config) → is_sound c ≡ true → c.response_limit ≤ 9216
-response_limit-sound c h = leb-true c.response_limit 9216 (and_parts (buffers_of c && nat_le c.event_limit 9216 && nat_le c.query_limit 9216) (nat_le c.response_limit 9216) (packets c h)).1
-
 limits : (c : Config) → is_sound c ≡ true → (buffers_of c && nat_le c.event_limit 9216 && nat_le c.query_limit 9216) ≡ true
 limits c h = (and_parts (buffers_of c && nat_le c.event_limit 9216 && nat_le c.query_limit 9216) (nat_le c.response_limit 9216) (packets c h)).0
-
-pub query_limit-sound : (c : Config) → is_sound c ≡ true → c.query_limit ≤ 9216
-query_limit-sound c h = leb-true c.query_limit 9216 (and_parts (buffers_of c && nat_le c.event_limit 9216) (nat_le c.query_limit 9216) (limits c h)).1
 
 events : (c : Config) → is_sound c ≡ true → (buffers_of c && nat_le c.event_limit 9216) ≡ true
 events c h = (and_parts (buffers_of c && nat_le c.event_limit 9216) (nat_le c.query_limit 9216) (limits c h)).0
 
 pub limit-sound : (c : Config) → is_sound c ≡ true → c.event_limit ≤ 9216
 limit-sound c h = leb-true c.event_limit 9216 (and_parts (buffers_of c) (nat_le c.event_limit 9216) (events c h)).1
-
-pub name-sound : (c : Config) → is_sound c ≡ true → length c.name ≤ 128
-name-sound c h =
-    let buffers = and_parts (buffers_of c) (nat_le c.event_limit 9216) (events c h) in
-    let slots = and_parts (is_between 1 128 (length c.name) && is_between 1 65536 c.event_buffer) (is_between 1 65536 c.query_buffer) buffers.0 in
-    let name = and_parts (is_between 1 128 (length c.name)) (is_between 1 65536 c.event_buffer) slots.0 in
-    leb-true (length c.name) 128 (and_parts (nat_le 1 (length c.name)) (nat_le (length c.name) 128) name.0).1
 
 -- each buffer has a slot
 pub buffers-sound : (c : Config) → is_sound c ≡ true → (0 < c.event_buffer) × (0 < c.query_buffer)

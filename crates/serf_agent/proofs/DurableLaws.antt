@@ -1,16 +1,14 @@
 -- What each change of an agent leaves durable, in a life with the setting that keeps events or without it.
-use Rattle.serf_agent.proofs.Names.{◌≡◌, ℕ, ◌+◌, ◌-◌, ◌^◌, ◌<◌, ◌≤◌, ◌⊎◌, inl, inr, max, nat_le, cond, Bool, true, false, List, [], ◌++◌, Option, Some, None, refl, sym, subst, ◌∙◌, append-nil, arith, option_map, All, All-push, All-weaker, true≢false, EventBody, TimedEntry, ClockKind, last_clock, last_line, Device, SnapshotView, Writing, Kept, Failed, KeepsEither, KeepsPart, opened, written, same_id, same_texts}
+use Rattle.serf_agent.proofs.Names.{◌≡◌, ℕ, ◌+◌, ◌-◌, ◌^◌, ◌<◌, ◌≤◌, ◌⊎◌, inl, inr, max, nat_le, cond, Bool, true, false, List, [], ◌++◌, Option, Some, None, refl, sym, subst, ◌∙◌, arith, option_map, All, All-push, All-weaker, true≢false, EventBody, TimedEntry, ClockKind, last_clock, last_line, Device, SnapshotView, Writing, Kept, Failed, KeepsEither, opened, written, same_id, same_texts}
 use Rattle.std.proofs.lemmas.List.Elements.{All-map}
 use Rattle.serf_wire.specs.Bytes.{AreBytes}
 use Rattle.serf_window.specs.Recall.{RecallLaws}
-use Rattle.serf_snap.specs.declared.kept.KeptQuery.{KeptQuery}
 use Rattle.serf_snap.specs.declared.kept.Wanted.{Wanted}
 use Rattle.serf_snap.specs.declared.kind.ClockKind.TheVariants as kinds
 use Rattle.serf_snap.specs.Clocks.{sealed}
 use Rattle.serf_snap.specs.Device.{Observable}
 use Rattle.serf_snap.specs.EventLines.{events_in, least_in, queries_in, query_line}
 use Rattle.serf_snap.specs.Notes.{AreTimes, MayReplaceBy, compaction_of, text_replaced, with_line}
-use Rattle.serf_snap.specs.TimedEvent.{TimedEvent}
 use Rattle.serf_agent.specs.Events.{event_entered, texts_len, told_event}
 use Rattle.serf_agent.specs.Ideal.{IdealAgent, Past, with_snapshot}
 use Rattle.serf_agent.specs.Keeping.{KeepingLaws, opened_clock, taken_back}
@@ -24,13 +22,13 @@ use Rattle.serf_agent.specs.Queries.{query_entered, told_query}
 use Rattle.serf_agent.specs.Restart.{restarted, restarted_by}
 use Rattle.serf_agent.specs.Sound.{IsSound}
 use Rattle.serf_agent.specs.States.{told_lines}
-use Rattle.serf_agent.specs.Told.{MayNote, bytes_with, noted_with, text_with}
+use Rattle.serf_agent.specs.Told.{MayNote, noted_with, text_with}
 use Rattle.serf_agent.specs.Unkept.{HasSaid, IsSaid, IsSaidSound, UnkeptLaws}
 use Rattle.serf_agent.specs.View.{view_of}
 use Rattle.serf_agent.proofs.ConfigLaws.{buffers-sound}
 use Rattle.serf_agent.proofs.KeptRestartLaws.{among}
-use Rattle.serf_agent.proofs.KeptStepLaws.{part-durable, some-same}
-use Rattle.serf_agent.proofs.SoundLaws.{may-part}
+use Rattle.serf_agent.proofs.KeptStepLaws.{GrowsTo, failed-grows, some-same}
+use Rattle.serf_agent.proofs.SoundLaws.{last-text}
 
 -- ---- what the crates below promise, and the laws of this one
 
@@ -88,11 +86,7 @@ pub record Carries (i j : IdealAgent) : Type 0 where
   pub last_event : j.snapshot.event_clock ≡ i.snapshot.event_clock
   pub last_query : j.snapshot.query_clock ≡ i.snapshot.query_clock
   pub times : AreTimes j.snapshot
-  pub durable : (new : List ℕ) → j.snapshot.durable ≡ Some new → (old : List ℕ) × (more : List ℕ) × (i.snapshot.durable ≡ Some old) × (old ++ more ≡ new)
-
--- what is durable is what was
-pub as-before : (s : Option (List ℕ)) (new : List ℕ) → s ≡ Some new → (old : List ℕ) × (more : List ℕ) × (s ≡ Some old) × (old ++ more ≡ new)
-as-before s new at = (new, [], at, append-nil new)
+  pub durable : GrowsTo i.snapshot.durable j.snapshot.durable
 
 has-kept : BelowDurable → (i j : IdealAgent) (old more : List ℕ) → Carries i j → HasKept i old → HasKept j (old ++ more)
 has-kept laws i j old more c had = record {
@@ -122,9 +116,9 @@ carried laws i j c h = record {
   queries_least = (omega (arith, c.queries_up, h.queries_least.0), c.queries_low);
 }
 
--- the sink fails at a note
-pub fails : BelowDurable → (kind : ClockKind) (t : ℕ) (line durable : Option (List ℕ)) (i : IdealAgent) → IsDurable i → MayNote kind t line i.snapshot (Failed durable) → IsDurable (with_snapshot (written kind t i.snapshot (Failed durable)) i)
-fails laws kind t line durable i h may = carried laws i (with_snapshot (written kind t i.snapshot (Failed durable)) i) (record {
+-- so it is where only the snapshot changes, whose last lines of events and of queries stay
+pub with-snapshot : BelowDurable → (i : IdealAgent) (s : SnapshotView) → IsDurable i → s.event_clock ≡ i.snapshot.event_clock → s.query_clock ≡ i.snapshot.query_clock → AreTimes s → GrowsTo i.snapshot.durable s.durable → IsDurable (with_snapshot s i)
+with-snapshot laws i s h event query times grows = carried laws i (with_snapshot s i) (record {
   keeps = refl;
   events = refl;
   queries = refl;
@@ -132,16 +126,17 @@ fails laws kind t line durable i h may = carried laws i (with_snapshot (written 
   queries_up = omega arith;
   events_low = h.events_least.1;
   queries_low = h.queries_least.1;
-  last_event = refl;
-  last_query = refl;
-  times = record { member_clock = h.times.member_clock; event_clock = h.times.event_clock; query_clock = h.times.query_clock };
-  durable = part;
+  last_event = event;
+  last_query = query;
+  times = times;
+  durable = grows;
 }) h
-  where
-    part : (new : List ℕ) → durable ≡ Some new → (old : List ℕ) × (more : List ℕ) × (i.snapshot.durable ≡ Some old) × (old ++ more ≡ new)
-    part new at =
-        let p = part-durable i.snapshot.durable (bytes_with kind t line i.snapshot) new (subst (KeepsPart i.snapshot.durable (bytes_with kind t line i.snapshot)) at (may-part kind i.snapshot t line durable may)) in
-        (p.0, p.1, p.2, sym p.3)
+
+-- the sink fails at a note
+pub fails : BelowDurable → (kind : ClockKind) (t : ℕ) (line durable : Option (List ℕ)) (i : IdealAgent) → IsDurable i → MayNote kind t line i.snapshot (Failed durable) → IsDurable (with_snapshot (written kind t i.snapshot (Failed durable)) i)
+fails laws kind t line durable i h may =
+    let times : AreTimes (written kind t i.snapshot (Failed durable)) = record { member_clock = h.times.member_clock; event_clock = h.times.event_clock; query_clock = h.times.query_clock } in
+    with-snapshot laws i (written kind t i.snapshot (Failed durable)) h refl refl times (failed-grows kind t line durable i.snapshot may)
 
 -- ---- an event enters, and a query
 
@@ -198,42 +193,44 @@ enters-query laws t id i s h runs from small told = by i.config.keep_events refl
 -- ---- a compaction
 
 -- what is durable once a text was to be replaced by another: this, or what was
-pub either : (s durable : Option (List ℕ)) (text new : List ℕ) → KeepsEither s text durable → durable ≡ Some new → (s ≡ Some new) ⊎ (text ≡ new)
+either : (s durable : Option (List ℕ)) (text new : List ℕ) → KeepsEither s text durable → durable ≡ Some new → (s ≡ Some new) ⊎ (text ≡ new)
 either None durable text new keeps at = absurd (let none : durable ≡ None = keeps in cc)
 either (Some k) durable text new (inl old) at = inl (sym old ∙ at)
 either (Some k) durable text new (inr other) at = inr (some-same text new (sym other ∙ at))
 
-pub replaced-by : (s : Option (List ℕ)) (text new : List ℕ) → option_map (λ (k : List ℕ). text) s ≡ Some new → text ≡ new
+replaced-by : (s : Option (List ℕ)) (text new : List ℕ) → option_map (λ (k : List ℕ). text) s ≡ Some new → text ≡ new
 replaced-by None text new at = absurd (cc at)
 replaced-by (Some k) text new at = some-same text new at
 
+-- whether it was replaced or not
+either-text : (text new : List ℕ) (s : SnapshotView) (w : Writing) → MayReplaceBy text s w → (text_replaced text s w).durable ≡ Some new → (s.durable ≡ Some new) ⊎ (text ≡ new)
+either-text text new s Kept may at = inr (replaced-by s.durable text new at)
+either-text text new s (Failed durable) may at = either s.durable durable text new may.0 at
+
+-- so what holds of what was durable, and of the text, holds of it
+pub replaced-holds : (P : List ℕ → Type 0) (text new : List ℕ) (s : SnapshotView) (w : Writing) → MayReplaceBy text s w → (text_replaced text s w).durable ≡ Some new → ((old : List ℕ) → s.durable ≡ Some old → P old) → P text → P new
+replaced-holds P text new s w may at before says = elim (either-text text new s w may at) [ inl was ↦ before new was | inr is ↦ subst P is says ]
+
 replaces : (text : List ℕ) (w : Writing) (i : IdealAgent) → IsDurable i → HasKept i text → (i.config.keep_events ≡ false → HasSaid i text) → MayReplaceBy text i.snapshot w → IsDurable (with_snapshot (text_replaced text i.snapshot w) i)
-replaces text Kept i h kept said may = record {
-  kept = λ new at. let has : HasKept i new = subst (HasKept i) (replaced-by i.snapshot.durable text new at) kept in record { events = has.events; queries = has.queries };
-  said = λ off new at. let has : HasSaid i new = subst (HasSaid i) (replaced-by i.snapshot.durable text new at) (said off) in record { kept = record { events = has.kept.events; queries = has.kept.queries }; events = has.events; queries = has.queries };
-  times = record { member_clock = h.times.member_clock; event_clock = h.times.event_clock; query_clock = h.times.query_clock };
-  events_told = h.events_told;
-  queries_told = h.queries_told;
-  events_least = h.events_least;
-  queries_least = h.queries_least;
-}
-replaces text (Failed durable) i h kept said may = record {
-  kept = λ new at. let has : HasKept i new = kept-either new (either i.snapshot.durable durable text new may.0 at) in record { events = has.events; queries = has.queries };
-  said = λ off new at. let has : HasSaid i new = said-either off new (either i.snapshot.durable durable text new may.0 at) in record { kept = record { events = has.kept.events; queries = has.kept.queries }; events = has.events; queries = has.queries };
-  times = record { member_clock = h.times.member_clock; event_clock = h.times.event_clock; query_clock = h.times.query_clock };
+replaces text w i h kept said may = record {
+  kept = λ new at. let has : HasKept i new = replaced-holds (HasKept i) text new i.snapshot w may at h.kept kept in record { events = has.events; queries = has.queries };
+  said = λ off new at.
+      let has : HasSaid i new = replaced-holds (HasSaid i) text new i.snapshot w may at (h.said off) (said off) in
+      record {
+        kept = record { events = has.kept.events; queries = has.kept.queries };
+        events = subst (λ (last : ℕ). IsSaid kinds.Event i.events.minimum last new) (sym (last-text kinds.Event text i.snapshot w)) has.events;
+        queries = subst (λ (last : ℕ). IsSaid kinds.Query i.queries.minimum last new) (sym (last-text kinds.Query text i.snapshot w)) has.queries;
+      };
+  times = times w;
   events_told = h.events_told;
   queries_told = h.queries_told;
   events_least = h.events_least;
   queries_least = h.queries_least;
 }
   where
-    kept-either : (new : List ℕ) → (i.snapshot.durable ≡ Some new) ⊎ (text ≡ new) → HasKept i new
-    kept-either new (inl old) = h.kept new old
-    kept-either new (inr is) = subst (HasKept i) is kept
-
-    said-either : i.config.keep_events ≡ false → (new : List ℕ) → (i.snapshot.durable ≡ Some new) ⊎ (text ≡ new) → HasSaid i new
-    said-either off new (inl old) = h.said off new old
-    said-either off new (inr is) = subst (HasSaid i) is (said off)
+    times : (w : Writing) → AreTimes (text_replaced text i.snapshot w)
+    times Kept = record { member_clock = h.times.member_clock; event_clock = h.times.event_clock; query_clock = h.times.query_clock }
+    times (Failed durable) = record { member_clock = h.times.member_clock; event_clock = h.times.event_clock; query_clock = h.times.query_clock }
 
 pub compacts : BelowDurable → (w : Writing) (i : IdealAgent) → IsSound i → IsDurable i → (let text = text_with (told_lines (view_of i)) i.snapshot in MayReplaceBy text i.snapshot w → IsDurable (with_snapshot (text_replaced text i.snapshot w) i))
 compacts laws w i s h = by i.config.keep_events refl
@@ -251,14 +248,10 @@ compacts laws w i s h = by i.config.keep_events refl
 -- what is read of a text can be told
 told-events : BelowDurable → (w : Wanted) (text : List ℕ) → All (λ e. (0 < e.time) × (e.time < 2 ^ 64 - 1) × IsTold e.key) (kept_events w text)
 told-events laws w text =
-    let P : TimedEntry EventBody → Type 0 = λ e. (0 < e.time) × (e.time < 2 ^ 64 - 1) × IsTold e.key in
-    All-map P event_entry (events_in w text)
-    (All-weaker (λ (e : TimedEvent). (0 < e.time) × (e.time < 2 ^ 64 - 1) × AreBytes e.name × AreBytes e.payload) (λ (e : TimedEvent). P (event_entry e)) (λ e h. (h.0, h.1, record { name = h.2; payload = h.3 })) (events_in w text) (laws.events_read w text))
+    All-map (λ (e : TimedEntry EventBody). (0 < e.time) × (e.time < 2 ^ 64 - 1) × IsTold e.key) event_entry (events_in w text) (λ k d inside. let h = laws.events_read w text k d inside in (h.0, h.1, record { name = h.2; payload = h.3 }))
 
 told-queries : BelowDurable → (w : Wanted) (text : List ℕ) → All (λ e. (0 < e.time) × (e.time < 2 ^ 64 - 1) × IsIdTold e.key) (kept_queries w text)
-told-queries laws w text =
-    let P : TimedEntry ℕ → Type 0 = λ e. (0 < e.time) × (e.time < 2 ^ 64 - 1) × IsIdTold e.key in
-    All-map P query_entry (queries_in w text) (All-weaker (λ (q : KeptQuery). (0 < q.time) × (q.time < 2 ^ 64 - 1) × (q.id < 2 ^ 32)) (λ (q : KeptQuery). P (query_entry q)) (λ q h. (h.0, h.1, h.2)) (queries_in w text) (laws.queries_read w text))
+told-queries laws w text = All-map (λ (e : TimedEntry ℕ). (0 < e.time) × (e.time < 2 ^ 64 - 1) × IsIdTold e.key) query_entry (queries_in w text) (λ k d inside. let h = laws.queries_read w text k d inside in (h.0, h.1, h.2))
 
 -- the least time that comes of a text
 least-back : {K : Type 0} → RecallLaws K → (same : K → K → Bool) (n k last least : ℕ) (kept : List (TimedEntry K)) → last < 2 ^ 64 - 1 → 1 ≤ least → least ≤ 2 ^ 64 - 1 → All (λ e. e.time ≤ last) kept

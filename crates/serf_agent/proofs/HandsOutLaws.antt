@@ -1,6 +1,6 @@
 -- What an agent that keeps its events over a restart doesn't miss: what stays true of its events, and of its queries, at each line,
 -- for one time.
-use Rattle.serf_agent.proofs.Names.{◌≡◌, ◌≢◌, ℕ, ◌-◌, ◌^◌, ◌<◌, ◌≤◌, ◌⊎◌, ◌==◌, inl, inr, max, nat_le, cond, Bool, true, false, List, [], ◌∷◌, ◌++◌, Option, Some, None, take, drop, refl, sym, subst, ap, ◌∙◌, append-nil, append_assoc, arith, All, All-head, All-push, All-tail, All-weaker, take-append-drop, EventBody, TimedEntry, ClockKind, clock_line, last_line, Writing, Kept, Failed, KeepsPart, noted, written, slots_of}
+use Rattle.serf_agent.proofs.Names.{◌≡◌, ◌≢◌, ℕ, ◌-◌, ◌^◌, ◌<◌, ◌≤◌, ◌==◌, inl, max, nat_le, cond, Bool, true, false, List, [], ◌∷◌, ◌++◌, Option, Some, None, take, drop, refl, sym, subst, ap, ◌∙◌, append-nil, append_assoc, arith, All, All-head, All-push, All-tail, All-weaker, take-append-drop, EventBody, TimedEntry, ClockKind, clock_line, last_line, Writing, Kept, Failed, KeepsPart, noted, written, slots_of}
 use Rattle.std.proofs.lemmas.List.Elements.{Contains-append_right}
 use Rattle.serf_window.specs.Laws.{SlotLaws}
 use Rattle.serf_snap.specs.declared.kind.ClockKind.TheVariants as kinds
@@ -19,12 +19,12 @@ use Rattle.serf_agent.specs.Told.{MayNote, bytes_with, noted_with}
 use Rattle.serf_agent.specs.TrackOf.{TrackOf}
 use Rattle.serf_agent.specs.Tracks.{of_life, track_entered}
 use Rattle.serf_agent.specs.View.{view_of}
-use Rattle.serf_agent.proofs.DurableLaws.{either, replaced-by}
+use Rattle.serf_agent.proofs.DurableLaws.{replaced-holds}
 use Rattle.serf_agent.proofs.KeptCompactionLaws.{only-entered}
 use Rattle.serf_agent.proofs.KeptLifeLaws.{BelowKeptLives}
 use Rattle.serf_agent.proofs.KeptStepLaws.{grown-durable, some-same}
 use Rattle.serf_agent.proofs.MetLaws.{Wider, wider-handed}
-use Rattle.serf_agent.proofs.SoundLaws.{may-part}
+use Rattle.serf_agent.proofs.SoundLaws.{last-text, may-part}
 
 -- ---- what the crates below promise
 
@@ -236,15 +236,10 @@ told-lines {K} laws k line (e ∷ es) text whole told =
     let rest = told-lines laws k line es (text ++ line e.time e.key) (laws.whole text (line e.time e.key) whole one.1) (All-tail (Told k line) e es told) in
     (ap (least_in k) (sym joined) ∙ rest.0 ∙ one.0 text whole, ap is_whole (sym joined) ∙ rest.1)
 
-event-lines : BelowHandsOut → (k : ClockKind) (n life least : ℕ) (history : List (Past EventBody)) → AreTold IsTold history → All (Told k line_of_event) (held_from least (slots_of n (of_life life history)))
-event-lines laws k n life least history told = only-entered laws.event_slots n life least history (Told k line_of_event)
-    (All-weaker (λ (p : Past EventBody). (0 < p.entry.time) × (p.entry.time < 2 ^ 64 - 1) × IsTold p.entry.key) (λ (p : Past EventBody). Told k line_of_event p.entry)
-    (λ p h. (tells-event laws k p.entry.time p.entry.key h.1, (laws.event_whole p.entry.time p.entry.key.name p.entry.key.payload).whole)) history told)
-
-query-lines : BelowHandsOut → (k : ClockKind) (n life least : ℕ) (history : List (Past ℕ)) → AreTold IsIdTold history → All (Told k query_line) (held_from least (slots_of n (of_life life history)))
-query-lines laws k n life least history told = only-entered laws.query_slots n life least history (Told k query_line)
-    (All-weaker (λ (p : Past ℕ). (0 < p.entry.time) × (p.entry.time < 2 ^ 64 - 1) × IsIdTold p.entry.key) (λ (p : Past ℕ). Told k query_line p.entry)
-    (λ p h. (tells-query laws k p.entry.time p.entry.key h.1 h.2, (laws.query_whole p.entry.time p.entry.key).whole)) history told)
+-- so is each line of what the slots of a track hold
+held-told : {K : Type 0} (k : ClockKind) (line : ℕ → K → List ℕ) (Is : K → Type 0) → SlotLaws K → ((t : ℕ) (what : K) → t < 2 ^ 64 - 1 → Is what → Told k line (record { time = t; key = what })) → (n life least : ℕ) (history : List (Past K)) → AreTold Is history
+    → All (Told k line) (held_from least (slots_of n (of_life life history)))
+held-told {K} k line Is slots each n life least history told = only-entered slots n life least history (Told k line) (λ at d inside. let h = told at d inside in each _ _ h.1 h.2)
 
 -- the clock lines behind
 behind-least : BelowHandsOut → (k : ClockKind) (text : List ℕ) (m e q : ℕ) → k ≢ kinds.Member → is_whole text ≡ true → e < 2 ^ 64 - 1 → q < 2 ^ 64 - 1
@@ -282,11 +277,11 @@ compaction-least laws k i other h tell =
     let least_query : ℕ = least_told i.config.query_buffer i.snapshot.query_clock i.queries.minimum in
     let held : List (TimedEntry EventBody) = held_from least (slots_of i.config.event_buffer (of_life i.life i.events.history)) in
     let held_queries : List (TimedEntry ℕ) = held_from least_query (slots_of i.config.query_buffer (of_life i.life i.queries.history)) in
-    let events = told-lines laws k line_of_event held (least_line kinds.Event least) (laws.least_whole kinds.Event least).whole (event-lines laws k i.config.event_buffer i.life least i.events.history h.events_told) in
+    let events = told-lines laws k line_of_event held (least_line kinds.Event least) (laws.least_whole kinds.Event least).whole (held-told k line_of_event IsTold laws.event_slots (λ t what small is. (tells-event laws k t what small, (laws.event_whole t what.name what.payload).whole)) i.config.event_buffer i.life least i.events.history h.events_told) in
     let ev : List ℕ = least_line kinds.Event least ++ lines_told line_of_event held in
     let own : least_in k (ev ++ least_line kinds.Query least_query) ≡ max 1 (least_of k i) = tell.two ev events.1 (events.0 ∙ tell.one) in
     let whole : is_whole (ev ++ least_line kinds.Query least_query) ≡ true = laws.whole ev (least_line kinds.Query least_query) events.1 (laws.least_whole kinds.Query least_query).whole in
-    let queries = told-lines laws k query_line held_queries (ev ++ least_line kinds.Query least_query) whole (query-lines laws k i.config.query_buffer i.life least_query i.queries.history h.queries_told) in
+    let queries = told-lines laws k query_line held_queries (ev ++ least_line kinds.Query least_query) whole (held-told k query_line IsIdTold laws.query_slots (λ t id small low. (tells-query laws k t id small low, (laws.query_whole t id).whole)) i.config.query_buffer i.life least_query i.queries.history h.queries_told) in
     let joined : (ev ++ least_line kinds.Query least_query) ++ lines_told query_line held_queries ≡ kept_lines (view_of i) = append_assoc ev (least_line kinds.Query least_query) (lines_told query_line held_queries) in
     let lines : least_in k (kept_lines (view_of i)) ≡ max 1 (least_of k i) = ap (least_in k) (sym joined) ∙ queries.0 ∙ own in
     behind-least laws k (kept_lines (view_of i)) i.snapshot.member_clock i.snapshot.event_clock i.snapshot.query_clock other (ap is_whole (sym joined) ∙ queries.1) h.times.event_clock h.times.query_clock ∙ lines
@@ -317,18 +312,13 @@ compaction-queries laws i h =
 
 pub opens-compacted : {K : Type 0} (k : ClockKind) (n t : ℕ) (handed stood : List (TimedEntry K)) (track : Track K) (s : SnapshotView) (text : List ℕ) (w : Writing) → 0 < t → least_in k text ≡ max 1 (least_told n (last_line k s) track.minimum) → IsOpenAt k n t handed stood track s → MayReplaceBy text s w
     → IsOpenAt k n t handed stood track (text_replaced text s w)
-opens-compacted {K} k n t handed stood track s text w some is o = by w
+opens-compacted {K} k n t handed stood track s text w some is o may = follows k n t handed stood track s track (text_replaced text s w) (record {
+  clock = omega arith;
+  last = last-text k text s w;
+  history = refl;
+  minimum = omega arith;
+  least = λ new at. replaced-holds (λ (x : List ℕ). least_in k x ≤ allowed k n t s) text new s w may at o.least low;
+}) o
   where
     low : least_in k text ≤ allowed k n t s
     low = omega (arith, is, some, o.minimum)
-
-    one-of : (new : List ℕ) → (s.durable ≡ Some new) ⊎ (text ≡ new) → least_in k new ≤ allowed k n t s
-    one-of new (inl old) = o.least new old
-    one-of new (inr is) = let same : least_in k text ≡ least_in k new = ap (least_in k) is in omega (arith, same, low)
-
-    left : (u : SnapshotView) → last_line k u ≡ last_line k s → ((new : List ℕ) → u.durable ≡ Some new → (s.durable ≡ Some new) ⊎ (text ≡ new)) → IsOpenAt k n t handed stood track u
-    left u last either = follows k n t handed stood track s track u (record { clock = omega arith; last = last; history = refl; minimum = omega arith; least = λ new at. one-of new (either new at) }) o
-
-    by : (w : Writing) → MayReplaceBy text s w → IsOpenAt k n t handed stood track (text_replaced text s w)
-    by Kept may = left (text_replaced text s Kept) refl (λ new at. inr (replaced-by s.durable text new at))
-    by (Failed durable) may = left (text_replaced text s (Failed durable)) refl (λ new at. either s.durable durable text new may.0 at)

@@ -1,5 +1,5 @@
 -- What an agent that keeps its events over a restart doesn't miss: each act, and all lives.
-use Rattle.serf_agent.proofs.Names.{◌≡◌, ℕ, ◌+◌, ◌-◌, ◌^◌, ◌<◌, ◌≤◌, ◌⊎◌, ◌&&◌, inl, inr, max, cond, Bool, true, false, List, [], ◌∷◌, ◌++◌, Some, None, refl, sym, subst, ap, ◌∙◌, arith, All, All-head, All-tail, All-weaker, cases_lt, EventBody, TimedEntry, PushPull, same_id, same_texts, last_clock, last_line, Device, ClockKind, SnapshotView, Writing, Kept, Failed, noted, opened, written}
+use Rattle.serf_agent.proofs.Names.{◌≡◌, ℕ, ◌+◌, ◌-◌, ◌^◌, ◌<◌, ◌≤◌, ◌⊎◌, ◌&&◌, inl, inr, max, cond, Bool, true, false, List, [], ◌∷◌, ◌++◌, Option, Some, None, refl, sym, subst, ap, ◌∙◌, arith, All, All-head, All-tail, All-weaker, cases_lt, EventBody, TimedEntry, PushPull, same_id, same_texts, last_clock, last_line, Device, ClockKind, SnapshotView, Writing, Kept, Failed, noted, opened, written}
 use Rattle.std.specs.Prelude.{Contains}
 use Rattle.std.proofs.lemmas.List.Elements.{All-contains_itself, Contains-append_right}
 use Rattle.serf_snap.specs.declared.kept.Wanted.{Wanted}
@@ -9,26 +9,25 @@ use Rattle.serf_snap.specs.EventLines.{least_in, least_line, query_line}
 use Rattle.serf_snap.specs.KeptNotes.{kept_bytes, kept_compaction_of}
 use Rattle.serf_snap.specs.Notes.{MayReplaceBy, text_replaced}
 use Rattle.serf_agent.specs.declared.config.Config.{Config}
-use Rattle.serf_agent.specs.declared.open_query.OpenQuery.{OpenQuery}
 use Rattle.serf_agent.specs.Events.{event_entered, told_event}
-use Rattle.serf_agent.specs.Ideal.{IdealAgent, Past, Track, with_asked, with_config, with_snapshot}
+use Rattle.serf_agent.specs.Ideal.{IdealAgent, Past, Track, with_config, with_snapshot}
 use Rattle.serf_agent.specs.Keeping.{KeepingLaws, taken_back, track_kept}
 use Rattle.serf_agent.specs.Kept.{HasMet, IsFull, IsMet, KeepsSettings, TellNoneAbove, TellsNoneAbove, entered_in, stood_after, stood_in}
 use Rattle.serf_agent.specs.KeptLines.{kept_lines, least_told}
-use Rattle.serf_agent.specs.KeptLives.{IsDurable, MayGoOn, MayGoOnLives}
-use Rattle.serf_agent.specs.KeptTexts.{kept_events, kept_queries, line_of_event, whatever, within_reach}
+use Rattle.serf_agent.specs.KeptLives.{IsDurable, IsTellable, MayGoOn, MayGoOnLives}
+use Rattle.serf_agent.specs.KeptTexts.{line_of_event, whatever, within_reach}
 use Rattle.serf_agent.specs.Lives.{Act, Fires, Asks, Gets, Hears, Takes, Saves, Compacts, Closes, Opens, HasFlushed, Lived, MayAct, acted, after, lived}
-use Rattle.serf_agent.specs.Queries.{query_entered, told_query}
+use Rattle.serf_agent.specs.Queries.{query_asked, query_entered, told_query}
 use Rattle.serf_agent.specs.Restart.{restarted, restarted_by}
 use Rattle.serf_agent.specs.Sound.{IsSound}
 use Rattle.serf_agent.specs.States.{joined}
 use Rattle.serf_agent.specs.Taking.{IsOpenAt, TakesAt}
-use Rattle.serf_agent.specs.Told.{bytes_with, noted_with, text_with}
+use Rattle.serf_agent.specs.Told.{MayNote, bytes_with, noted_with, text_with}
 use Rattle.serf_agent.specs.TrackOf.{TrackOf, event_track, query_track}
 use Rattle.serf_agent.specs.View.{view_of}
-use Rattle.serf_agent.proofs.ActMoves.{IsNoted, IsSeen, Noting, acts, compacted, heard}
+use Rattle.serf_agent.proofs.ActMoves.{IsNoted, IsQuiet, IsSeen, Noting, acts, compacted, heard}
 use Rattle.serf_agent.proofs.DurableLaws.{opened-durable}
-use Rattle.serf_agent.proofs.HandsOutLaws.{Allows, BelowHandsOut, allows, allows-saved, compaction-events, compaction-queries, event-no_member, follows, opens-compacted, opens-entered, opens-failed, opens-noted, opens-saved, query-no_member, stands-wider, tells-event, tells-join, tells-own, tells-query, whole-durable}
+use Rattle.serf_agent.proofs.HandsOutLaws.{Allows, BelowHandsOut, allows, allows-saved, compaction-events, compaction-queries, event-no_member, follows, opens-compacted, opens-entered, opens-failed, opens-noted, opens-saved, opens-wider, query-no_member, stands-wider, tells-event, tells-join, tells-own, tells-query, whole-durable}
 use Rattle.serf_agent.proofs.KeptLifeLaws.{may-go, stays_durable}
 use Rattle.serf_agent.proofs.KeptRestartLaws.{among}
 use Rattle.serf_agent.proofs.LifeLaws.{moves}
@@ -137,114 +136,115 @@ seen kind n t handed stood track next s u quiet same o = follows kind n t handed
   least = λ new at. o.least new (subst (λ (v : SnapshotView). v.durable ≡ Some new) same at);
 }) o
 
--- ---- the events of an agent, at each note
+-- ---- what each note leaves of a track
 
-abbrev EventsOf : ℕ → Config → List (TimedEntry EventBody) → List (TimedEntry EventBody) → IdealAgent → List (TimedEntry EventBody) → List (TimedEntry ℕ) → Type 0
-EventsOf t config handed stood i events queries = TakesAt event_track t config (handed ++ events) stood i
+-- What is proved of events and of queries by themselves: which of what an act enters is theirs, and what a line leaves of their track.
+record Lines {K : Type 0} (which : TrackOf K) : Type 0 where
+  own : List (TimedEntry EventBody) → List (TimedEntry ℕ) → List (TimedEntry K)
+  -- the track is of the agent's events and queries
+  same : (i j : IdealAgent) → j.events ≡ i.events → j.queries ≡ i.queries → which.track j ≡ which.track i
+  quiet : (i j : IdealAgent) → IsQuiet i j → IsSeen (which.track i) (which.track j)
+  no_member : (which.kind ≡ kinds.Member) → ⊥
+  saved : (t : ℕ) (s : SnapshotView) → last_line which.kind (noted kinds.Member t s Kept) ≡ last_line which.kind s
+  event : (n t : ℕ) (handed stood : List (TimedEntry K)) (i : IdealAgent) (time : ℕ) (what : EventBody) → IsOpenAt which.kind n t handed stood (which.track i) i.snapshot
+      → Allows which.kind n t i.snapshot (kept_bytes kinds.Event time (line_of_event time what) i.snapshot.event_clock)
+      → IsOpenAt which.kind n t (handed ++ own (record { time = time; key = what } ∷ []) []) stood (which.track (event_entered time what i)) (noted_with kinds.Event time (Some (line_of_event time what)) i.snapshot Kept)
+  query : (n t : ℕ) (handed stood : List (TimedEntry K)) (i : IdealAgent) (time id : ℕ) → IsOpenAt which.kind n t handed stood (which.track i) i.snapshot
+      → Allows which.kind n t i.snapshot (kept_bytes kinds.Query time (query_line time id) i.snapshot.query_clock)
+      → IsOpenAt which.kind n t (handed ++ own [] (record { time = time; key = id } ∷ [])) stood (which.track (query_entered time id i)) (noted_with kinds.Query time (Some (query_line time id)) i.snapshot Kept)
 
-events-noting : BelowHandsOut → (t : ℕ) (config : Config) (handed stood : List (TimedEntry EventBody)) (i : IdealAgent) → config.keep_events ≡ true → Course event_track t config handed stood i → Noting i (EventsOf t config handed stood)
-events-noting laws t config handed stood i on c = record {
-  quiet = λ j q. out event_track t config handed stood [] j (record { settings = q.settings ∙ c.stands.settings; opens = seen kinds.Event n t handed stood i.events j.events i.snapshot j.snapshot q.events q.snapshot o });
-  event = λ time what runs small. subst (λ (b : Bool). TakesAt event_track t config (handed ++ record { time = time; key = what } ∷ []) stood (entered b time what)) keeps (record {
-    settings = c.stands.settings;
-    opens = opens-entered kinds.Event n t handed stood i.events i.snapshot i.life time what (line_of_event time what) refl o (own time what runs small);
-  });
-  event_fails = λ time what durable runs small may. left (with_snapshot (written kinds.Event time i.snapshot (Failed durable)) i) c.stands.settings
-      (opens-failed laws kinds.Event n t handed stood i.events i.snapshot kinds.Event time (told_event i.config time what) durable o
-      (subst (λ (b : Bool). Allows kinds.Event n t i.snapshot (bytes_with kinds.Event time (cond b (Some (line_of_event time what)) None) i.snapshot)) keeps (own time what runs small)) may);
-  query = λ time id from runs small low. subst (λ (b : Bool). TakesAt event_track t config (handed ++ []) stood (queried b time id)) keeps (left (queried true time id) c.stands.settings (asked time id runs small low));
-  asks = λ time id more is runs small low. subst (λ (b : Bool). TakesAt event_track t config (handed ++ []) stood (asking b time id more)) keeps (left (asking true time id more) c.stands.settings (asked time id runs small low));
-  query_fails = λ time id durable runs small low may. left (with_snapshot (written kinds.Query time i.snapshot (Failed durable)) i) c.stands.settings
-      (opens-failed laws kinds.Event n t handed stood i.events i.snapshot kinds.Query time (told_query i.config time id) durable o
-      (subst (λ (b : Bool). Allows kinds.Event n t i.snapshot (bytes_with kinds.Query time (cond b (Some (query_line time id)) None) i.snapshot)) keeps (other time id runs small low)) may);
-  saves = λ time runs. left (with_snapshot (noted kinds.Member time i.snapshot Kept) i) c.stands.settings (opens-saved laws kinds.Event n t handed stood i.events i.snapshot time event-no_member (event-noted_member time i.snapshot) c.sound.snapshot runs o);
-  save_fails = λ time durable runs may. left (with_snapshot (written kinds.Member time i.snapshot (Failed durable)) i) c.stands.settings
-      (opens-failed laws kinds.Event n t handed stood i.events i.snapshot kinds.Member time None durable o (allows-saved laws kinds.Event n t handed stood i.events i.snapshot time event-no_member c.sound.snapshot runs o) may);
+-- a line of the other kind enters nothing
+none-entered : {K : Type 0} (k kind : ClockKind) (n t : ℕ) (handed stood : List (TimedEntry K)) (track : Track K) (s : SnapshotView) (time : ℕ) (line : List ℕ) → last_line k (noted_with kind time (Some line) s Kept) ≡ last_line k s → IsOpenAt k n t handed stood track s
+    → Allows k n t s (kept_bytes kind time line (last_line kind s)) → IsOpenAt k n t (handed ++ []) stood track (noted_with kind time (Some line) s Kept)
+none-entered k kind n t handed stood track s time line last o all =
+    opens-wider k n t handed stood (handed ++ []) stood track (noted_with kind time (Some line) s Kept) (wider-handed handed [] stood)
+    (opens-noted k kind n t handed stood track track s time line (omega arith) refl (omega arith) last o all)
+
+-- of events, and of queries
+abbrev event-lines : Lines event_track
+event-lines = record {
+  own = λ events queries. events;
+  same = λ i j events queries. events;
+  quiet = λ i j q. q.events;
+  no_member = event-no_member;
+  saved = event-noted_member;
+  event = λ n t handed stood i time what o all. opens-entered kinds.Event n t handed stood i.events i.snapshot i.life time what (line_of_event time what) refl o all;
+  query = λ n t handed stood i time id o all. none-entered kinds.Event kinds.Query n t handed stood i.events i.snapshot time (query_line time id) refl o all;
+}
+
+abbrev query-lines : Lines query_track
+query-lines = record {
+  own = λ events queries. queries;
+  same = λ i j events queries. queries;
+  quiet = λ i j q. q.queries;
+  no_member = query-no_member;
+  saved = query-noted_member;
+  event = λ n t handed stood i time what o all. none-entered kinds.Query kinds.Event n t handed stood i.queries i.snapshot time (line_of_event time what) refl o all;
+  query = λ n t handed stood i time id o all. opens-entered kinds.Query n t handed stood i.queries i.snapshot i.life time id (query_line time id) refl o all;
+}
+
+-- what stands of the track of an agent, with the snapshot of another that has its events and queries, stands of that one
+stands-as : {K : Type 0} (which : TrackOf K) → Lines which → (t : ℕ) (config : Config) (handed stood : List (TimedEntry K)) (i j : IdealAgent) → j.events ≡ i.events → j.queries ≡ i.queries → j.config ≡ config → IsOpenAt which.kind (which.slots config) t handed stood (which.track i) j.snapshot
+    → TakesAt which t config handed stood j
+stands-as {K} which lines t config handed stood i j events queries settings o = record {
+  settings = settings;
+  opens = subst (λ (track : Track K). IsOpenAt which.kind (which.slots config) t handed stood track j.snapshot) (sym (lines.same i j events queries)) o;
+}
+
+-- it stands of an agent, with what an act entered of the track
+abbrev Noted : {K : Type 0} (which : TrackOf K) → Lines which → ℕ → Config → List (TimedEntry K) → List (TimedEntry K) → IdealAgent → List (TimedEntry EventBody) → List (TimedEntry ℕ) → List (TimedEntry ℕ) → Type 0
+Noted which lines t config handed stood i events queries passed = TakesAt which t config (handed ++ lines.own events queries) stood i
+
+-- so it is at each note
+noting : {K : Type 0} → BelowHandsOut → (which : TrackOf K) (lines : Lines which) (t : ℕ) (config : Config) (handed stood : List (TimedEntry K)) (i : IdealAgent) (Told : Type 0) → Told → config.keep_events ≡ true → Course which t config handed stood i → Noting i Told (Noted which lines t config handed stood)
+noting {K} laws which lines t config handed stood i Told able on c = record {
+  quiet = λ j q sound. out which t config handed stood (lines.own [] []) j (record { settings = q.settings ∙ c.stands.settings; opens = seen which.kind n t handed stood (which.track i) (which.track j) i.snapshot j.snapshot (lines.quiet i j q) q.snapshot o });
+  event = λ time what e told. subst (λ (b : Bool). Noted which lines t config handed stood (entered b time what) (record { time = time; key = what } ∷ []) [] []) keeps
+      (stands-as which lines t config (handed ++ lines.own (record { time = time; key = what } ∷ []) []) stood (event_entered time what i) (entered true time what) refl refl c.stands.settings
+      (lines.event n t handed stood i time what o (of_event time what e.runs e.small)));
+  event_fails = λ time what durable runs small may. fails kinds.Event time (told_event i.config time what) durable
+      (subst (λ (b : Bool). Allows which.kind n t i.snapshot (bytes_with kinds.Event time (cond b (Some (line_of_event time what)) None) i.snapshot)) keeps (of_event time what runs small)) may;
+  query = λ time id out e told passed. asked time id (query_entered time id i) out e.runs e.small (told able) refl refl refl;
+  asks = λ now q out at e told passed. asked q.time q.id (query_asked now q i) out e.runs e.small (told able) refl refl refl;
+  query_fails = λ time id durable runs small told may. fails kinds.Query time (told_query i.config time id) durable
+      (subst (λ (b : Bool). Allows which.kind n t i.snapshot (bytes_with kinds.Query time (cond b (Some (query_line time id)) None) i.snapshot)) keeps (of_query time id runs small (told able))) may;
+  saves = λ time small runs. left (noted kinds.Member time i.snapshot Kept) (opens-saved laws which.kind n t handed stood (which.track i) i.snapshot time lines.no_member (lines.saved time i.snapshot) c.sound.snapshot runs o);
+  save_fails = λ time durable runs may. fails kinds.Member time None durable (allows-saved laws which.kind n t handed stood (which.track i) i.snapshot time lines.no_member c.sound.snapshot runs o) may;
 }
   where
     n : ℕ
-    n = config.event_buffer
+    n = which.slots config
 
-    o : IsOpenAt kinds.Event config.event_buffer t handed stood i.events i.snapshot
+    o : IsOpenAt which.kind (which.slots config) t handed stood (which.track i) i.snapshot
     o = c.stands.opens
 
     keeps : true ≡ i.config.keep_events
-    keeps = keeps-on event_track t config handed stood i on c.stands
+    keeps = keeps-on which t config handed stood i on c.stands
 
-    left : (j : IdealAgent) → j.config ≡ config → IsOpenAt kinds.Event config.event_buffer t handed stood j.events j.snapshot → TakesAt event_track t config (handed ++ []) stood j
-    left j settings opens = out event_track t config handed stood [] j (record { settings = settings; opens = opens })
+    left : (s : SnapshotView) → IsOpenAt which.kind (which.slots config) t handed stood (which.track i) s → TakesAt which t config (handed ++ lines.own [] []) stood (with_snapshot s i)
+    left s opens = out which t config handed stood (lines.own [] []) (with_snapshot s i) (stands-as which lines t config handed stood i (with_snapshot s i) refl refl c.stands.settings opens)
+
+    fails : (kind : ClockKind) (time : ℕ) (line durable : Option (List ℕ)) → Allows which.kind (which.slots config) t i.snapshot (bytes_with kind time line i.snapshot) → MayNote kind time line i.snapshot (Failed durable)
+        → TakesAt which t config (handed ++ lines.own [] []) stood (with_snapshot (written kind time i.snapshot (Failed durable)) i)
+    fails kind time line durable all may = left (written kind time i.snapshot (Failed durable)) (opens-failed laws which.kind n t handed stood (which.track i) i.snapshot kind time line durable o all may)
+
+    of_event : (time : ℕ) (what : EventBody) → i.snapshot.stopped ≡ false → time < 2 ^ 64 - 1 → Allows which.kind (which.slots config) t i.snapshot (kept_bytes kinds.Event time (line_of_event time what) i.snapshot.event_clock)
+    of_event time what runs small = allows laws which.kind n t handed stood (which.track i) i.snapshot kinds.Event time (line_of_event time what) c.sound.snapshot runs o small (tells-event laws which.kind time what small)
+
+    of_query : (time id : ℕ) → i.snapshot.stopped ≡ false → time < 2 ^ 64 - 1 → id < 2 ^ 32 → Allows which.kind (which.slots config) t i.snapshot (kept_bytes kinds.Query time (query_line time id) i.snapshot.query_clock)
+    of_query time id runs small low = allows laws which.kind n t handed stood (which.track i) i.snapshot kinds.Query time (query_line time id) c.sound.snapshot runs o small (tells-query laws which.kind time id small low)
 
     entered : Bool → ℕ → EventBody → IdealAgent
     entered b time what = with_snapshot (noted_with kinds.Event time (cond b (Some (line_of_event time what)) None) i.snapshot Kept) (event_entered time what i)
 
-    queried : Bool → ℕ → ℕ → IdealAgent
-    queried b time id = with_snapshot (noted_with kinds.Query time (cond b (Some (query_line time id)) None) i.snapshot Kept) (query_entered time id i)
+    asking : Bool → ℕ → ℕ → IdealAgent → IdealAgent
+    asking b time id j = with_snapshot (noted_with kinds.Query time (cond b (Some (query_line time id)) None) i.snapshot Kept) j
 
-    asking : Bool → ℕ → ℕ → List (ℕ × OpenQuery) → IdealAgent
-    asking b time id more = with_snapshot (noted_with kinds.Query time (cond b (Some (query_line time id)) None) i.snapshot Kept) (with_asked more (query_entered time id i))
-
-    own : (time : ℕ) (what : EventBody) → i.snapshot.stopped ≡ false → time < 2 ^ 64 - 1 → Allows kinds.Event config.event_buffer t i.snapshot (kept_bytes kinds.Event time (line_of_event time what) i.snapshot.event_clock)
-    own time what runs small = allows laws kinds.Event n t handed stood i.events i.snapshot kinds.Event time (line_of_event time what) c.sound.snapshot runs o small (tells-event laws kinds.Event time what small)
-
-    other : (time id : ℕ) → i.snapshot.stopped ≡ false → time < 2 ^ 64 - 1 → id < 2 ^ 32 → Allows kinds.Event config.event_buffer t i.snapshot (kept_bytes kinds.Query time (query_line time id) i.snapshot.query_clock)
-    other time id runs small low = allows laws kinds.Event n t handed stood i.events i.snapshot kinds.Query time (query_line time id) c.sound.snapshot runs o small (tells-query laws kinds.Event time id small low)
-
-    asked : (time id : ℕ) → i.snapshot.stopped ≡ false → time < 2 ^ 64 - 1 → id < 2 ^ 32 → IsOpenAt kinds.Event config.event_buffer t handed stood i.events (noted_with kinds.Query time (Some (query_line time id)) i.snapshot Kept)
-    asked time id runs small low = opens-noted kinds.Event kinds.Query n t handed stood i.events i.events i.snapshot time (query_line time id) (omega arith) refl (omega arith) refl o (other time id runs small low)
-
--- ---- and its queries
-
-abbrev QueriesOf : ℕ → Config → List (TimedEntry ℕ) → List (TimedEntry ℕ) → IdealAgent → List (TimedEntry EventBody) → List (TimedEntry ℕ) → Type 0
-QueriesOf t config handed stood i events queries = TakesAt query_track t config (handed ++ queries) stood i
-
-queries-noting : BelowHandsOut → (t : ℕ) (config : Config) (handed stood : List (TimedEntry ℕ)) (i : IdealAgent) → config.keep_events ≡ true → Course query_track t config handed stood i → Noting i (QueriesOf t config handed stood)
-queries-noting laws t config handed stood i on c = record {
-  quiet = λ j q. left j (q.settings ∙ c.stands.settings) (seen kinds.Query n t handed stood i.queries j.queries i.snapshot j.snapshot q.queries q.snapshot o);
-  event = λ time what runs small. subst (λ (b : Bool). TakesAt query_track t config (handed ++ []) stood (entered b time what)) keeps (left (entered true time what) c.stands.settings
-      (opens-noted kinds.Query kinds.Event n t handed stood i.queries i.queries i.snapshot time (line_of_event time what) (omega arith) refl (omega arith) refl o (other time what runs small)));
-  event_fails = λ time what durable runs small may. left (with_snapshot (written kinds.Event time i.snapshot (Failed durable)) i) c.stands.settings
-      (opens-failed laws kinds.Query n t handed stood i.queries i.snapshot kinds.Event time (told_event i.config time what) durable o
-      (subst (λ (b : Bool). Allows kinds.Query n t i.snapshot (bytes_with kinds.Event time (cond b (Some (line_of_event time what)) None) i.snapshot)) keeps (other time what runs small)) may);
-  query = λ time id from runs small low. subst (λ (b : Bool). TakesAt query_track t config (handed ++ record { time = time; key = id } ∷ []) stood (queried b time id)) keeps (record { settings = c.stands.settings; opens = asked time id runs small low });
-  asks = λ time id more is runs small low. subst (λ (b : Bool). TakesAt query_track t config (handed ++ record { time = time; key = id } ∷ []) stood (asking b time id more)) keeps (record { settings = c.stands.settings; opens = asked time id runs small low });
-  query_fails = λ time id durable runs small low may. left (with_snapshot (written kinds.Query time i.snapshot (Failed durable)) i) c.stands.settings
-      (opens-failed laws kinds.Query n t handed stood i.queries i.snapshot kinds.Query time (told_query i.config time id) durable o
-      (subst (λ (b : Bool). Allows kinds.Query n t i.snapshot (bytes_with kinds.Query time (cond b (Some (query_line time id)) None) i.snapshot)) keeps (own time id runs small low)) may);
-  saves = λ time runs. left (with_snapshot (noted kinds.Member time i.snapshot Kept) i) c.stands.settings (opens-saved laws kinds.Query n t handed stood i.queries i.snapshot time query-no_member (query-noted_member time i.snapshot) c.sound.snapshot runs o);
-  save_fails = λ time durable runs may. left (with_snapshot (written kinds.Member time i.snapshot (Failed durable)) i) c.stands.settings
-      (opens-failed laws kinds.Query n t handed stood i.queries i.snapshot kinds.Member time None durable o (allows-saved laws kinds.Query n t handed stood i.queries i.snapshot time query-no_member c.sound.snapshot runs o) may);
-}
-  where
-    n : ℕ
-    n = config.query_buffer
-
-    o : IsOpenAt kinds.Query config.query_buffer t handed stood i.queries i.snapshot
-    o = c.stands.opens
-
-    keeps : true ≡ i.config.keep_events
-    keeps = keeps-on query_track t config handed stood i on c.stands
-
-    left : (j : IdealAgent) → j.config ≡ config → IsOpenAt kinds.Query config.query_buffer t handed stood j.queries j.snapshot → TakesAt query_track t config (handed ++ []) stood j
-    left j settings opens = out query_track t config handed stood [] j (record { settings = settings; opens = opens })
-
-    entered : Bool → ℕ → EventBody → IdealAgent
-    entered b time what = with_snapshot (noted_with kinds.Event time (cond b (Some (line_of_event time what)) None) i.snapshot Kept) (event_entered time what i)
-
-    queried : Bool → ℕ → ℕ → IdealAgent
-    queried b time id = with_snapshot (noted_with kinds.Query time (cond b (Some (query_line time id)) None) i.snapshot Kept) (query_entered time id i)
-
-    asking : Bool → ℕ → ℕ → List (ℕ × OpenQuery) → IdealAgent
-    asking b time id more = with_snapshot (noted_with kinds.Query time (cond b (Some (query_line time id)) None) i.snapshot Kept) (with_asked more (query_entered time id i))
-
-    own : (time id : ℕ) → i.snapshot.stopped ≡ false → time < 2 ^ 64 - 1 → id < 2 ^ 32 → Allows kinds.Query config.query_buffer t i.snapshot (kept_bytes kinds.Query time (query_line time id) i.snapshot.query_clock)
-    own time id runs small low = allows laws kinds.Query n t handed stood i.queries i.snapshot kinds.Query time (query_line time id) c.sound.snapshot runs o small (tells-query laws kinds.Query time id small low)
-
-    other : (time : ℕ) (what : EventBody) → i.snapshot.stopped ≡ false → time < 2 ^ 64 - 1 → Allows kinds.Query config.query_buffer t i.snapshot (kept_bytes kinds.Event time (line_of_event time what) i.snapshot.event_clock)
-    other time what runs small = allows laws kinds.Query n t handed stood i.queries i.snapshot kinds.Event time (line_of_event time what) c.sound.snapshot runs o small (tells-event laws kinds.Query time what small)
-
-    asked : (time id : ℕ) → i.snapshot.stopped ≡ false → time < 2 ^ 64 - 1 → id < 2 ^ 32
-        → IsOpenAt kinds.Query config.query_buffer t (handed ++ record { time = time; key = id } ∷ []) stood (query_entered time id i).queries (noted_with kinds.Query time (Some (query_line time id)) i.snapshot Kept)
-    asked time id runs small low = opens-entered kinds.Query n t handed stood i.queries i.snapshot i.life time id (query_line time id) refl o (own time id runs small low)
+    asked : (time id : ℕ) (j : IdealAgent) (passed : List (TimedEntry ℕ)) → i.snapshot.stopped ≡ false → time < 2 ^ 64 - 1 → id < 2 ^ 32 → j.events ≡ (query_entered time id i).events → j.queries ≡ (query_entered time id i).queries → j.config ≡ i.config
+        → Noted which lines t config handed stood (with_snapshot (noted_with kinds.Query time (told_query i.config time id) i.snapshot Kept) j) [] (record { time = time; key = id } ∷ []) passed
+    asked time id j passed runs small low events queries settings = subst (λ (b : Bool). Noted which lines t config handed stood (asking b time id j) [] (record { time = time; key = id } ∷ []) passed) keeps
+        (stands-as which lines t config (handed ++ lines.own [] (record { time = time; key = id } ∷ [])) stood (query_entered time id i) (asking true time id j) events queries (settings ∙ c.stands.settings)
+        (lines.query n t handed stood i time id o (of_query time id runs small low)))
 
 -- ---- a state that is heard of
 
@@ -253,75 +253,75 @@ join-minimum : (t minimum : ℕ) (m : PushPull) (b : Bool) → (b ≡ true → m
 join-minimum t minimum m true told = omega (arith, told refl)
 join-minimum t minimum m false told = omega arith
 
-events-heard : BelowHandsOut → (t : ℕ) (config : Config) (handed stood : List (TimedEntry EventBody)) (i : IdealAgent) (m : PushPull) (is_join : Bool) (w : Writing) → Course event_track t config handed stood i → MayGoOn i (Hears m is_join w) → ((is_join && i.config.ignore_old) ≡ true → m.event_clock ≤ t)
-    → TakesAt event_track t config handed stood (after i (Hears m is_join w))
-events-heard laws t config handed stood i m is_join w c go told =
-    heard i m is_join w (TakesAt event_track t config handed stood) (record { settings = c.stands.settings; opens = follows kinds.Event n t handed stood i.events i.snapshot (joined m is_join i).events i.snapshot (record { clock = omega arith; last = refl; history = refl; minimum = least; least = o.least }) o })
-    (λ joins runs. record { settings = c.stands.settings; opens = opens-noted kinds.Event kinds.Event n t handed stood i.events (joined m is_join i).events i.snapshot 0 line (omega arith) refl least same o (low joins runs) })
-    (λ joins runs durable may. record { settings = c.stands.settings; opens = opens-failed laws kinds.Event n t handed stood i.events i.snapshot kinds.Event 0 (Some line) durable o (low joins runs) may }) go.0
+-- what is known of a track where a state is heard of: its least time is raised to t at most, and so is that of the line of a join
+record Heard {K : Type 0} (which : TrackOf K) (n t : ℕ) (i : IdealAgent) (m : PushPull) (is_join : Bool) : Type 0 where
+  clock : (which.track i).clock ≤ (which.track (joined m is_join i)).clock
+  history : (which.track (joined m is_join i)).history ≡ (which.track i).history
+  minimum : (which.track (joined m is_join i)).minimum ≤ max t (which.track i).minimum
+  last : last_line which.kind (noted_with kinds.Event 0 (Some (least_line kinds.Event m.event_clock)) i.snapshot Kept) ≡ last_line which.kind i.snapshot
+  low : (is_join && i.config.ignore_old) ≡ true → i.snapshot.stopped ≡ false → Allows which.kind n t i.snapshot (kept_bytes kinds.Event 0 (least_line kinds.Event m.event_clock) i.snapshot.event_clock)
+
+-- so it is where a state is heard of
+hears : {K : Type 0} → BelowHandsOut → (which : TrackOf K) → Lines which → (t : ℕ) (config : Config) (handed stood : List (TimedEntry K)) (i : IdealAgent) (m : PushPull) (is_join : Bool) (w : Writing) → Course which t config handed stood i → Heard which (which.slots config) t i m is_join
+    → MayAct i (Hears m is_join w) → TakesAt which t config handed stood (after i (Hears m is_join w))
+hears {K} laws which lines t config handed stood i m is_join w c h may =
+    heard i m is_join w (TakesAt which t config handed stood)
+    (record { settings = c.stands.settings; opens = follows which.kind n t handed stood (which.track i) i.snapshot (which.track (joined m is_join i)) i.snapshot (record { clock = h.clock; last = refl; history = h.history; minimum = h.minimum; least = o.least }) o })
+    (λ joins runs. stands-as which lines t config handed stood (joined m is_join i) (with_snapshot (noted_with kinds.Event 0 (Some line) i.snapshot Kept) (joined m is_join i)) refl refl c.stands.settings
+    (opens-noted which.kind kinds.Event n t handed stood (which.track i) (which.track (joined m is_join i)) i.snapshot 0 line h.clock h.history h.minimum h.last o (h.low joins runs)))
+    (λ joins runs durable fails. stands-as which lines t config handed stood i (with_snapshot (written kinds.Event 0 i.snapshot (Failed durable)) i) refl refl c.stands.settings
+    (opens-failed laws which.kind n t handed stood (which.track i) i.snapshot kinds.Event 0 (Some line) durable o (h.low joins runs) fails)) may
   where
     n : ℕ
-    n = config.event_buffer
+    n = which.slots config
 
     line : List ℕ
     line = least_line kinds.Event m.event_clock
 
-    o : IsOpenAt kinds.Event config.event_buffer t handed stood i.events i.snapshot
+    o : IsOpenAt which.kind (which.slots config) t handed stood (which.track i) i.snapshot
     o = c.stands.opens
 
-    least : (joined m is_join i).events.minimum ≤ max t i.events.minimum
-    least = join-minimum t i.events.minimum m (is_join && i.config.ignore_old) told
+events-heard : BelowHandsOut → (t : ℕ) (config : Config) (handed stood : List (TimedEntry EventBody)) (i : IdealAgent) (m : PushPull) (is_join : Bool) → Course event_track t config handed stood i → m.event_clock ≤ 2 ^ 64 - 1 → ((is_join && i.config.ignore_old) ≡ true → m.event_clock ≤ t)
+    → Heard event_track config.event_buffer t i m is_join
+events-heard laws t config handed stood i m is_join c small told = record {
+  clock = omega arith;
+  history = refl;
+  minimum = join-minimum t i.events.minimum m (is_join && i.config.ignore_old) told;
+  last = let same : max i.snapshot.event_clock 0 ≡ i.snapshot.event_clock = omega arith in same;
+  low = λ joins runs old is.
+      let own = tells-own laws m.event_clock i.snapshot.event_clock old small (whole-durable i.snapshot old c.sound.snapshot runs is) in
+      let under = told joins in
+      omega (arith, own, under, c.stands.opens.least old is);
+}
 
-    same : max i.snapshot.event_clock 0 ≡ i.snapshot.event_clock
-    same = omega arith
-
-    low : (is_join && i.config.ignore_old) ≡ true → i.snapshot.stopped ≡ false → Allows kinds.Event config.event_buffer t i.snapshot (kept_bytes kinds.Event 0 (least_line kinds.Event m.event_clock) i.snapshot.event_clock)
-    low joins runs old is =
-        let own = tells-own laws m.event_clock i.snapshot.event_clock old go.1 (whole-durable i.snapshot old c.sound.snapshot runs is) in
-        let under = told joins in
-        omega (arith, own, under, o.least old is)
-
-queries-heard : BelowHandsOut → (t : ℕ) (config : Config) (handed stood : List (TimedEntry ℕ)) (i : IdealAgent) (m : PushPull) (is_join : Bool) (w : Writing) → Course query_track t config handed stood i → MayGoOn i (Hears m is_join w) → TakesAt query_track t config handed stood (after i (Hears m is_join w))
-queries-heard laws t config handed stood i m is_join w c go =
-    heard i m is_join w (TakesAt query_track t config handed stood) (record { settings = c.stands.settings; opens = follows kinds.Query n t handed stood i.queries i.snapshot (joined m is_join i).queries i.snapshot (record { clock = omega arith; last = refl; history = refl; minimum = omega arith; least = o.least }) o })
-    (λ joins runs. record { settings = c.stands.settings; opens = opens-noted kinds.Query kinds.Event n t handed stood i.queries (joined m is_join i).queries i.snapshot 0 line (omega arith) refl (omega arith) refl o (low runs) })
-    (λ joins runs durable may. record { settings = c.stands.settings; opens = opens-failed laws kinds.Query n t handed stood i.queries i.snapshot kinds.Event 0 (Some line) durable o (low runs) may }) go.0
-  where
-    n : ℕ
-    n = config.query_buffer
-
-    line : List ℕ
-    line = least_line kinds.Event m.event_clock
-
-    o : IsOpenAt kinds.Query config.query_buffer t handed stood i.queries i.snapshot
-    o = c.stands.opens
-
-    low : i.snapshot.stopped ≡ false → Allows kinds.Query config.query_buffer t i.snapshot (kept_bytes kinds.Event 0 (least_line kinds.Event m.event_clock) i.snapshot.event_clock)
-    low runs = allows laws kinds.Query n t handed stood i.queries i.snapshot kinds.Event 0 (least_line kinds.Event m.event_clock) c.sound.snapshot runs o (omega arith) (tells-join laws m.event_clock go.1)
+queries-heard : BelowHandsOut → (t : ℕ) (config : Config) (handed stood : List (TimedEntry ℕ)) (i : IdealAgent) (m : PushPull) (is_join : Bool) → Course query_track t config handed stood i → m.event_clock ≤ 2 ^ 64 - 1 → Heard query_track config.query_buffer t i m is_join
+queries-heard laws t config handed stood i m is_join c small = record {
+  clock = omega arith;
+  history = refl;
+  minimum = omega arith;
+  last = refl;
+  low = λ joins runs. allows laws kinds.Query config.query_buffer t handed stood i.queries i.snapshot kinds.Event 0 (least_line kinds.Event m.event_clock) c.sound.snapshot runs c.stands.opens (omega arith) (tells-join laws m.event_clock small);
+}
 
 -- ---- a compaction
 
 -- of an agent that keeps events, by what its lines tell of a kind
-compacted-at : {K : Type 0} (which : TrackOf K) (t : ℕ) (config : Config) (handed stood : List (TimedEntry K)) (i : IdealAgent) (w : Writing) → config.keep_events ≡ true → TakesAt which t config handed stood i
-    → ((w : Writing) → (let text = kept_compaction_of (kept_lines (view_of i)) i.snapshot in MayReplaceBy text i.snapshot w → TakesAt which t config handed stood (with_snapshot (text_replaced text i.snapshot w) i))) → MayAct i (Compacts w) → TakesAt which t config handed stood (after i (Compacts w))
-compacted-at which t config handed stood i w on s kept may =
+compacts : {K : Type 0} (which : TrackOf K) → Lines which → (t : ℕ) (config : Config) (handed stood : List (TimedEntry K)) (i : IdealAgent) (w : Writing) → config.keep_events ≡ true → 0 < t → TakesAt which t config handed stood i
+    → least_in which.kind (kept_compaction_of (kept_lines (view_of i)) i.snapshot) ≡ max 1 (least_told (which.slots i.config) (last_line which.kind i.snapshot) (which.track i).minimum) → MayAct i (Compacts w) → TakesAt which t config handed stood (after i (Compacts w))
+compacts which lines t config handed stood i w on some s is may =
     compacted i w (TakesAt which t config handed stood) s
     (subst (λ (b : Bool). (let text = text_with (cond b (Some (kept_lines (view_of i))) None) i.snapshot in (w : Writing) → MayReplaceBy text i.snapshot w → TakesAt which t config handed stood (with_snapshot (text_replaced text i.snapshot w) i)))
     (keeps-on which t config handed stood i on s) kept) may
-
-events-compacted : BelowHandsOut → (t : ℕ) (config : Config) (handed stood : List (TimedEntry EventBody)) (i : IdealAgent) (w : Writing) → config.keep_events ≡ true → 0 < t → Course event_track t config handed stood i → MayAct i (Compacts w) → TakesAt event_track t config handed stood (after i (Compacts w))
-events-compacted laws t config handed stood i w on some c may = compacted-at event_track t config handed stood i w on c.stands
-    (λ w ends. record { settings = c.stands.settings; opens = opens-compacted kinds.Event config.event_buffer t handed stood i.events i.snapshot (kept_compaction_of (kept_lines (view_of i)) i.snapshot) w some is c.stands.opens ends }) may
   where
-    is : least_in kinds.Event (kept_compaction_of (kept_lines (view_of i)) i.snapshot) ≡ max 1 (least_told config.event_buffer i.snapshot.event_clock i.events.minimum)
-    is = compaction-events laws i c.durable ∙ ap (λ (x : Config). max 1 (least_told x.event_buffer i.snapshot.event_clock i.events.minimum)) c.stands.settings
+    text : List ℕ
+    text = kept_compaction_of (kept_lines (view_of i)) i.snapshot
 
-queries-compacted : BelowHandsOut → (t : ℕ) (config : Config) (handed stood : List (TimedEntry ℕ)) (i : IdealAgent) (w : Writing) → config.keep_events ≡ true → 0 < t → Course query_track t config handed stood i → MayAct i (Compacts w) → TakesAt query_track t config handed stood (after i (Compacts w))
-queries-compacted laws t config handed stood i w on some c may = compacted-at query_track t config handed stood i w on c.stands
-    (λ w ends. record { settings = c.stands.settings; opens = opens-compacted kinds.Query config.query_buffer t handed stood i.queries i.snapshot (kept_compaction_of (kept_lines (view_of i)) i.snapshot) w some is c.stands.opens ends }) may
-  where
-    is : least_in kinds.Query (kept_compaction_of (kept_lines (view_of i)) i.snapshot) ≡ max 1 (least_told config.query_buffer i.snapshot.query_clock i.queries.minimum)
-    is = compaction-queries laws i c.durable ∙ ap (λ (x : Config). max 1 (least_told x.query_buffer i.snapshot.query_clock i.queries.minimum)) c.stands.settings
+    told : least_in which.kind (kept_compaction_of (kept_lines (view_of i)) i.snapshot) ≡ max 1 (least_told (which.slots config) (last_line which.kind i.snapshot) (which.track i).minimum)
+    told = is ∙ ap (λ (x : Config). max 1 (least_told (which.slots x) (last_line which.kind i.snapshot) (which.track i).minimum)) s.settings
+
+    kept : (w : Writing) → MayReplaceBy text i.snapshot w → TakesAt which t config handed stood (with_snapshot (text_replaced text i.snapshot w) i)
+    kept w ends = stands-as which lines t config handed stood i (with_snapshot (text_replaced text i.snapshot w) i) refl refl s.settings
+        (opens-compacted which.kind (which.slots config) t handed stood (which.track i) i.snapshot text w some told s.opens ends)
 
 -- ---- each act, of either track
 
@@ -337,58 +337,47 @@ pub record Acting {K : Type 0} (which : TrackOf K) : Type 0 where
   pub opens : Reopens which
   pub flushed : (i : IdealAgent) (text : List ℕ) → HasFlushed i text → last_line which.kind i.snapshot ≤ last_clock which.kind text
   pub with_settings : (config : Config) (i : IdealAgent) → (which.track (with_config config i)).history ≡ (which.track i).history
-  pub noted : (t : ℕ) (config : Config) (handed stood : List (TimedEntry K)) (i : IdealAgent) (a : Act) → config.keep_events ≡ true → Course which t config handed stood i → IsNoted a → MayGoOn i a → TakesAt which t config (handed ++ which.entered i a) stood (after i a)
+  pub noted : (t : ℕ) (config : Config) (handed stood : List (TimedEntry K)) (i : IdealAgent) (a : Act) → config.keep_events ≡ true → Course which t config handed stood i → IsNoted a → MayAct i a × IsTellable a → TakesAt which t config (handed ++ which.entered i a) stood (after i a)
   pub heard : (t : ℕ) (config : Config) (handed stood : List (TimedEntry K)) (i : IdealAgent) (m : PushPull) (is_join : Bool) (w : Writing) → Course which t config handed stood i → MayGoOn i (Hears m is_join w) → which.HearsNoneAbove t i.config m is_join
       → TakesAt which t config handed stood (after i (Hears m is_join w))
   pub compacted : (t : ℕ) (config : Config) (handed stood : List (TimedEntry K)) (i : IdealAgent) (w : Writing) → config.keep_events ≡ true → 0 < t → Course which t config handed stood i → MayAct i (Compacts w) → TakesAt which t config handed stood (after i (Compacts w))
 
+-- an opening of either track, as `restarted_by` makes it of a text
+reopens : {K : Type 0} → BelowHandsOut → (which : TrackOf K) (same : K → K → Bool) → Reading same which.kept
+    → ((text : List ℕ) (d : Device) (i : IdealAgent) → which.track (restarted_by true text (opened text d) i) ≡ reopened same which.kept which.kind (which.slots i.config) i.config.per_time (i.life + 1) text (which.track i)) → Reopens which
+reopens {K} laws which same reading is t config handed stood i text d on settings known told =
+    subst (λ (b : Bool). TakesAt which t config handed all (restarted_by b text (opened text d) i) ⊎ IsFull config.per_time t handed all) (sym (ap (λ (c : Config). c.keep_events) settings ∙ on))
+    (elim (subst (λ (track : Track K). IsOpenAt which.kind (which.slots config) t handed all track (opened text d) ⊎ IsFull config.per_time t handed all) (sym (is text d i ∙ settled))
+    (opens-opened laws same which.kept reading which.kind (which.slots config) config.per_time t i.life handed stood (which.track i) text d known told)) [
+      | inl o ↦ inl (record { settings = settings; opens = o })
+      | inr full ↦ inr full
+    ])
+  where
+    all : List (TimedEntry K)
+    all = stood ++ which.kept whatever text
+
+    settled : reopened same which.kept which.kind (which.slots i.config) i.config.per_time (i.life + 1) text (which.track i) ≡ reopened same which.kept which.kind (which.slots config) config.per_time (i.life + 1) text (which.track i)
+    settled = ap (λ (c : Config). reopened same which.kept which.kind (which.slots c) c.per_time (i.life + 1) text (which.track i)) settings
+
 pub events-acting : BelowHandsOut → Acting event_track
 events-acting laws = record {
-  opens = λ t config handed stood i text d on settings known told.
-      subst (λ (b : Bool). TakesAt event_track t config handed (stood ++ kept_events whatever text) (restarted_by b text (opened text d) i) ⊎ IsFull config.per_time t handed (stood ++ kept_events whatever text)) (sym (ap (λ (c : Config). c.keep_events) settings ∙ on))
-      (reopens t config handed stood i text d settings known told);
+  opens = reopens laws event_track same_texts (record { tells = tells_texts; stands = events-stand; keeping = laws.kept.durable.events }) (λ text d i. refl);
   flushed = λ i text flushed. flushed.events;
   with_settings = λ config i. refl;
-  noted = λ t config handed stood i a on c noted go. acts laws.kept i (EventsOf t config handed stood) (events-noting laws t config handed stood i on c) a noted go;
-  heard = events-heard laws;
-  compacted = events-compacted laws;
+  noted = λ t config handed stood i a on c noted go. acts laws.kept.life.ranged i a (Noted event_track event-lines t config handed stood) c.sound (noting laws event_track event-lines t config handed stood i (IsTellable a) go.1 on c) noted go.0;
+  heard = λ t config handed stood i m is_join w c go told. hears laws event_track event-lines t config handed stood i m is_join w c (events-heard laws t config handed stood i m is_join c go.1 told) go.0;
+  compacted = λ t config handed stood i w on some c may. compacts event_track event-lines t config handed stood i w on some c.stands (compaction-events laws i c.durable) may;
 }
-  where
-    reading : Reading same_texts kept_events
-    reading = record { tells = tells_texts; stands = events-stand; keeping = laws.kept.durable.events }
-
-    reopens : (t : ℕ) (config : Config) (handed stood : List (TimedEntry EventBody)) (i : IdealAgent) (text : List ℕ) (d : Device) → i.config ≡ config → All (λ p. IsMet handed stood p.entry) i.events.history → least_in kinds.Event text ≤ max t ((last_clock kinds.Event text + 1) - config.event_buffer)
-        → TakesAt event_track t config handed (stood ++ kept_events whatever text) (restarted_by true text (opened text d) i) ⊎ IsFull config.per_time t handed (stood ++ kept_events whatever text)
-    reopens t config handed stood i text d settings known told =
-        elim (subst (λ (c : Config). IsOpenAt kinds.Event config.event_buffer t handed (stood ++ kept_events whatever text) (reopened same_texts kept_events kinds.Event c.event_buffer c.per_time (i.life + 1) text i.events) (opened text d) ⊎ IsFull config.per_time t handed (stood ++ kept_events whatever text)) (sym settings)
-        (opens-opened laws same_texts kept_events reading kinds.Event config.event_buffer config.per_time t i.life handed stood i.events text d known told)) [
-          | inl o ↦ inl (record { settings = settings; opens = o })
-          | inr full ↦ inr full
-        ]
 
 pub queries-acting : BelowHandsOut → Acting query_track
 queries-acting laws = record {
-  opens = λ t config handed stood i text d on settings known told.
-      subst (λ (b : Bool). TakesAt query_track t config handed (stood ++ kept_queries whatever text) (restarted_by b text (opened text d) i) ⊎ IsFull config.per_time t handed (stood ++ kept_queries whatever text)) (sym (ap (λ (c : Config). c.keep_events) settings ∙ on))
-      (reopens t config handed stood i text d settings known told);
+  opens = reopens laws query_track same_id (record { tells = tells_ids; stands = queries-stand; keeping = laws.kept.durable.queries }) (λ text d i. refl);
   flushed = λ i text flushed. flushed.queries;
   with_settings = λ config i. refl;
-  noted = λ t config handed stood i a on c noted go. acts laws.kept i (QueriesOf t config handed stood) (queries-noting laws t config handed stood i on c) a noted go;
-  heard = λ t config handed stood i m is_join w c go told. queries-heard laws t config handed stood i m is_join w c go;
-  compacted = queries-compacted laws;
+  noted = λ t config handed stood i a on c noted go. acts laws.kept.life.ranged i a (Noted query_track query-lines t config handed stood) c.sound (noting laws query_track query-lines t config handed stood i (IsTellable a) go.1 on c) noted go.0;
+  heard = λ t config handed stood i m is_join w c go told. hears laws query_track query-lines t config handed stood i m is_join w c (queries-heard laws t config handed stood i m is_join c go.1) go.0;
+  compacted = λ t config handed stood i w on some c may. compacts query_track query-lines t config handed stood i w on some c.stands (compaction-queries laws i c.durable) may;
 }
-  where
-    reading : Reading same_id kept_queries
-    reading = record { tells = tells_ids; stands = queries-stand; keeping = laws.kept.durable.queries }
-
-    reopens : (t : ℕ) (config : Config) (handed stood : List (TimedEntry ℕ)) (i : IdealAgent) (text : List ℕ) (d : Device) → i.config ≡ config → All (λ p. IsMet handed stood p.entry) i.queries.history → least_in kinds.Query text ≤ max t ((last_clock kinds.Query text + 1) - config.query_buffer)
-        → TakesAt query_track t config handed (stood ++ kept_queries whatever text) (restarted_by true text (opened text d) i) ⊎ IsFull config.per_time t handed (stood ++ kept_queries whatever text)
-    reopens t config handed stood i text d settings known told =
-        elim (subst (λ (c : Config). IsOpenAt kinds.Query config.query_buffer t handed (stood ++ kept_queries whatever text) (reopened same_id kept_queries kinds.Query c.query_buffer c.per_time (i.life + 1) text i.queries) (opened text d) ⊎ IsFull config.per_time t handed (stood ++ kept_queries whatever text)) (sym settings)
-        (opens-opened laws same_id kept_queries reading kinds.Query config.query_buffer config.per_time t i.life handed stood i.queries text d known told)) [
-          | inl o ↦ inl (record { settings = settings; opens = o })
-          | inr full ↦ inr full
-        ]
 
 -- what may be told at an opening
 told-at : {K : Type 0} → (which : TrackOf K) → Acting which → (t : ℕ) (config : Config) (handed stood : List (TimedEntry K)) (i : IdealAgent) (text durable : List ℕ) → TakesAt which t config handed stood i → HasFlushed i text → i.snapshot.durable ≡ Some durable

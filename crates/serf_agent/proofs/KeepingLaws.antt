@@ -1,7 +1,8 @@
 -- Tracks that are kept over a restart: an opening leaves a sound track, which has all that was entered before.
-use Rattle.serf_agent.proofs.Names.{◌≡◌, ◌≢◌, ℕ, suc, ◌+◌, ◌-◌, ◌<◌, ◌≤◌, ◌==◌, ◌&&◌, ◌||◌, ◌⊎◌, inl, inr, max, not, cond, Bool, true, false, List, [], ◌∷◌, ◌++◌, map, filter, refl, sym, ◌∙◌, ap, subst, arith, All, AllPairs, eq-eqb, and_from, and_parts, true≢false, All-nil, All-cons, All-filter, All-head, All-tail, All-weaker, filter-append, AllPairs-filter, same_id, same_texts, EventBody, TimedEntry, was_entered, bytes_eq, bytes_eq-Decides}
+use Rattle.serf_agent.proofs.Names.{◌≡◌, ◌≢◌, ℕ, suc, ◌+◌, ◌-◌, ◌<◌, ◌≤◌, ◌==◌, ◌&&◌, inl, inr, max, not, cond, Bool, true, false, List, [], ◌∷◌, ◌++◌, map, filter, refl, sym, ◌∙◌, ap, subst, arith, All, AllPairs, eq-eqb, and_from, and_parts, true≢false, All-nil, All-cons, All-filter, All-head, All-tail, All-weaker, filter-append, AllPairs-filter, same_id, same_texts, EventBody, TimedEntry, was_entered, bytes_eq, bytes_eq-Decides}
 use Rattle.std.specs.Prelude.{Contains}
-use Rattle.std.proofs.lemmas.Bool.{eqb-true}
+use Rattle.std.proofs.lemmas.Bool.{eqb-true, not-true, or_cases}
+use Rattle.std.proofs.lemmas.List.{map-append}
 use Rattle.std.proofs.lemmas.List.Elements.{All-append, All-contains, All-contains_itself, All-map, Contains-append_left, Contains-append_right, filter_passes}
 use Rattle.std.proofs.lemmas.List.Folds.{list_any_at}
 use Rattle.std.proofs.lemmas.List.Kept.{AllPairs-cons}
@@ -11,28 +12,11 @@ use Rattle.serf_agent.specs.Keeping.{IsHad, KeepingLaws, entries_in, history_wit
 use Rattle.serf_agent.specs.Tracks.{IsTrackSound, of_life}
 use Rattle.serf_agent.proofs.TrackLaws.{of_life-none}
 
-or_cases : (a b : Bool) → (a || b) ≡ true → (a ≡ true) ⊎ (b ≡ true)
-or_cases true b h = inl refl
-or_cases false b h = inr h
-
-not_true : (b : Bool) → not b ≡ true → b ≡ false
-not_true true h = absurd (cc h)
-not_true false h = refl
-
 -- ---- lists
-
-pub map-append : {A B : Type 0} (f : A → B) (xs ys : List A) → map f (xs ++ ys) ≡ map f xs ++ map f ys
-map-append f [] ys = refl
-map-append {A} {B} f (x ∷ xs) ys = ap (λ (l : List B). f x ∷ l) (map-append f xs ys)
 
 -- what holds of each element that passes holds of all that a filter keeps
 All-passing : {A : Type 0} (test : A → Bool) (P : A → Type 0) (xs : List A) → All (λ x. test x ≡ true → P x) xs → All P (filter test xs)
-All-passing {A} test P [] h = All-nil P
-All-passing {A} test P (x ∷ xs) h = step (test x) refl (All-passing test P xs (All-tail (λ (y : A). test y ≡ true → P y) x xs h))
-  where
-    step : (b : Bool) → test x ≡ b → All P (filter test xs) → All P (cond b (x ∷ filter test xs) (filter test xs))
-    step true is rest = All-cons P x (filter test xs) (All-head (λ (y : A). test y ≡ true → P y) x xs h is) rest
-    step false is rest = rest
+All-passing {A} test P xs h = λ k d within. All-filter test (λ (x : A). test x ≡ true → P x) xs h k d within (filter_passes test xs k d within)
 
 -- what passes a filter is among what it keeps
 pub All-kept : {A : Type 0} (test : A → Bool) (xs : List A) → All (λ x. test x ≡ true → Contains (filter test xs) x) xs
@@ -57,6 +41,10 @@ Contains-map {A} {B} f xs x there = All-contains (λ (y : A). Contains (map f xs
 
 pub Contains-entry : {K : Type 0} (ps : List (Past K)) (p : Past K) → Contains ps p → Contains (entries_in ps) p.entry
 Contains-entry {K} ps p there = Contains-map (λ (q : Past K). q.entry) ps p there
+
+-- what holds of the entries of a history holds of the history
+pub of-entries : {K : Type 0} (P : TimedEntry K → Type 0) (ps : List (Past K)) → All P (entries_in ps) → All (λ p. P p.entry) ps
+of-entries {K} P ps h = All-weaker (Contains ps) (λ (p : Past K). P p.entry) (λ p there. All-contains P (entries_in ps) p.entry h (Contains-entry ps p there)) ps (All-contains_itself ps)
 
 -- pairs of a list, and of two lists one behind the other
 pub pairs-head : {A : Type 0} (R : A → A → Type 0) (x : A) (xs : List A) → AllPairs R (x ∷ xs) → All (R x) xs
@@ -98,7 +86,7 @@ contained-entered {K} same tells (d ∷ es) e h = elim (or_cases (is_this same e
 
 -- ---- entries of a life
 
-entries-in_life : {K : Type 0} (life : ℕ) (es : List (TimedEntry K)) → entries_in (in_life life es) ≡ es
+pub entries-in_life : {K : Type 0} (life : ℕ) (es : List (TimedEntry K)) → entries_in (in_life life es) ≡ es
 entries-in_life life [] = refl
 entries-in_life {K} life (e ∷ es) = ap (λ (l : List (TimedEntry K)). e ∷ l) (entries-in_life life es)
 
@@ -136,7 +124,7 @@ apart-from_back {K} same itself life entries history =
     All-weaker (λ (p : Past K). not (was_entered same entries p.entry.time p.entry.key) ≡ true) (λ (p : Past K). All (λ q. p.entry ≢ q.entry) (in_life life entries))
     (λ p passes. All-map (λ (q : Past K). p.entry ≢ q.entry) (λ (x : TimedEntry K). record { life = life; entry = x }) entries
     (All-weaker (Contains entries) (λ (x : TimedEntry K). p.entry ≢ x)
-    (λ x there is. true≢false (sym (subst (λ (y : TimedEntry K). was_entered same entries y.time y.key ≡ true) (sym is) (entered-contained same itself entries x there)) ∙ not_true _ passes))
+    (λ x there is. true≢false (sym (subst (λ (y : TimedEntry K). was_entered same entries y.time y.key ≡ true) (sym is) (entered-contained same itself entries x there)) ∙ not-true _ passes))
     entries (All-contains_itself entries)))
     (history_without same entries history) (filter_passes (λ (p : Past K). not (was_entered same entries p.entry.time p.entry.key)) history)
 
@@ -174,7 +162,7 @@ restarts {K} laws same itself n k life last least old_last kept track sound with
       earlier = All-append (λ (p : Past K). p.life < life + 1 → p.entry.time < minimum) old new
           (All-passing test (λ (p : Past K). p.life < life + 1 → p.entry.time < minimum) track.history
           (All-weaker (λ (p : Past K). IsHad n last least kept p.entry) (λ (p : Past K). test p ≡ true → p.life < life + 1 → p.entry.time < minimum)
-          (λ p h passes _. below_minimum same n last least kept back up known p.entry h (not_true _ passes)) track.history had))
+          (λ p h passes _. below_minimum same n last least kept back up known p.entry h (not-true _ passes)) track.history had))
           (All-map (λ (p : Past K). p.life < life + 1 → p.entry.time < minimum) (λ (x : TimedEntry K). record { life = life + 1; entry = x }) back.entries (λ k d h before. absurd (omega arith)));
       distinct = pairs-append (λ (p q : Past K). p.entry ≢ q.entry) old new
           (AllPairs-filter (λ (p q : Past K). p.entry ≢ q.entry) test track.history sound.distinct)

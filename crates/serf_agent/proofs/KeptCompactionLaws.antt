@@ -1,26 +1,27 @@
 -- The text of a compaction of an agent that keeps its events has all that was entered.
-use Rattle.serf_agent.proofs.Names.{◌≡◌, ℕ, ◌+◌, ◌-◌, ◌^◌, ◌<◌, ◌≤◌, ◌%◌, ◌==◌, inl, inr, max, nat_lt, cond, Bool, true, false, List, [], ◌∷◌, ◌++◌, length, map, filter, refl, sym, subst, ap, ◌∙◌, append-nil, append_assoc, arith, All, cases_lt, eq-eqb, le-ltb, All-cons, All-head, All-nil, All-tail, All-weaker, flat_map, EventBody, TimedEntry, SlotOf, TimesBelow, ClockKind, last_clock, slots_of}
+use Rattle.serf_agent.proofs.Names.{◌≡◌, ℕ, ◌+◌, ◌-◌, ◌^◌, ◌<◌, ◌≤◌, ◌%◌, ◌==◌, inl, inr, max, nat_lt, cond, Bool, true, false, List, [], ◌∷◌, ◌++◌, length, map, filter, refl, sym, subst, ap, ◌∙◌, append-nil, append_assoc, arith, All, cases_lt, eq-eqb, le-ltb, All-cons, All-head, All-nil, All-tail, All-weaker, flat_map, EventBody, TimedEntry, SlotOf, TimesBelow, ClockKind, slots_of}
 use Rattle.std.specs.Prelude.{Contains, ◌⊎◌}
 use Rattle.std.proofs.lemmas.Bool.{eqb-true}
-use Rattle.std.proofs.lemmas.List.Elements.{All-append, All-contains, All-map, Contains-append_left, Contains-append_right, Contains-get_or}
+use Rattle.std.proofs.lemmas.List.Elements.{All-append, All-contains, All-contains_itself, All-map, Contains-append_left, Contains-append_right, Contains-get_or}
 use Rattle.serf_window.specs.Laws.{SlotLaws}
 use Rattle.serf_window.specs.Window.{empty_slot, held_at, held_of, slot_for}
 use Rattle.serf_snap.specs.declared.kept.Wanted.{Wanted}
 use Rattle.serf_snap.specs.declared.kind.ClockKind.TheVariants as kinds
 use Rattle.serf_snap.specs.Notes.{AreTimes}
 use Rattle.serf_snap.specs.Clocks.{is_whole, line_above_zero}
-use Rattle.serf_snap.specs.EventLines.{event_line, least_in, least_line, query_line}
-use Rattle.serf_snap.specs.KeptNotes.{SaysNoClock, kept_compaction_of, kept_line_above_zero}
+use Rattle.serf_snap.specs.EventLines.{least_in, least_line, query_line}
+use Rattle.serf_snap.specs.KeptNotes.{kept_compaction_of, kept_line_above_zero}
 use Rattle.serf_agent.specs.Ideal.{IdealAgent, Past, Track}
 use Rattle.serf_agent.specs.Keeping.{in_life}
 use Rattle.serf_agent.specs.KeptLines.{AreTold, CompactionLaws, held_from, held_in, kept_lines, least_told, lines_told, stored_lines}
 use Rattle.serf_agent.specs.KeptTexts.{AreKept, IsIdShort, IsIdTold, IsShort, IsTold, KeptEventLaws, KeptQueryLaws, KeptTextLaws, kept_events, kept_queries, line_of_event, whatever}
 use Rattle.serf_agent.specs.KeptRestart.{HasKept}
 use Rattle.serf_agent.specs.Sound.{IsSound}
-use Rattle.serf_agent.specs.Tracks.{ConcreteTrack, IsTrackSound, of_life, view_of_track}
-use Rattle.serf_agent.specs.View.{ConcreteState, view_of}
-use Rattle.serf_agent.proofs.KeepingLaws.{All-kept, Contains-entry, Contains-map}
-use Rattle.serf_agent.proofs.TrackLaws.{slots-below}
+use Rattle.serf_agent.specs.Tracks.{IsTrackSound, of_life, view_of_track}
+use Rattle.serf_agent.specs.View.{view_of}
+use Rattle.serf_agent.proofs.KeepingLaws.{All-kept, Contains-entry, Contains-map, entries-in_life}
+use Rattle.serf_agent.proofs.SoundLaws.{QuietLaws, kept-quiet}
+use Rattle.serf_agent.proofs.TrackLaws.{of-life, slots-below}
 
 -- ---- what the crates below promise
 
@@ -31,10 +32,7 @@ pub record BelowCompactions : Type 0 where
   pub query_texts : KeptQueryLaws
   pub least_own : (k : ClockKind) (text : List ℕ) (t : ℕ) → is_whole text ≡ true → t ≤ 2 ^ 64 - 1 → least_in k (text ++ least_line k t) ≡ max (least_in k text) t
   pub least_grows : (k : ClockKind) (front tail : List ℕ) → least_in k front ≤ least_in k (front ++ tail)
-  pub event_line_whole : (t : ℕ) (name payload : List ℕ) → SaysNoClock (event_line t name payload)
-  pub query_line_whole : (t id : ℕ) → SaysNoClock (query_line t id)
-  pub least_line_whole : (k : ClockKind) (t : ℕ) → SaysNoClock (least_line k t)
-  pub both : (a b : List ℕ) → SaysNoClock a → SaysNoClock b → SaysNoClock (a ++ b)
+  pub quiet : QuietLaws
   pub whole : (text line : List ℕ) → is_whole text ≡ true → is_whole line ≡ true → is_whole (text ++ line) ≡ true
 
 -- the lines of what is stored of a track in a life
@@ -132,20 +130,12 @@ only-entered {K} laws n life least history P all =
     (All-weaker (λ (s : SlotOf K). All (λ what. Contains (of_life life history) (entry_at s.time what)) s.held) (λ (s : SlotOf K). All P (held_in least s)) (λ s h. of_slot s h (nat_lt s.time least))
     (slots_of n (of_life life history)) (laws.only_entered n (of_life life history)))
   where
-    mine : (hs : List (Past K)) → All (λ p. P p.entry) hs → All P (of_life life hs)
-    mine [] h = All-nil P
-    mine (x ∷ hs) h = step (x.life == life) (mine hs (All-tail (λ (p : Past K). P p.entry) x hs h))
-      where
-        step : (b : Bool) → All P (of_life life hs) → All P (map (λ (p : Past K). p.entry) (cond b (x ∷ filter (λ (p : Past K). p.life == life) hs) (filter (λ (p : Past K). p.life == life) hs)))
-        step true rest = All-cons P x.entry (of_life life hs) (All-head (λ (p : Past K). P p.entry) x hs h) rest
-        step false rest = rest
-
     of_slot : (s : SlotOf K) → All (λ what. Contains (of_life life history) (entry_at s.time what)) s.held → (b : Bool) → All P (cond b [] (map (entry_at s.time) s.held))
     of_slot s h true = All-nil P
     of_slot s h false =
         All-map P (entry_at s.time) s.held
         (All-weaker (λ (what : K). Contains (of_life life history) (entry_at s.time what)) (λ (what : K). P (entry_at s.time what))
-        (λ what there. All-contains P (of_life life history) (entry_at s.time what) (mine history all) there) s.held h)
+        (λ what there. All-contains P (of_life life history) (entry_at s.time what) (of-life P life history all) there) s.held h)
 
 -- ---- the lines of a track
 
@@ -180,7 +170,7 @@ track-kept {K} kind read line Told Short laws slots texts line_whole n life last
     let told : List (TimedEntry K) = held_from least (slots_of n (of_life life track.history)) in
     let start : List ℕ = front ++ least_line kind least in
     let bound : least ≤ 2 ^ 64 - 1 = omega (arith, low) in
-    let start_whole : is_whole start ≡ true = laws.whole front (least_line kind least) whole (laws.least_line_whole kind least).whole in
+    let start_whole : is_whole start ≡ true = laws.whole front (least_line kind least) whole (laws.quiet.least kind least).whole in
     let none : AreKept kind read [] start = All-nil (λ (p : Past K). (p.entry.time < least_in kind start) ⊎ Contains (read whatever start) p.entry) in
     let all = lines_kept kind read line Told Short texts laws.whole line_whole told [] start start_whole (only-entered slots n life least track.history (Fits Told Short) fits) none in
     let joined : start ++ lines_told line told ≡ front ++ track_lines kind line n life last track = append_assoc front (least_line kind least) (lines_told line told) in
@@ -190,50 +180,22 @@ track-kept {K} kind read line Told Short laws slots texts line_whole n life last
     let up : least_in kind start ≤ least_in kind (start ++ lines_told line told) = laws.least_grows kind start (lines_told line told) in
     let over : least_in kind (start ++ lines_told line told) ≡ least_in kind (front ++ track_lines kind line n life last track) = ap (least_in kind) joined in
     let more : least_in kind (front ++ track_lines kind line n life last track) ≤ least_in kind text = laws.least_grows kind (front ++ track_lines kind line n life last track) back in
-    let high : least ≤ least_in kind text = omega (arith, is_least, up, over, more) in
-    (ap is_whole (sym joined) ∙ all.0, each text high (back_to told text stands) track.history (λ p there. there))
+    let high : least ≤ least_in kind text = omega (arith, is_least, up, over, more) in (
+      ap is_whole (sym joined) ∙ all.0,
+      All-weaker (Contains track.history) (λ (p : Past K). (p.entry.time < least_in kind text) ⊎ Contains (read whatever text) p.entry) (λ p there. each text high (back_to told text stands) p there) track.history (All-contains_itself track.history),
+    )
   where
-    Stands : List ℕ → TimedEntry K → Type 0
-    Stands text e = (e.time < least_in kind text) ⊎ Contains (read whatever text) e
-
     back_to : (es : List (TimedEntry K)) (text : List ℕ) → AreKept kind read (in_life 0 es) text → All (λ e. (e.time < least_in kind text) ⊎ Contains (read whatever text) e) es
-    back_to [] text h = All-nil (λ e. (e.time < least_in kind text) ⊎ Contains (read whatever text) e)
-    back_to (e ∷ es) text h =
-        let p : Past K = record { life = 0; entry = e } in
-        let P : Past K → Type 0 = λ q. (q.entry.time < least_in kind text) ⊎ Contains (read whatever text) q.entry in
-        All-cons (λ x. (x.time < least_in kind text) ⊎ Contains (read whatever text) x) e es (All-head P p (in_life 0 es) h) (back_to es text (All-tail P p (in_life 0 es) h))
+    back_to es text h = subst (All (λ (e : TimedEntry K). (e.time < least_in kind text) ⊎ Contains (read whatever text) e)) (entries-in_life 0 es)
+        (All-map (λ (e : TimedEntry K). (e.time < least_in kind text) ⊎ Contains (read whatever text) e) (λ (p : Past K). p.entry) (in_life 0 es) h)
 
     each : (text : List ℕ) → least_told n last track.minimum ≤ least_in kind text → All (λ e. (e.time < least_in kind text) ⊎ Contains (read whatever text) e) (held_from (least_told n last track.minimum) (slots_of n (of_life life track.history)))
-        → (ps : List (Past K)) → ((p : Past K) → Contains ps p → Contains track.history p) → All (λ p. (p.entry.time < least_in kind text) ⊎ Contains (read whatever text) p.entry) ps
-    each text high stands [] inside = All-nil (λ p. (p.entry.time < least_in kind text) ⊎ Contains (read whatever text) p.entry)
-    each text high stands (p ∷ ps) inside =
-        All-cons (λ q. (q.entry.time < least_in kind text) ⊎ Contains (read whatever text) q.entry) p ps
-        (elim (cases_lt p.entry.time (least_told n last track.minimum)) [
-          | inl low ↦ inl (omega (arith, low, high))
-          | inr late ↦ All-contains (λ e. (e.time < least_in kind text) ⊎ Contains (read whatever text) e) (held_from (least_told n last track.minimum) (slots_of n (of_life life track.history))) p.entry stands
-              (held-entry slots n life last track sound pos p (inside p (0, omega arith, refl)) late)
-        ])
-        (each text high stands ps (λ q there. inside q (Contains-append_right (p ∷ []) ps q there)))
-
--- ---- what the lines say
-
-lines-say : {K : Type 0} (line : ℕ → K → List ℕ) → BelowCompactions → ((t : ℕ) (what : K) → SaysNoClock (line t what)) → (es : List (TimedEntry K)) → SaysNoClock (lines_told line es)
-lines-say line laws says [] = record { whole = refl; clocks = no_clock }
-  where
-    no_clock : (kind : ClockKind) → last_clock kind [] ≡ 0
-    no_clock kind = refl
-lines-say line laws says (e ∷ es) = laws.both (line e.time e.key) (lines_told line es) (says e.time e.key) (lines-say line laws says es)
-
-track-says : {K : Type 0} (kind : ClockKind) (line : ℕ → K → List ℕ) → BelowCompactions → ((t : ℕ) (what : K) → SaysNoClock (line t what)) → (n last : ℕ) (track : ConcreteTrack K) → SaysNoClock (stored_lines kind line n last track)
-track-says kind line laws says n last track =
-    let least : ℕ = least_told n last track.minimum in
-    laws.both (least_line kind least) (lines_told line (held_from least track.slots)) (laws.least_line_whole kind least) (lines-say line laws says (held_from least track.slots))
-
-says_no_clock : BelowCompactions → (a : ConcreteState) → SaysNoClock (kept_lines a)
-says_no_clock laws a =
-    laws.both (stored_lines kinds.Event line_of_event a.config.event_buffer a.snapshot.event_clock a.events) (stored_lines kinds.Query query_line a.config.query_buffer a.snapshot.query_clock a.queries)
-    (track-says kinds.Event line_of_event laws (λ t what. laws.event_line_whole t what.name what.payload) a.config.event_buffer a.snapshot.event_clock a.events)
-    (track-says kinds.Query query_line laws laws.query_line_whole a.config.query_buffer a.snapshot.query_clock a.queries)
+        → (p : Past K) → Contains track.history p → (p.entry.time < least_in kind text) ⊎ Contains (read whatever text) p.entry
+    each text high stands p there = elim (cases_lt p.entry.time (least_told n last track.minimum)) [
+      | inl low ↦ inl (omega (arith, low, high))
+      | inr late ↦ All-contains (λ e. (e.time < least_in kind text) ⊎ Contains (read whatever text) e) (held_from (least_told n last track.minimum) (slots_of n (of_life life track.history))) p.entry stands
+          (held-entry slots n life last track sound pos p there late)
+    ]
 
 -- ---- an agent
 
@@ -248,9 +210,9 @@ keeps laws i sound some_events some_queries times low_event low_query told_event
     let q : List ℕ = kept_line_above_zero kinds.Query i.snapshot.query_clock in
     let event_fits : All (λ (p : Past EventBody). Fits IsTold IsShort p.entry) i.events.history = λ k d inside. let t = told_events k d inside in (t.0, t.1, t.2, sound.short k d inside) in
     let query_fits : All (λ (p : Past ℕ). Fits IsIdTold IsIdShort p.entry) i.queries.history = λ k d inside. let t = told_queries k d inside in (t.0, t.1, t.2, omega arith) in
-    let events = track-kept kinds.Event kept_events line_of_event IsTold IsShort laws laws.event_slots laws.event_texts (λ x fit. (laws.event_line_whole x.time x.key.name x.key.payload).whole)
+    let events = track-kept kinds.Event kept_events line_of_event IsTold IsShort laws laws.event_slots laws.event_texts (λ x fit. (laws.quiet.event x.time x.key.name x.key.payload).whole)
     i.config.event_buffer i.life i.snapshot.event_clock i.events [] qu sound.events low_event some_events times.event_clock refl event_fits in
-    let queries = track-kept kinds.Query kept_queries query_line IsIdTold IsIdShort laws laws.query_slots laws.query_texts (λ x fit. (laws.query_line_whole x.time x.key).whole)
+    let queries = track-kept kinds.Query kept_queries query_line IsIdTold IsIdShort laws laws.query_slots laws.query_texts (λ x fit. (laws.quiet.query x.time x.key).whole)
     i.config.query_buffer i.life i.snapshot.query_clock i.queries ev m sound.queries low_query some_queries times.query_clock events.0 query_fits in
     record {
       events = laws.event_texts.grows i.events.history (((ev ++ qu) ++ m) ++ e) q (laws.event_texts.grows i.events.history ((ev ++ qu) ++ m) e (laws.event_texts.grows i.events.history (ev ++ qu) m events.1));
@@ -258,4 +220,4 @@ keeps laws i sound some_events some_queries times low_event low_query told_event
     }
 
 pub compaction_laws : BelowCompactions → CompactionLaws
-compaction_laws laws = record { keeps = keeps laws; says_no_clock = says_no_clock laws }
+compaction_laws laws = record { keeps = keeps laws; says_no_clock = kept-quiet laws.quiet }

@@ -1,5 +1,5 @@
 -- An agent that keeps its events, opened again: it is sound, and what is durable still has all that was entered.
-use Rattle.serf_agent.proofs.Names.{◌≡◌, ◌≢◌, ℕ, ◌+◌, ◌-◌, ◌^◌, ◌<◌, ◌≤◌, List, [], ◌∷◌, sym, subst, ap, arith, All, AllPairs, map, All-cons, All-head, All-nil, All-tail, All-weaker, EventBody, TimedEntry, same_id, same_texts, ClockKind, last_clock, Device, opened}
+use Rattle.serf_agent.proofs.Names.{◌≡◌, ◌≢◌, ℕ, ◌+◌, ◌-◌, ◌^◌, ◌<◌, ◌≤◌, List, sym, subst, ap, arith, All, map, All-nil, All-weaker, EventBody, TimedEntry, same_id, same_texts, ClockKind, last_clock, Device, opened}
 use Rattle.std.specs.Prelude.{◌++◌, ◌⊎◌, Contains}
 use Rattle.std.proofs.lemmas.List.Elements.{All-append, All-contains, All-map}
 use Rattle.serf_snap.specs.declared.kept.Wanted.{Wanted}
@@ -15,6 +15,8 @@ use Rattle.serf_agent.specs.KeptTexts.{AreKept, IsIdShort, IsShort, KeptEventLaw
 use Rattle.serf_agent.specs.Restart.{IsInText}
 use Rattle.serf_agent.specs.Snapshots.{SnapshotLaws}
 use Rattle.serf_agent.specs.Sound.{IsOpenQuerySound, IsSound}
+use Rattle.serf_agent.proofs.KeepingLaws.{of-entries}
+use Rattle.serf_agent.proofs.SoundLaws.{no-pairs}
 
 -- ---- what the crates below promise
 
@@ -29,18 +31,11 @@ pub record BelowKept : Type 0 where
   pub queries_sealed : (w : Wanted) (text : List ℕ) → queries_in w (sealed text) ≡ queries_in w text
   pub least_sealed : (k : ClockKind) (text : List ℕ) → least_in k (sealed text) ≡ least_in k text
 
-no-pairs : {A : Type 0} (R : A → A → Type 0) → AllPairs R []
-no-pairs R = λ i j d lt within. absurd (omega arith)
-
 -- what holds of each entry of two lists holds of a history whose entries are all among these
 pub among : {K : Type 0} (P : TimedEntry K → Type 0) (old new : List (Past K)) (kept : List (TimedEntry K)) → All (λ p. P p.entry) old → All P kept → All (Contains (entries_in old ++ kept)) (entries_in new) → All (λ p. P p.entry) new
 among {K} P old new kept had back from =
     let both : All P (entries_in old ++ kept) = All-append P (entries_in old) kept (All-map P (λ (p : Past K). p.entry) old had) back in
-    each new (All-weaker (Contains (entries_in old ++ kept)) P (λ e there. All-contains P (entries_in old ++ kept) e both there) (entries_in new) from)
-  where
-    each : (ps : List (Past K)) → All P (entries_in ps) → All (λ p. P p.entry) ps
-    each [] h = All-nil (λ (p : Past K). P p.entry)
-    each (p ∷ ps) h = All-cons (λ (q : Past K). P q.entry) p ps (All-head P p.entry (entries_in ps) h) (each ps (All-tail P p.entry (entries_in ps) h))
+    of-entries P new (All-weaker (Contains (entries_in old ++ kept)) P (λ e there. All-contains P (entries_in old ++ kept) e both there) (entries_in new) from)
 
 sound : BelowKept → (i : IdealAgent) (text : List ℕ) (d : Device) → IsSound i → IsInText i text → HasKept i text → (opened text d).member_clock < 2 ^ 64 - 1 → IsSound (restarted_kept text (opened text d) i)
 sound laws i text d s within kept small =

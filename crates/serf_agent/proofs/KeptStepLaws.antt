@@ -1,5 +1,5 @@
 -- What is durable of an agent that keeps its events, after each of its notes.
-use Rattle.serf_agent.proofs.Names.{◌≡◌, ℕ, ◌-◌, ◌^◌, ◌<◌, ◌≤◌, nat_le, cond, Bool, true, false, List, [], ◌∷◌, ◌++◌, Option, Some, None, take, refl, sym, subst, ap, ◌∙◌, append-nil, append_assoc, arith, option_map, EventBody, TimedEntry, ClockKind, clock_line, Kept, Failed, KeepsPart, noted, written, last_line}
+use Rattle.serf_agent.proofs.Names.{◌≡◌, ℕ, ◌-◌, ◌^◌, ◌<◌, ◌≤◌, nat_le, cond, Bool, true, false, List, [], ◌∷◌, ◌++◌, Option, Some, None, take, refl, sym, subst, ap, ◌∙◌, append-nil, append_assoc, arith, option_map, EventBody, TimedEntry, ClockKind, clock_line, Kept, Failed, KeepsPart, SnapshotView, noted, written, last_line}
 use Rattle.serf_snap.specs.declared.kept.Wanted.{Wanted}
 use Rattle.serf_snap.specs.declared.kind.ClockKind.TheVariants as kinds
 use Rattle.serf_snap.specs.Clocks.{is_whole}
@@ -12,6 +12,8 @@ use Rattle.serf_agent.specs.KeptRestart.{HasKept, IsKeptSound}
 use Rattle.serf_agent.specs.KeptSteps.{KeptNoteLaws}
 use Rattle.serf_agent.specs.KeptTexts.{AreKept, IsIdShort, IsIdTold, IsShort, IsTold, KeptEventLaws, KeptQueryLaws, KeptTextLaws, kept_events, kept_queries, line_of_event}
 use Rattle.serf_agent.specs.Queries.{query_entered}
+use Rattle.serf_agent.specs.Told.{MayNote, bytes_with, noted_with}
+use Rattle.serf_agent.proofs.SoundLaws.{may-part}
 
 -- ---- what the crates below promise
 
@@ -35,6 +37,35 @@ pub part-durable : (s : Option (List ℕ)) (bytes new : List ℕ) → KeepsPart 
 part-durable None bytes new part = absurd (cc part)
 part-durable (Some old) bytes new part = (old, take part.0 bytes, refl, part.1)
 
+-- what holds of what was durable, and with these bytes behind that of what is whole, holds of what is durable with them
+pub appended : (P Q : List ℕ → Type 0) (s : SnapshotView) (bytes new : List ℕ) → ((old : List ℕ) → s.durable ≡ Some old → P old) → IsSnapshotSound s → s.stopped ≡ false → ((old : List ℕ) → is_whole old ≡ true → P old → Q (old ++ bytes)) → option_map (λ (k : List ℕ). k ++ bytes) s.durable ≡ Some new → Q new
+appended P Q s bytes new had sound runs step at = let g = grown-durable s.durable bytes new at in subst Q g.2 (step g.0 ((sound g.0 g.1).whole runs) (had g.0 g.1))
+
+-- what is durable grows: it is what was, with more behind it, if anything
+abbrev pub GrowsTo : Option (List ℕ) → Option (List ℕ) → Type 0
+GrowsTo old new = (text : List ℕ) → new ≡ Some text → (front : List ℕ) × (more : List ℕ) × (old ≡ Some front) × (front ++ more ≡ text)
+
+-- it is longer by nothing where it is the same
+pub stays-so : (s : Option (List ℕ)) → GrowsTo s s
+stays-so s text at = (text, [], at, append-nil text)
+
+-- so it is by a note
+pub noted-grows : (kind : ClockKind) (t : ℕ) (line : Option (List ℕ)) (s : SnapshotView) → GrowsTo s.durable (noted_with kind t line s Kept).durable
+noted-grows kind t None s text at = by (nat_le t (last_line kind s)) at
+  where
+    by : (b : Bool) → (cond b s (written kind t s Kept)).durable ≡ Some text → (front : List ℕ) × (more : List ℕ) × (s.durable ≡ Some front) × (front ++ more ≡ text)
+    by true at = stays-so s.durable text at
+    by false at = let g = grown-durable s.durable (clock_line kind t) text at in (g.0, clock_line kind t, g.1, g.2)
+noted-grows kind t (Some line) s text at = let g = grown-durable s.durable (kept_bytes kind t line (last_line kind s)) text at in (g.0, kept_bytes kind t line (last_line kind s), g.1, g.2)
+
+-- and by one that fails
+part-grows : (s durable : Option (List ℕ)) (bytes : List ℕ) → KeepsPart s bytes durable → GrowsTo s durable
+part-grows s durable bytes part text at = let p = part-durable s bytes text (subst (KeepsPart s bytes) at part) in (p.0, p.1, p.2, sym p.3)
+
+-- of whatever line
+pub failed-grows : (kind : ClockKind) (t : ℕ) (line durable : Option (List ℕ)) (s : SnapshotView) → MayNote kind t line s (Failed durable) → GrowsTo s.durable durable
+failed-grows kind t line durable s may = part-grows s.durable durable (bytes_with kind t line s) (may-part kind s t line durable may)
+
 -- ---- one more line
 
 abbrev front_of : ClockKind → ℕ → ℕ → List ℕ
@@ -57,62 +88,43 @@ entered {K} kind read line Told Short laws texts history old life t last what wh
 
 enters_event : BelowSteps → (t : ℕ) (what : EventBody) (i : IdealAgent) → IsKeptSound i → IsSnapshotSound i.snapshot → i.snapshot.stopped ≡ false → 0 < t → t < 2 ^ 64 - 1 → IsTold what → texts_len what ≤ 9216
     → IsKeptSound (with_snapshot (kept_noted kinds.Event t (line_of_event t what) i.snapshot Kept) (event_entered t what i))
-enters_event laws t what i had sound runs some small told short durable at =
+enters_event laws t what i had sound runs some small told short durable =
+    let next : IdealAgent = with_snapshot (kept_noted kinds.Event t (line_of_event t what) i.snapshot Kept) (event_entered t what i) in
     let bytes : List ℕ = kept_bytes kinds.Event t (line_of_event t what) i.snapshot.event_clock in
-    let g = grown-durable i.snapshot.durable bytes durable at in
-    let before : HasKept i g.0 = had g.0 g.1 in
-    let whole : is_whole g.0 ≡ true = (sound g.0 g.1).whole runs in
-    let after : HasKept (event_entered t what i) (g.0 ++ bytes) = record {
-      events = entered kinds.Event kept_events line_of_event IsTold IsShort laws laws.event_texts i.events.history g.0 i.life t i.snapshot.event_clock what whole some small told short before.events;
-      queries = laws.query_texts.grows i.queries.history g.0 bytes before.queries;
-    } in
-    let next : HasKept (event_entered t what i) durable = subst (HasKept (event_entered t what i)) g.2 after in
-    record { events = next.events; queries = next.queries }
+    appended (HasKept i) (HasKept next) i.snapshot bytes durable had sound runs (λ old whole before. record {
+      events = entered kinds.Event kept_events line_of_event IsTold IsShort laws laws.event_texts i.events.history old i.life t i.snapshot.event_clock what whole some small told short before.events;
+      queries = laws.query_texts.grows i.queries.history old bytes before.queries;
+    })
 
 enters_query : BelowSteps → (t id : ℕ) (i : IdealAgent) → IsKeptSound i → IsSnapshotSound i.snapshot → i.snapshot.stopped ≡ false → 0 < t → t < 2 ^ 64 - 1 → IsIdTold id
     → IsKeptSound (with_snapshot (kept_noted kinds.Query t (query_line t id) i.snapshot Kept) (query_entered t id i))
-enters_query laws t id i had sound runs some small told durable at =
+enters_query laws t id i had sound runs some small told durable =
+    let next : IdealAgent = with_snapshot (kept_noted kinds.Query t (query_line t id) i.snapshot Kept) (query_entered t id i) in
     let bytes : List ℕ = kept_bytes kinds.Query t (query_line t id) i.snapshot.query_clock in
-    let g = grown-durable i.snapshot.durable bytes durable at in
-    let before : HasKept i g.0 = had g.0 g.1 in
-    let whole : is_whole g.0 ≡ true = (sound g.0 g.1).whole runs in
-    let after : HasKept (query_entered t id i) (g.0 ++ bytes) = record {
-      events = laws.event_texts.grows i.events.history g.0 bytes before.events;
-      queries = entered kinds.Query kept_queries query_line IsIdTold IsIdShort laws laws.query_texts i.queries.history g.0 i.life t i.snapshot.query_clock id whole some small told (omega arith) before.queries;
-    } in
-    let next : HasKept (query_entered t id i) durable = subst (HasKept (query_entered t id i)) g.2 after in
-    record { events = next.events; queries = next.queries }
+    appended (HasKept i) (HasKept next) i.snapshot bytes durable had sound runs (λ old whole before. record {
+      events = laws.event_texts.grows i.events.history old bytes before.events;
+      queries = entered kinds.Query kept_queries query_line IsIdTold IsIdShort laws laws.query_texts i.queries.history old i.life t i.snapshot.query_clock id whole some small told (omega arith) before.queries;
+    })
 
 -- ---- lines that enter nothing
 
-kept-grows : BelowSteps → (i : IdealAgent) (text more : List ℕ) → HasKept i text → HasKept i (text ++ more)
-kept-grows laws i text more had = record { events = laws.event_texts.grows i.events.history text more had.events; queries = laws.query_texts.grows i.queries.history text more had.queries }
+-- what was entered is kept where what is durable grows
+still-kept : BelowSteps → (i : IdealAgent) (s : SnapshotView) → IsKeptSound i → GrowsTo i.snapshot.durable s.durable → IsKeptSound (with_snapshot s i)
+still-kept laws i s had grows durable at =
+    let g = grows durable at in
+    let before : HasKept i g.0 = had g.0 g.2 in
+    let after : HasKept i (g.0 ++ g.1) = record { events = laws.event_texts.grows i.events.history g.0 g.1 before.events; queries = laws.query_texts.grows i.queries.history g.0 g.1 before.queries } in
+    let next : HasKept i durable = subst (HasKept i) g.3 after in
+    record { events = next.events; queries = next.queries }
 
 tells : BelowSteps → (kind : ClockKind) (t : ℕ) (line : List ℕ) (i : IdealAgent) → IsKeptSound i → IsKeptSound (with_snapshot (kept_noted kind t line i.snapshot Kept) i)
-tells laws kind t line i had durable at =
-    let bytes : List ℕ = kept_bytes kind t line (last_line kind i.snapshot) in
-    let g = grown-durable i.snapshot.durable bytes durable at in
-    let after : HasKept i (g.0 ++ bytes) = kept-grows laws i g.0 bytes (had g.0 g.1) in
-    let next : HasKept i durable = subst (HasKept i) g.2 after in
-    record { events = next.events; queries = next.queries }
+tells laws kind t line i had = still-kept laws i (kept_noted kind t line i.snapshot Kept) had (noted-grows kind t (Some line) i.snapshot)
 
 saves : BelowSteps → (t : ℕ) (i : IdealAgent) → IsKeptSound i → IsKeptSound (with_snapshot (noted kinds.Member t i.snapshot Kept) i)
-saves laws t i had durable = by (nat_le t i.snapshot.member_clock)
-  where
-    by : (b : Bool) → (cond b i.snapshot (written kinds.Member t i.snapshot Kept)).durable ≡ Some durable → HasKept (with_snapshot (noted kinds.Member t i.snapshot Kept) i) durable
-    by true at = let next : HasKept i durable = had durable at in record { events = next.events; queries = next.queries }
-    by false at =
-        let g = grown-durable i.snapshot.durable (clock_line kinds.Member t) durable at in
-        let after : HasKept i (g.0 ++ clock_line kinds.Member t) = kept-grows laws i g.0 (clock_line kinds.Member t) (had g.0 g.1) in
-        let next : HasKept i durable = subst (HasKept i) g.2 after in
-        record { events = next.events; queries = next.queries }
+saves laws t i had = still-kept laws i (noted kinds.Member t i.snapshot Kept) had (noted-grows kinds.Member t None i.snapshot)
 
 fails : BelowSteps → (kind : ClockKind) (t : ℕ) (bytes : List ℕ) (durable : Option (List ℕ)) (i : IdealAgent) → IsKeptSound i → KeepsPart i.snapshot.durable bytes durable → IsKeptSound (with_snapshot (written kind t i.snapshot (Failed durable)) i)
-fails laws kind t bytes durable i had part new at =
-    let p = part-durable i.snapshot.durable bytes new (subst (λ (o : Option (List ℕ)). KeepsPart i.snapshot.durable bytes o) at part) in
-    let after : HasKept i (p.0 ++ p.1) = kept-grows laws i p.0 p.1 (had p.0 p.2) in
-    let next : HasKept i new = subst (HasKept i) (sym p.3) after in
-    record { events = next.events; queries = next.queries }
+fails laws kind t bytes durable i had part = still-kept laws i (written kind t i.snapshot (Failed durable)) had (part-grows i.snapshot.durable durable bytes part)
 
 pub kept_note_laws : BelowSteps → KeptNoteLaws
 kept_note_laws laws = record { enters_event = enters_event laws; enters_query = enters_query laws; tells = tells laws; saves = saves laws; fails = fails laws }

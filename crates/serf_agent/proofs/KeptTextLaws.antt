@@ -1,6 +1,6 @@
 -- What a text keeps of what was handed out, and what an opening takes of it: of events and of queries alike.
 use Rattle.serf_wire.specs.Bytes.{AreBytes}
-use Rattle.serf_agent.proofs.Names.{◌≡◌, ℕ, zero, suc, ◌+◌, ◌-◌, ◌^◌, ◌<◌, ◌≤◌, ◌⊎◌, inl, inr, max, cond, Bool, true, false, List, [], ◌∷◌, ◌++◌, Option, Some, None, length, map, refl, sym, ◌∙◌, ap, subst, arith, All, cases_lt, lt-ltb, leb-true, and_from, and_parts, All-head, All-nil, All-push, All-tail, All-weaker, EventBody, TimedEntry}
+use Rattle.serf_agent.proofs.Names.{◌≡◌, ℕ, zero, suc, ◌+◌, ◌-◌, ◌^◌, ◌<◌, ◌≤◌, ◌⊎◌, inl, inr, max, cond, Bool, true, false, List, [], ◌∷◌, ◌++◌, Option, Some, None, length, map, refl, sym, ◌∙◌, ap, subst, arith, All, cases_lt, lt-ltb, leb-true, and_from, and_parts, All-nil, All-push, All-weaker, TimedEntry}
 use Rattle.std.specs.Prelude.{Contains, slice_index_or}
 use Rattle.std.proofs.lemmas.Bool.{le-leb, ltb-true}
 use Rattle.std.proofs.lemmas.List.Elements.{All-append, All-cons, All-contains, All-map, Contains-append_cases, Contains-append_left, Contains-append_right}
@@ -14,7 +14,8 @@ use Rattle.serf_snap.specs.TimedEvent.{TimedEvent, timed_event}
 use Rattle.serf_agent.specs.Ideal.{Past}
 use Rattle.serf_agent.specs.Keeping.{IsHad, entries_in, opened_clock}
 use Rattle.serf_agent.specs.KeptTexts.{AreKept, IsIdShort, IsIdTold, IsShort, IsTold, KeptEventLaws, KeptQueryLaws, event_entry, kept_events, kept_queries, line_of_event, query_entry, whatever, within_reach}
-use Rattle.serf_agent.proofs.KeepingLaws.{map-append}
+use Rattle.std.proofs.lemmas.List.{map-append}
+use Rattle.serf_agent.proofs.KeepingLaws.{of-entries}
 
 -- ---- what the crate below promises of least times, and of a line that is written
 
@@ -174,11 +175,24 @@ inside {K} {T} item wanted entry Short reads n last least text =
     (λ d is. let under : (entry d).time < last + 1 = reads.below reach d is in (omega arith, reads.short reach d is))
     (said_by_lines item (wanted reach) (lines_of text)) (all-wanted item (wanted reach) (lines_of text)))
 
+-- what an opening takes of a text stands in it
+pub stands-read : {K T : Type 0} (item : List ℕ → Option T) (wanted : Wanted → T → Bool) (entry : T → TimedEntry K) (Short : ℕ → K → Type 0) → Reads wanted entry Short → (n last least : ℕ) (text : List ℕ) (e : TimedEntry K) → last < 2 ^ 64 - 1 → Contains (reached item wanted entry n last least text) e
+    → Contains (entries_said item (wanted whatever) entry (lines_of text)) e
+stands-read {K} {T} item wanted entry Short reads n last least text e small there = read-lines item (wanted reach) (wanted whatever) entry e (λ d _ is. passing d is) (lines_of text) there
+  where
+    reach : Wanted
+    reach = within_reach n last least
+
+    passing : (d : T) → wanted reach d ≡ true → wanted whatever d ≡ true
+    passing d is =
+        let under : (entry d).time < last + 1 = reads.below reach d is in
+        reads.passes whatever d (omega arith) (omega (arith, under, small)) (reads.longer 9216 (2 ^ 64 - 1) (entry d).key (omega arith) (reads.short reach d is))
+
 stays : {K T : Type 0} (kind : ClockKind) (item : List ℕ → Option T) (wanted : Wanted → T → Bool) (entry : T → TimedEntry K) (Short : ℕ → K → Type 0) → Reads wanted entry Short
     → (n last : ℕ) (history new : List (Past K)) (text : List ℕ) → last < 2 ^ 64 - 1 → AreKept kind (λ w t. entries_said item (wanted w) entry (lines_of t)) history text
     → All (Contains (entries_in history ++ reached item wanted entry n last (least_in kind text) text)) (entries_in new) → AreKept kind (λ w t. entries_said item (wanted w) entry (lines_of t)) new text
 stays {K} {T} kind item wanted entry Short reads n last history new text small kept from =
-    all new (All-weaker (Contains (entries_in history ++ taken)) Stands (λ e there. by e (Contains-append_cases (entries_in history) taken e there)) (entries_in new) from)
+    of-entries Stands new (All-weaker (Contains (entries_in history ++ taken)) Stands (λ e there. by e (Contains-append_cases (entries_in history) taken e there)) (entries_in new) from)
   where
     taken : List (TimedEntry K)
     taken = reached item wanted entry n last (least_in kind text) text
@@ -186,21 +200,9 @@ stays {K} {T} kind item wanted entry Short reads n last history new text small k
     Stands : TimedEntry K → Type 0
     Stands e = (e.time < least_in kind text) ⊎ Contains (entries_said item (wanted whatever) entry (lines_of text)) e
 
-    reach : Wanted
-    reach = within_reach n last (least_in kind text)
-
-    passing : (d : T) → wanted reach d ≡ true → wanted whatever d ≡ true
-    passing d is =
-        let under : (entry d).time < last + 1 = reads.below reach d is in
-        reads.passes whatever d (omega arith) (omega arith) (reads.longer 9216 (2 ^ 64 - 1) (entry d).key (omega arith) (reads.short reach d is))
-
     by : (e : TimedEntry K) → Contains (entries_in history) e ⊎ Contains taken e → Stands e
     by e (inl old) = All-contains Stands (entries_in history) e (All-map Stands (λ (p : Past K). p.entry) history kept) old
-    by e (inr back) = inr (read-lines item (wanted reach) (wanted whatever) entry e (λ d _ is. passing d is) (lines_of text) back)
-
-    all : (ps : List (Past K)) → All Stands (entries_in ps) → All (λ (p : Past K). Stands p.entry) ps
-    all [] h = All-nil (λ (p : Past K). Stands p.entry)
-    all (p ∷ ps) h = All-cons (λ (q : Past K). Stands q.entry) p ps (All-head Stands p.entry (entries_in ps) h) (all ps (All-tail Stands p.entry (entries_in ps) h))
+    by e (inr back) = inr (stands-read item wanted entry Short reads n last (least_in kind text) text e small back)
 
 -- ---- of events, and of queries
 
@@ -210,31 +212,24 @@ map-grown entry all old more is = ap (map entry) is ∙ map-append entry old mor
 grows_events : EventLaws → Grows kept_events line_of_event IsTold IsShort
 grows_events laws = record {
   tail = λ text tail. let g = laws.grow whatever text tail in (map event_entry g.0, map-grown event_entry (events_in whatever (text ++ tail)) (events_in whatever text) g.0 g.1);
-  written = λ text t what whole some small told short. line text t what whole some small told short;
+  written = λ text t what whole some small told short.
+      let d : TimedEvent = timed_event t what.name what.payload in
+      let passes : is_event_wanted whatever d ≡ true = reads_events.passes whatever d (omega arith) small (omega arith) in
+      let written : events_in whatever (text ++ event_line t what.name what.payload) ≡ events_in whatever text ++ d ∷ [] =
+      laws.written whatever text t what.name what.payload whole some small told.name told.payload ∙ ap (λ (b : Bool). events_in whatever text ++ cond b (d ∷ []) []) passes in
+      map-grown event_entry (events_in whatever (text ++ event_line t what.name what.payload)) (events_in whatever text) (d ∷ []) written;
 }
-  where
-    line : (text : List ℕ) (t : ℕ) (what : EventBody) → is_whole text ≡ true → 0 < t → t < 2 ^ 64 - 1 → IsTold what → IsShort 9216 what
-        → kept_events whatever (text ++ line_of_event t what) ≡ kept_events whatever text ++ record { time = t; key = what } ∷ []
-    line text t what whole some small told short =
-        let d : TimedEvent = timed_event t what.name what.payload in
-        let passes : is_event_wanted whatever d ≡ true = reads_events.passes whatever d (omega arith) small (omega arith) in
-        let written : events_in whatever (text ++ event_line t what.name what.payload) ≡ events_in whatever text ++ d ∷ [] =
-        laws.written whatever text t what.name what.payload whole some small told.name told.payload ∙ ap (λ (b : Bool). events_in whatever text ++ cond b (d ∷ []) []) passes in
-        map-grown event_entry (events_in whatever (text ++ event_line t what.name what.payload)) (events_in whatever text) (d ∷ []) written
 
 grows_queries : QueryLaws → Grows kept_queries query_line IsIdTold IsIdShort
 grows_queries laws = record {
   tail = λ text tail. let g = laws.grow whatever text tail in (map query_entry g.0, map-grown query_entry (queries_in whatever (text ++ tail)) (queries_in whatever text) g.0 g.1);
-  written = λ text t id whole some small told short. line text t id whole some small told;
+  written = λ text t id whole some small low short.
+      let d : KeptQuery = kept_query t id in
+      let passes : is_query_wanted whatever d ≡ true = reads_queries.passes whatever d (omega arith) small (omega arith) in
+      let written : queries_in whatever (text ++ query_line t id) ≡ queries_in whatever text ++ d ∷ [] =
+      laws.written whatever text t id whole some small low ∙ ap (λ (b : Bool). queries_in whatever text ++ cond b (d ∷ []) []) passes in
+      map-grown query_entry (queries_in whatever (text ++ query_line t id)) (queries_in whatever text) (d ∷ []) written;
 }
-  where
-    line : (text : List ℕ) (t id : ℕ) → is_whole text ≡ true → 0 < t → t < 2 ^ 64 - 1 → id < 2 ^ 32 → kept_queries whatever (text ++ query_line t id) ≡ kept_queries whatever text ++ record { time = t; key = id } ∷ []
-    line text t id whole some small low =
-        let d : KeptQuery = kept_query t id in
-        let passes : is_query_wanted whatever d ≡ true = reads_queries.passes whatever d (omega arith) small (omega arith) in
-        let written : queries_in whatever (text ++ query_line t id) ≡ queries_in whatever text ++ d ∷ [] =
-        laws.written whatever text t id whole some small low ∙ ap (λ (b : Bool). queries_in whatever text ++ cond b (d ∷ []) []) passes in
-        map-grown query_entry (queries_in whatever (text ++ query_line t id)) (queries_in whatever text) (d ∷ []) written
 
 pub kept_event_laws : LeastLaws → EventLaws → KeptEventLaws
 kept_event_laws least laws = record {

@@ -131,13 +131,6 @@ has-wrong i all part left before mid after old now new fault has more = record {
       (wrong-longer i (has.done ++ part) left old (has.deliveries ++ more.deliveries) new fault (goes-wrong i has.done part old has.deliveries more.deliveries now new fault has.goes more.went));
 }
 
-pub has-all : (i : IdealAgent) (all : List (TimedEntry EventBody)) (before after : List EventOut) (old : Device) (new : AgentState) → HasReceived i all [] before after old new → Received i all before after old new (Ok tt)
-has-all i all before after old new has = record {
-  deliveries = has.deliveries;
-  out = has.out;
-  went = subst (λ (l : List (TimedEntry EventBody)). GoesOn i l old has.deliveries new) (sym (append-nil has.done) ∙ has.split) has.goes;
-}
-
 -- ---- a push/pull is heard of
 
 -- there is a line, and no memory for it

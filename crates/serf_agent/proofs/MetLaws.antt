@@ -1,5 +1,5 @@
 -- What of a time was met, and what an opening leaves below its least time.
-use Rattle.serf_agent.proofs.Names.{◌≡◌, ◌≢◌, ℕ, ◌+◌, ◌-◌, ◌^◌, ◌<◌, ◌≤◌, ◌⊎◌, ◌==◌, ◌&&◌, ◌||◌, inl, inr, max, nat_lt, nat_le, cond, Bool, true, false, List, [], ◌∷◌, ◌++◌, length, length-append, filter, refl, sym, subst, ap, ◌∙◌, arith, All, AllPairs, All-filter, All-head, All-nil, All-push, All-tail, All-weaker, AllPairs-filter, all_pairs_push, cases_lt, leb-true, true≢false, TimedEntry, count_at, eq-eqb, same_id, same_texts, was_entered, Option}
+use Rattle.serf_agent.proofs.Names.{◌≡◌, ◌≢◌, ℕ, ◌+◌, ◌-◌, ◌^◌, ◌<◌, ◌≤◌, ◌⊎◌, ◌==◌, ◌&&◌, ◌||◌, inl, inr, max, nat_lt, nat_le, cond, Bool, true, false, List, [], ◌∷◌, ◌++◌, length, length-append, filter, refl, sym, subst, ap, ◌∙◌, arith, All, AllPairs, All-filter, All-head, All-nil, All-push, All-tail, All-weaker, AllPairs-filter, all_pairs_push, cases_lt, leb-true, true≢false, TimedEntry, count_at, eq-eqb, same_id, same_texts, was_entered}
 use Rattle.std.proofs.lemmas.Bool.{eqb-true}
 use Rattle.std.specs.Prelude.{Contains}
 use Rattle.std.proofs.lemmas.List.{length-map}
@@ -7,7 +7,6 @@ use Rattle.std.proofs.lemmas.List.Elements.{All-contains, All-contains_itself, A
 use Rattle.serf_window.specs.declared.verdict.Verdict.TheVariants.{BelowMinimum, New, Seen, TimeFull, TooOld}
 use Rattle.serf_window.specs.Recall.{Recalled, recalled, recalled_by, recalled_one}
 use Rattle.serf_snap.specs.declared.kept.Wanted.{Wanted}
-use Rattle.serf_snap.specs.Clocks.{lines_of}
 use Rattle.serf_snap.specs.EventLines.{event_of_line, is_event_wanted, is_query_wanted, query_of_line}
 use Rattle.serf_agent.specs.Kept.{HasMet, IsFull, IsMet}
 use Rattle.std.proofs.lemmas.List.Kept.{AllPairs-cons}
@@ -16,7 +15,8 @@ use Rattle.serf_agent.specs.Keeping.{entries_in, taken_back}
 use Rattle.serf_agent.specs.KeptTexts.{IsIdShort, IsShort, event_entry, kept_events, kept_queries, query_entry, whatever, within_reach}
 use Rattle.serf_agent.specs.Tracks.{of_life, was_ever_entered}
 use Rattle.serf_agent.proofs.KeepingLaws.{contained-entered, entered-contained, pairs-head, pairs-tail, same_texts-itself, same_texts-tells}
-use Rattle.serf_agent.proofs.KeptTextLaws.{Reads, entries_said, read-lines, reads_events, reads_queries}
+use Rattle.serf_agent.proofs.TrackLaws.{of-life}
+use Rattle.serf_agent.proofs.KeptTextLaws.{reads_events, reads_queries, stands-read}
 
 -- a test of keys that tells them apart
 pub record Tells {K : Type 0} (same : K → K → Bool) : Type 0 where
@@ -144,17 +144,6 @@ low-back same tells n k last least kept =
 abbrev pub Stands : {K : Type 0} → (Wanted → List ℕ → List (TimedEntry K)) → Type 0
 Stands {K} read = (n last least : ℕ) (text : List ℕ) (e : TimedEntry K) → last < 2 ^ 64 - 1 → Contains (read (within_reach n last least) text) e → Contains (read whatever text) e
 
-stands-read : {K T : Type 0} (item : List ℕ → Option T) (wanted : Wanted → T → Bool) (entry : T → TimedEntry K) (Short : ℕ → K → Type 0) → Reads wanted entry Short → Stands (λ w text. entries_said item (wanted w) entry (lines_of text))
-stands-read {K} {T} item wanted entry Short reads n last least text e small there = read-lines item (wanted (within_reach n last least)) (wanted whatever) entry e (λ d _ is. passing d is) (lines_of text) there
-  where
-    reach : Wanted
-    reach = within_reach n last least
-
-    passing : (d : T) → wanted reach d ≡ true → wanted whatever d ≡ true
-    passing d is =
-        let under : (entry d).time < last + 1 = reads.below reach d is in
-        reads.passes whatever d (omega arith) (omega (arith, under, small)) (reads.longer 9216 (2 ^ 64 - 1) (entry d).key (omega arith) (reads.short reach d is))
-
 pub events-stand : Stands kept_events
 events-stand = stands-read event_of_line is_event_wanted event_entry IsShort reads_events
 
@@ -176,13 +165,10 @@ pub ever-met : {K : Type 0} (same : K → K → Bool) → Tells same → (P : Ti
 ever-met {K} same tells P history e all is = All-contains P (entries_in history) e (All-map P (λ (p : Past K). p.entry) history all) (ever-contained same tells history e is)
 
 -- what was entered in a life is met, and each differs
-life-met : {K : Type 0} (P : TimedEntry K → Type 0) (life : ℕ) (history : List (Past K)) → All (λ p. P p.entry) history → All P (of_life life history)
-life-met {K} P life history all = All-map P (λ (p : Past K). p.entry) (filter (λ (p : Past K). p.life == life) history) (All-filter (λ (p : Past K). p.life == life) (λ (p : Past K). P p.entry) history all)
-
 pub has-met-life : {K : Type 0} (k t life : ℕ) (handed stood : List (TimedEntry K)) (history : List (Past K)) → AllPairs (λ p q. p.entry ≢ q.entry) history → All (λ p. IsMet handed stood p.entry) history → k ≤ count_at (of_life life history) t → HasMet k t handed stood
 has-met-life {K} k t life handed stood history apart met many =
     has-met-count k t handed stood (of_life life history) (pairs-map (filter (λ (p : Past K). p.life == life) history) (AllPairs-filter (λ (p q : Past K). p.entry ≢ q.entry) (λ (p : Past K). p.life == life) history apart))
-    (life-met (IsMet handed stood) life history met) many
+    (of-life (IsMet handed stood) life history met) many
   where
     pairs-map : (ps : List (Past K)) → AllPairs (λ p q. p.entry ≢ q.entry) ps → AllPairs (λ x y. x ≢ y) (entries_in ps)
     pairs-map [] h = λ i j d lt within. absurd (omega arith)

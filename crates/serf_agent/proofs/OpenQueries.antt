@@ -40,33 +40,28 @@ pub either-result : {A E X : Type 0} (P : X → Type 0) (r : Result A E) {new do
 either-result P (Ok x) ok err d o = subst P (sym ok) d
 either-result P (Err e) ok err d o = subst P (sym err) o
 
--- writing a value keeps what holds of the keys, and of the values
-pub set_value-keys : {X : Type 0} (P : ℕ → Type 0) (test : ℕ → Bool) (es : List (ℕ × X)) (x : X) → All (λ e. P e.0) es → All (λ e. P e.0) (set_value test es x)
-set_value-keys P test [] x all = all
-set_value-keys {X} P test (e ∷ es) x all =
-    by (test e.0) (set_value-keys P test es x rest)
+-- writing a value keeps what holds of each entry, where it holds of one with this value too
+set_value-all : {X : Type 0} (P : ℕ × X → Type 0) (test : ℕ → Bool) (es : List (ℕ × X)) (x : X) → ((e : ℕ × X) → P e → P (e.0, x)) → All P es → All P (set_value test es x)
+set_value-all P test [] x put all = all
+set_value-all {X} P test (e ∷ es) x put all =
+    by (test e.0) (set_value-all P test es x put rest)
   where
-    head : P e.0
-    head = All-head (λ (p : ℕ × X). P p.0) e es all
+    head : P e
+    head = All-head P e es all
 
-    rest : All (λ (p : ℕ × X). P p.0) es
-    rest = All-tail (λ (p : ℕ × X). P p.0) e es all
+    rest : All P es
+    rest = All-tail P e es all
 
-    by : (b : Bool) → All (λ (p : ℕ × X). P p.0) (set_value test es x) → All (λ (p : ℕ × X). P p.0) (cond b ((e.0, x) ∷ es) (e ∷ set_value test es x))
-    by true ih = All-cons (λ (p : ℕ × X). P p.0) (e.0, x) es head rest
-    by false ih = All-cons (λ (p : ℕ × X). P p.0) e (set_value test es x) head ih
+    by : (b : Bool) → All P (set_value test es x) → All P (cond b ((e.0, x) ∷ es) (e ∷ set_value test es x))
+    by true ih = All-cons P (e.0, x) es (put e head) rest
+    by false ih = All-cons P e (set_value test es x) head ih
+
+-- so it keeps what holds of the keys, and of the values
+pub set_value-keys : {X : Type 0} (P : ℕ → Type 0) (test : ℕ → Bool) (es : List (ℕ × X)) (x : X) → All (λ e. P e.0) es → All (λ e. P e.0) (set_value test es x)
+set_value-keys {X} P test es x all = set_value-all (λ (e : ℕ × X). P e.0) test es x (λ e h. h) all
 
 pub set_value-values : {X : Type 0} (P : X → Type 0) (test : ℕ → Bool) (es : List (ℕ × X)) (x : X) → P x → All (λ e. P e.1) es → All (λ e. P e.1) (set_value test es x)
-set_value-values P test [] x px all = all
-set_value-values {X} P test (e ∷ es) x px all =
-    by (test e.0) (set_value-values P test es x px rest)
-  where
-    rest : All (λ (p : ℕ × X). P p.1) es
-    rest = All-tail (λ (p : ℕ × X). P p.1) e es all
-
-    by : (b : Bool) → All (λ (p : ℕ × X). P p.1) (set_value test es x) → All (λ (p : ℕ × X). P p.1) (cond b ((e.0, x) ∷ es) (e ∷ set_value test es x))
-    by true ih = All-cons (λ (p : ℕ × X). P p.1) (e.0, x) es px rest
-    by false ih = All-cons (λ (p : ℕ × X). P p.1) e (set_value test es x) (All-head (λ (p : ℕ × X). P p.1) e es all) ih
+set_value-values {X} P test es x px all = set_value-all (λ (e : ℕ × X). P e.1) test es x (λ e h. px) all
 
 -- what holds of all values holds of the one that is found
 pub lookup-each : {X : Type 0} (P : X → Type 0) (test : ℕ → Bool) (es : List (ℕ × X)) (x : X) → All (λ e. P e.1) es → lookup test es ≡ Some x → P x

@@ -1,5 +1,5 @@
 -- What an agent's text says of queries, after each act: those that it said before, and those that entered.
-use Rattle.serf_agent.proofs.Names.{◌≡◌, ℕ, ◌+◌, ◌-◌, ◌^◌, ◌<◌, ◌≤◌, inl, inr, nat_le, cond, Bool, true, false, List, [], ◌∷◌, ◌++◌, Option, Some, None, IfSome, MatchBool, option_map, refl, sym, subst, ap, ◌∙◌, arith, map, All, All-cons, All-head, All-nil, All-push, All-tail, All-weaker, EventBody, TimedEntry, ClockKind, clock_line, compaction_of, last_clock, last_line, slots_of, Device, SnapshotView, Writing, Kept, Failed, KeepsEither, MayWrite, opened, written}
+use Rattle.serf_agent.proofs.Names.{◌≡◌, ℕ, ◌+◌, ◌-◌, ◌^◌, ◌<◌, ◌≤◌, nat_le, cond, Bool, true, false, List, [], ◌∷◌, ◌++◌, Option, Some, None, IfSome, MatchBool, option_map, refl, sym, subst, ap, ◌∙◌, arith, map, All, All-cons, All-head, All-nil, All-push, All-tail, All-weaker, EventBody, TimedEntry, ClockKind, clock_line, compaction_of, last_clock, last_line, slots_of, Device, SnapshotView, Writing, Kept, Failed, MayWrite, opened, written}
 use Rattle.std.specs.Prelude.{Contains, IsSome}
 use Rattle.std.proofs.lemmas.List.Elements.{All-append, All-contains, All-contains_itself}
 use Rattle.serf_snap.specs.declared.kept.KeptQuery.{KeptQuery}
@@ -14,10 +14,10 @@ use Rattle.serf_agent.specs.Events.{told_event}
 use Rattle.serf_agent.specs.Ideal.{IdealAgent, Past, with_config}
 use Rattle.serf_agent.specs.Kept.{IsMet}
 use Rattle.serf_agent.specs.KeptLines.{AreTold, held_from, kept_lines, least_told, lines_told}
-use Rattle.serf_agent.specs.KeptLives.{IsDurable, MayGoOn}
+use Rattle.serf_agent.specs.KeptLives.{IsDurable, IsTellable, MayGoOn}
 use Rattle.serf_agent.specs.KeptRestart.{queries_reached}
 use Rattle.serf_agent.specs.KeptTexts.{IsIdTold, kept_queries, line_of_event, query_entry, whatever}
-use Rattle.serf_agent.specs.Lives.{Act, Fires, Asks, Gets, Hears, Takes, Saves, Compacts, Closes, Opens, after}
+use Rattle.serf_agent.specs.Lives.{Act, Fires, Asks, Gets, Hears, Takes, Saves, Compacts, Closes, Opens, MayAct, after}
 use Rattle.serf_agent.specs.Queries.{told_query}
 use Rattle.serf_agent.specs.Restart.{restarted, restarted_by, unopened}
 use Rattle.serf_agent.specs.Said.{KeepsOnly, OpensOn, SaidLaws, SaysQueries}
@@ -27,9 +27,10 @@ use Rattle.serf_agent.specs.Told.{MayNote, noted_with, text_with}
 use Rattle.serf_agent.specs.TrackOf.{queries_entered}
 use Rattle.serf_agent.specs.Tracks.{of_life}
 use Rattle.serf_agent.specs.View.{view_of}
-use Rattle.serf_agent.proofs.ActMoves.{Noting, acts, compacted, heard}
-use Rattle.serf_agent.proofs.DurableLaws.{opened-durable, replaced-by}
+use Rattle.serf_agent.proofs.ActMoves.{IsNoted, Noting, acts, compacted, heard}
+use Rattle.serf_agent.proofs.DurableLaws.{replaced-holds, opened-durable}
 use Rattle.serf_agent.proofs.HandsOutLaws.{BelowHandsOut}
+use Rattle.std.proofs.lemmas.List.{map-append}
 use Rattle.serf_agent.proofs.KeptCompactionLaws.{only-entered}
 use Rattle.serf_agent.proofs.KeptRestartLaws.{among}
 use Rattle.serf_agent.proofs.KeptStepLaws.{grown-durable}
@@ -57,15 +58,11 @@ pub record BelowSaid : Type 0 where
 silent : (P : TimedEntry ℕ → Type 0) (text : List ℕ) → is_whole text ≡ true → queries_in whatever text ≡ [] → KeepsOnly P text
 silent P text whole none = record { whole = whole; says = subst (λ (qs : List KeptQuery). All P (map query_entry qs)) (sym none) (All-nil P) }
 
-map-both : (xs ys : List KeptQuery) → map query_entry (xs ++ ys) ≡ map query_entry xs ++ map query_entry ys
-map-both [] ys = refl
-map-both (x ∷ xs) ys = ap (λ (l : List (TimedEntry ℕ)). query_entry x ∷ l) (map-both xs ys)
-
 -- what two parts say is what the text says
 more : BelowSaid → (P : TimedEntry ℕ → Type 0) (front tail : List ℕ) → KeepsOnly P front → KeepsOnly P tail → KeepsOnly P (front ++ tail)
 more laws P front tail first second = record {
   whole = laws.hands_out.whole front tail first.whole second.whole;
-  says = subst (All P) (sym (ap (map query_entry) (laws.joined whatever front tail first.whole) ∙ map-both (queries_in whatever front) (queries_in whatever tail)))
+  says = subst (All P) (sym (ap (map query_entry) (laws.joined whatever front tail first.whole) ∙ map-append query_entry (queries_in whatever front) (queries_in whatever tail)))
       (All-append P (kept_queries whatever front) (kept_queries whatever tail) first.says second.says);
 }
 
@@ -114,12 +111,7 @@ queries laws P [] all = record { whole = refl; says = All-nil P }
 queries laws P (e ∷ es) all = more laws P (query_line e.time e.key) (lines_told query_line es) (query laws P e.time e.key (All-head (CanBeTold P) e es all)) (queries laws P es (All-tail (CanBeTold P) e es all))
 
 can-be-told : (P : TimedEntry ℕ → Type 0) (h : List (Past ℕ)) → All (λ p. P p.entry) h → AreTold IsIdTold h → All (λ p. CanBeTold P p.entry) h
-can-be-told P [] all told = All-nil (λ (p : Past ℕ). CanBeTold P p.entry)
-can-be-told P (p ∷ ps) all told =
-    let Told : Past ℕ → Type 0 = λ (p : Past ℕ). (0 < p.entry.time) × (p.entry.time < 2 ^ 64 - 1) × IsIdTold p.entry.key in
-    let first : (0 < p.entry.time) × (p.entry.time < 2 ^ 64 - 1) × IsIdTold p.entry.key = All-head Told p ps told in
-    All-cons (λ (p : Past ℕ). CanBeTold P p.entry) p ps (record { has = All-head (λ (p : Past ℕ). P p.entry) p ps all; some = first.0; small = first.1; low = first.2 })
-    (can-be-told P ps (All-tail (λ (p : Past ℕ). P p.entry) p ps all) (All-tail Told p ps told))
+can-be-told P h all told = λ k d inside. let t = told k d inside in record { has = all k d inside; some = t.0; small = t.1; low = t.2 }
 
 -- the lines that a compaction keeps
 lines : BelowSaid → (P : TimedEntry ℕ → Type 0) (i : IdealAgent) → All (λ p. P p.entry) i.queries.history → AreTold IsIdTold i.queries.history → KeepsOnly P (kept_lines (view_of i))
@@ -181,14 +173,8 @@ fail P kind t None s durable plan may old new at = by (nat_le t (last_line kind 
     by true may = absurd (cc may)
     by false may = old new (sym (unchanged s.plan s.durable durable plan may.1) ∙ at)
 
-either : (P : TimedEntry ℕ → Type 0) (before after : Option (List ℕ)) (text new : List ℕ) → KeepsEither before text after → after ≡ Some new → ((old : List ℕ) → before ≡ Some old → KeepsOnly P old) → KeepsOnly P text → KeepsOnly P new
-either P None after text new keeps at old says = absurd (let none : after ≡ None = keeps in cc)
-either P (Some k) after text new (inl same) at old says = let here : k ≡ new = cc (sym same ∙ at) in subst (KeepsOnly P) here (old k refl)
-either P (Some k) after text new (inr same) at old says = let here : text ≡ new = cc (sym same ∙ at) in subst (KeepsOnly P) here says
-
 replaced : (P : TimedEntry ℕ → Type 0) (text : List ℕ) (s : SnapshotView) (w : Writing) → KeepsOnly P text → MayReplaceBy text s w → Durable P s → Durable P (text_replaced text s w)
-replaced P text s Kept says may old new at = subst (KeepsOnly P) (replaced-by s.durable text new at) says
-replaced P text s (Failed durable) says may old new at = either P s.durable durable text new may.0 at old says
+replaced P text s w says may old new at = replaced-holds (KeepsOnly P) text new s w may at old says
 
 -- ---- acts
 
@@ -197,15 +183,20 @@ told : (P : TimedEntry ℕ → Type 0) (b : Bool) (line : List ℕ) → KeepsOnl
 told P true line says = says
 told P false line says = tt
 
-noting : BelowSaid → (P : TimedEntry ℕ → Type 0) (i : IdealAgent) → IsSound i → IsDurable i → IsSome i.snapshot.plan → SaysQueries P i → Noting i (λ j es qs. All P qs → SaysQueries P j)
-noting laws P i sound d plan says = record {
-  quiet = λ j q all. record { entered = subst (λ (h : List (Past ℕ)). All (λ (p : Past ℕ). P p.entry) h) (sym q.queries.history) says.entered; durable = subst (Durable P) (sym q.snapshot) says.durable };
-  event = λ t what runs small all. record { entered = says.entered; durable = note laws P kinds.Event t (told_event i.config t what) i.snapshot (told P i.config.keep_events (line_of_event t what) (event laws P t what)) says.durable };
+-- a text says of queries what holds of all that entered
+abbrev SaysOn : (TimedEntry ℕ → Type 0) → IdealAgent → List (TimedEntry EventBody) → List (TimedEntry ℕ) → List (TimedEntry ℕ) → Type 0
+SaysOn P j events entered out = All P entered → SaysQueries P j
+
+-- so it is at each note
+noting : BelowSaid → (P : TimedEntry ℕ → Type 0) (i : IdealAgent) (Told : Type 0) → Told → IsDurable i → IsSome i.snapshot.plan → SaysQueries P i → Noting i Told (SaysOn P)
+noting laws P i Told able d plan says = record {
+  quiet = λ j q sound all. record { entered = subst (λ (h : List (Past ℕ)). All (λ (p : Past ℕ). P p.entry) h) (sym q.queries.history) says.entered; durable = subst (Durable P) (sym q.snapshot) says.durable };
+  event = λ t what e can all. record { entered = says.entered; durable = note laws P kinds.Event t (told_event i.config t what) i.snapshot (told P i.config.keep_events (line_of_event t what) (event laws P t what)) says.durable };
   event_fails = λ t what durable runs small may all. record { entered = says.entered; durable = fail P kinds.Event t (told_event i.config t what) i.snapshot durable plan may says.durable };
-  query = λ t id from runs small low all. record { entered = entered t id all; durable = asked t id from small low all };
-  asks = λ t id more is runs small low all. record { entered = entered t id all; durable = asked t id (let up = sound.queries.minimum in omega (arith, up, is)) small low all };
-  query_fails = λ t id durable runs small low may all. record { entered = says.entered; durable = fail P kinds.Query t (told_query i.config t id) i.snapshot durable plan may says.durable };
-  saves = λ t runs all. record { entered = says.entered; durable = note laws P kinds.Member t None i.snapshot tt says.durable };
+  query = λ t id out e can passed all. record { entered = entered t id all; durable = asked t id e.from e.small (can able) all };
+  asks = λ now q out at e can passed all. record { entered = entered q.time q.id all; durable = asked q.time q.id e.from e.small (can able) all };
+  query_fails = λ t id durable runs small can may all. record { entered = says.entered; durable = fail P kinds.Query t (told_query i.config t id) i.snapshot durable plan may says.durable };
+  saves = λ t small runs all. record { entered = says.entered; durable = note laws P kinds.Member t None i.snapshot tt says.durable };
   save_fails = λ t durable runs may all. record { entered = says.entered; durable = fail P kinds.Member t None i.snapshot durable plan may says.durable };
 }
   where
@@ -239,13 +230,17 @@ reopened laws P i text d entered all = record { entered = by i.config.keep_event
     durable new at = subst (KeepsOnly P) (opened-durable d.observed_bytes text new at)
         (record { whole = laws.sealed_whole text; says = subst (λ (qs : List KeptQuery). All P (map query_entry qs)) (sym (laws.sealed whatever text)) all })
 
+-- and after an act that is noted
+noted-says : BelowSaid → (P : TimedEntry ℕ → Type 0) (i : IdealAgent) (a : Act) → IsSound i → IsDurable i → IsSome i.snapshot.plan → SaysQueries P i → IsNoted a → MayAct i a → IsTellable a → All P (queries_entered i a) → SaysQueries P (after i a)
+noted-says laws P i a sound d plan says noted may able all = acts laws.hands_out.kept.life.ranged i a (SaysOn P) sound (noting laws P i (IsTellable a) able d plan says) noted may all
+
 stays : BelowSaid → (P : TimedEntry ℕ → Type 0) (i : IdealAgent) (a : Act) → IsSound i → IsDurable i → IsSome i.snapshot.plan → SaysQueries P i → MayGoOn i a → All P (queries_entered i a) → OpensOn P a → SaysQueries P (after i a)
-stays laws P i (Fires what flag w) sound d plan says go all opens = acts laws.hands_out.kept i (λ j es qs. All P qs → SaysQueries P j) (noting laws P i sound d plan says) (Fires what flag w) tt go all
-stays laws P i (Asks now id name payload params w) sound d plan says go all opens = acts laws.hands_out.kept i (λ j es qs. All P qs → SaysQueries P j) (noting laws P i sound d plan says) (Asks now id name payload params w) tt go all
-stays laws P i (Gets tags now packet w) sound d plan says go all opens = acts laws.hands_out.kept i (λ j es qs. All P qs → SaysQueries P j) (noting laws P i sound d plan says) (Gets tags now packet w) tt go all
-stays laws P i (Takes e w) sound d plan says go all opens = acts laws.hands_out.kept i (λ j es qs. All P qs → SaysQueries P j) (noting laws P i sound d plan says) (Takes e w) tt go all
-stays laws P i (Saves w) sound d plan says go all opens = acts laws.hands_out.kept i (λ j es qs. All P qs → SaysQueries P j) (noting laws P i sound d plan says) (Saves w) tt go all
-stays laws P i (Closes now) sound d plan says go all opens = acts laws.hands_out.kept i (λ j es qs. All P qs → SaysQueries P j) (noting laws P i sound d plan says) (Closes now) tt go all
+stays laws P i (Fires what flag w) sound d plan says go all opens = noted-says laws P i (Fires what flag w) sound d plan says tt go.0 go.1 all
+stays laws P i (Asks now id name payload params w) sound d plan says go all opens = noted-says laws P i (Asks now id name payload params w) sound d plan says tt go.0 go.1 all
+stays laws P i (Gets tags now packet w) sound d plan says go all opens = noted-says laws P i (Gets tags now packet w) sound d plan says tt go.0 go.1 all
+stays laws P i (Takes e w) sound d plan says go all opens = noted-says laws P i (Takes e w) sound d plan says tt go.0 go.1 all
+stays laws P i (Saves w) sound d plan says go all opens = noted-says laws P i (Saves w) sound d plan says tt go.0 go.1 all
+stays laws P i (Closes now) sound d plan says go all opens = noted-says laws P i (Closes now) sound d plan says tt go.0 go.1 all
 stays laws P i (Hears m is_join w) sound d plan says go all opens =
     heard i m is_join w (SaysQueries P) (record { entered = says.entered; durable = says.durable })
     (λ joins runs. record { entered = says.entered; durable = note laws P kinds.Event 0 (Some (least_line kinds.Event m.event_clock)) i.snapshot (least laws P kinds.Event m.event_clock) says.durable })

@@ -1,11 +1,11 @@
 -- Each change of a sound agent leaves a sound agent.
-use Rattle.serf_agent.proofs.Names.{◌≡◌, ◌≢◌, ℕ, ◌+◌, ◌-◌, ◌^◌, ◌<◌, ◌≤◌, ◌==◌, ◌&&◌, nat_lt, nat_le, nat_eq, max, not, cond, Bool, true, false, List, [], ◌∷◌, ◌++◌, Option, Some, None, MatchBool, refl, sym, subst, arith, inl, inr, All, AllPairs, cases_Bool, leb-true, leb-false, and_from, eq-eqb, All-nil, All-push, All-weaker, All-filter, AllPairs-filter, all_pairs_push, bytes_eq-Decides, EventBody, TimedEntry, PushPull, Query, QueryResponse, same_texts, same_id, ClockKind, clock_line, last_clock, Device, SnapshotView, Writing, Kept, Failed, last_line, noted, written, KeepsPart, MayWrite, opened, ltb-false}
+use Rattle.serf_agent.proofs.Names.{◌≡◌, ◌≢◌, ℕ, ◌+◌, ◌-◌, ◌^◌, ◌<◌, ◌≤◌, ◌==◌, ◌&&◌, nat_lt, nat_le, nat_eq, max, not, cond, Bool, true, false, List, [], ◌∷◌, ◌++◌, Option, Some, None, MatchBool, refl, sym, subst, arith, inl, inr, All, AllPairs, cases_Bool, leb-true, leb-false, and_from, eq-eqb, filter, All-nil, All-push, All-weaker, All-filter, AllPairs-filter, all_pairs_push, bytes_eq-Decides, EventBody, TimedEntry, PushPull, Query, QueryResponse, same_texts, same_id, ClockKind, clock_line, last_clock, Device, SnapshotView, Writing, Kept, Failed, last_line, noted, written, KeepsPart, MayWrite, opened, ltb-false}
 use Rattle.serf_snap.specs.declared.kind.ClockKind.TheVariants as kinds
 use Rattle.serf_snap.specs.KeptNotes.{SaysNoClock, kept_noted}
 use Rattle.serf_snap.specs.Notes.{IsSnapshotSound, MayReplaceBy, text_replaced}
 use Rattle.std.specs.Prelude.{◌⊎◌, Contains}
-use Rattle.serf_snap.specs.EventLines.{least_in, least_line, query_line}
-use Rattle.serf_agent.specs.KeptLines.{held_from, least_told, lines_told, stored_lines}
+use Rattle.serf_snap.specs.EventLines.{event_line, least_in, least_line, query_line}
+use Rattle.serf_agent.specs.KeptLines.{held_from, kept_lines, least_told, lines_told, stored_lines}
 use Rattle.serf_agent.specs.KeptLaws.{KeptRestartLaws}
 use Rattle.serf_agent.specs.KeptTexts.{kept_events, kept_queries, line_of_event, whatever}
 use Rattle.serf_agent.specs.Snapshots.{SnapshotLaws}
@@ -14,14 +14,14 @@ use Rattle.serf_agent.specs.declared.config.Config.{Config}
 use Rattle.serf_agent.specs.declared.open_query.OpenQuery.{OpenQuery}
 use Rattle.serf_agent.specs.Events.{admission, event_observed, event_entered, texts_len, told_event}
 use Rattle.serf_agent.specs.Queries.{query_admission, query_observed, query_entered, query_asked, opened_query, is_due, asked_at, with_asked_at, close_due, counted, is_ack, answer_ignore_reason, ack_ignore_reason, response_ignore_reason, has_acked, has_responded, told_query}
-use Rattle.serf_agent.specs.Ideal.{IdealAgent, Past, with_config, with_snapshot, with_asked}
+use Rattle.serf_agent.specs.Ideal.{IdealAgent, Past, Track, with_config, with_events, with_queries, with_snapshot, with_asked}
 use Rattle.serf_agent.specs.Restart.{HasPast, restarted, restarted_by, unopened}
 use Rattle.serf_agent.specs.Sound.{IsSound, IsOpenQuerySound}
 use Rattle.serf_agent.specs.Calls.{ended}
 use Rattle.serf_agent.specs.States.{hear, heard_by, joined, told_least, told_lines}
 use Rattle.serf_agent.specs.Told.{AreQuiet, MayNote, bytes_with, noted_with, text_with}
 use Rattle.serf_agent.specs.View.{ConcreteState, view_of}
-use Rattle.serf_agent.specs.Tracks.{ConcreteTrack, track_reason, IsTrackSound}
+use Rattle.serf_agent.specs.Tracks.{ConcreteTrack, track_entered, track_observed, track_reason, IsTrackSound}
 use Rattle.serf_agent.proofs.TrackLaws.{track-entered, track-observed, track-raised, track-reopened, unknown-fresh, later-fresh, no-reason, none-from}
 use Rattle.serf_agent.specs.declared.outcome.Reason.{Reason}
 use Rattle.serf_agent.specs.declared.outcome.Reason.TheVariants.{OtherId, Closed, AckNotAsked, AckTwice, ResponseTwice}
@@ -77,25 +77,34 @@ quiet-query snapshots config t id = quiet-if config.keep_events (query_line t id
 pub quiet-least : SnapshotLaws → (config : Config) (m : PushPull) (is_join : Bool) → AreQuiet (told_least config m is_join)
 quiet-least snapshots config m is_join = quiet-if (config.keep_events && (is_join && config.ignore_old)) (least_line kinds.Event m.event_clock) (snapshots.least_quiet kinds.Event m.event_clock)
 
-told-quiet : {K : Type 0} (line : ℕ → K → List ℕ) → SnapshotLaws → ((t : ℕ) (what : K) → SaysNoClock (line t what)) → (es : List (TimedEntry K)) → SaysNoClock (lines_told line es)
-told-quiet line snapshots says [] = record { whole = refl; clocks = none }
+-- so do all lines of these together
+pub record QuietLaws : Type 0 where
+  pub event : (t : ℕ) (name payload : List ℕ) → SaysNoClock (event_line t name payload)
+  pub query : (t id : ℕ) → SaysNoClock (query_line t id)
+  pub least : (k : ClockKind) (t : ℕ) → SaysNoClock (least_line k t)
+  pub both : (a b : List ℕ) → SaysNoClock a → SaysNoClock b → SaysNoClock (a ++ b)
+
+told-quiet : {K : Type 0} (line : ℕ → K → List ℕ) → QuietLaws → ((t : ℕ) (what : K) → SaysNoClock (line t what)) → (es : List (TimedEntry K)) → SaysNoClock (lines_told line es)
+told-quiet line laws says [] = record { whole = refl; clocks = none }
   where
     none : (kind : ClockKind) → last_clock kind [] ≡ 0
     none kind = refl
-told-quiet line snapshots says (e ∷ es) = snapshots.both_quiet (line e.time e.key) (lines_told line es) (says e.time e.key) (told-quiet line snapshots says es)
+told-quiet line laws says (e ∷ es) = laws.both (line e.time e.key) (lines_told line es) (says e.time e.key) (told-quiet line laws says es)
 
-stored-quiet : {K : Type 0} (kind : ClockKind) (line : ℕ → K → List ℕ) → SnapshotLaws → ((t : ℕ) (what : K) → SaysNoClock (line t what)) → (n last : ℕ) (track : ConcreteTrack K) → SaysNoClock (stored_lines kind line n last track)
-stored-quiet kind line snapshots says n last track =
+stored-quiet : {K : Type 0} (kind : ClockKind) (line : ℕ → K → List ℕ) → QuietLaws → ((t : ℕ) (what : K) → SaysNoClock (line t what)) → (n last : ℕ) (track : ConcreteTrack K) → SaysNoClock (stored_lines kind line n last track)
+stored-quiet kind line laws says n last track =
     let least : ℕ = least_told n last track.minimum in
-    snapshots.both_quiet (least_line kind least) (lines_told line (held_from least track.slots)) (snapshots.least_quiet kind least) (told-quiet line snapshots says (held_from least track.slots))
+    laws.both (least_line kind least) (lines_told line (held_from least track.slots)) (laws.least kind least) (told-quiet line laws says (held_from least track.slots))
+
+-- the lines of all that is stored
+pub kept-quiet : QuietLaws → (a : ConcreteState) → SaysNoClock (kept_lines a)
+kept-quiet laws a =
+    laws.both (stored_lines kinds.Event line_of_event a.config.event_buffer a.snapshot.event_clock a.events) (stored_lines kinds.Query query_line a.config.query_buffer a.snapshot.query_clock a.queries)
+    (stored-quiet kinds.Event line_of_event laws (λ t what. laws.event t what.name what.payload) a.config.event_buffer a.snapshot.event_clock a.events)
+    (stored-quiet kinds.Query query_line laws laws.query a.config.query_buffer a.snapshot.query_clock a.queries)
 
 pub quiet-lines : SnapshotLaws → (a : ConcreteState) → AreQuiet (told_lines a)
-quiet-lines snapshots a =
-    let events : List ℕ = stored_lines kinds.Event line_of_event a.config.event_buffer a.snapshot.event_clock a.events in
-    let queries : List ℕ = stored_lines kinds.Query query_line a.config.query_buffer a.snapshot.query_clock a.queries in
-    quiet-if a.config.keep_events (events ++ queries) (snapshots.both_quiet events queries
-    (stored-quiet kinds.Event line_of_event snapshots (λ t what. snapshots.event_quiet t what.name what.payload) a.config.event_buffer a.snapshot.event_clock a.events)
-    (stored-quiet kinds.Query query_line snapshots snapshots.query_quiet a.config.query_buffer a.snapshot.query_clock a.queries))
+quiet-lines snapshots a = quiet-if a.config.keep_events (kept_lines a) (kept-quiet (record { event = snapshots.event_quiet; query = snapshots.query_quiet; least = snapshots.least_quiet; both = snapshots.both_quiet }) a)
 
 -- ---- what a sink that fails at a note leaves
 
@@ -107,34 +116,51 @@ may-part kind s t None durable may = by (nat_le t (last_line kind s)) may
     by false m = m.0
 may-part kind s t (Some line) durable may = may.0
 
--- the agent stopped by a failed note
-pub sound-note_failed : SnapshotLaws → (kind : ClockKind) (t : ℕ) (line durable : Option (List ℕ)) (i : IdealAgent) → IsSound i → MayNote kind t line i.snapshot (Failed durable) → IsSound (with_snapshot (written kind t i.snapshot (Failed durable)) i)
-sound-note_failed snapshots kind t line durable i s may = record {
+-- ---- other tracks, or another snapshot
+
+-- an agent stays sound with other tracks and another snapshot, where these are sound and no query's clock falls
+sound-with : (events : Track EventBody) (queries : Track ℕ) (snapshot : SnapshotView) (i : IdealAgent) → IsSound i → IsTrackSound events i.life snapshot.event_clock → IsTrackSound queries i.life snapshot.query_clock → i.queries.clock ≤ queries.clock
+    → All (λ p. texts_len p.entry.key ≤ 9216) events.history → IsSnapshotSound snapshot → IsSound (with_snapshot snapshot (with_queries queries (with_events events i)))
+sound-with events queries snapshot i s events_sound queries_sound up short snapshot_sound = record {
+  config = s.config;
+  member_clock = s.member_clock;
+  events = events_sound;
+  queries = queries_sound;
+  short = short;
+  snapshot = snapshot_sound;
+  asked_below = All-weaker (λ q. q.0 < i.queries.clock) (λ q. q.0 < queries.clock) (λ q h. omega (arith, h, up)) i.asked s.asked_below;
+  asked_distinct = s.asked_distinct;
+  asked_sound = s.asked_sound;
+}
+
+-- with another snapshot alone, whose last lines of events and of queries are these
+sound-with_snapshot : (snapshot : SnapshotView) (i : IdealAgent) → IsSound i → i.snapshot.event_clock ≡ snapshot.event_clock → i.snapshot.query_clock ≡ snapshot.query_clock → IsSnapshotSound snapshot → IsSound (with_snapshot snapshot i)
+sound-with_snapshot snapshot i s event query sound =
+    sound-with i.events i.queries snapshot i s (subst (λ (n : ℕ). IsTrackSound i.events i.life n) event s.events) (subst (λ (n : ℕ). IsTrackSound i.queries i.life n) query s.queries) (omega arith) s.short sound
+
+-- and with other open queries
+sound-with_asked : (asked : List (ℕ × OpenQuery)) (i : IdealAgent) → IsSound i → All (λ q. q.0 < i.queries.clock) asked → AllPairs (λ a b. a.0 ≢ b.0) asked → All (λ q. IsOpenQuerySound q.1) asked → IsSound (with_asked asked i)
+sound-with_asked asked i s below distinct sound = record {
   config = s.config;
   member_clock = s.member_clock;
   events = s.events;
   queries = s.queries;
   short = s.short;
-  snapshot = snapshots.note_failed kind i.snapshot t (bytes_with kind t line i.snapshot) durable s.snapshot (may-part kind i.snapshot t line durable may);
-  asked_below = s.asked_below;
-  asked_distinct = s.asked_distinct;
-  asked_sound = s.asked_sound;
+  snapshot = s.snapshot;
+  asked_below = below;
+  asked_distinct = distinct;
+  asked_sound = sound;
 }
+
+-- the agent stopped by a failed note
+pub sound-note_failed : SnapshotLaws → (kind : ClockKind) (t : ℕ) (line durable : Option (List ℕ)) (i : IdealAgent) → IsSound i → MayNote kind t line i.snapshot (Failed durable) → IsSound (with_snapshot (written kind t i.snapshot (Failed durable)) i)
+sound-note_failed snapshots kind t line durable i s may =
+    sound-with_snapshot (written kind t i.snapshot (Failed durable)) i s refl refl (snapshots.note_failed kind i.snapshot t (bytes_with kind t line i.snapshot) durable s.snapshot (may-part kind i.snapshot t line durable may))
 
 -- ---- events
 
 pub sound-event_observed : (t : ℕ) (i : IdealAgent) → IsSound i → IsSound (event_observed t i)
-sound-event_observed t i s = record {
-  config = s.config;
-  member_clock = s.member_clock;
-  events = track-observed i.events i.life i.snapshot.event_clock t s.events;
-  queries = s.queries;
-  short = s.short;
-  snapshot = s.snapshot;
-  asked_below = s.asked_below;
-  asked_distinct = s.asked_distinct;
-  asked_sound = s.asked_sound;
-}
+sound-event_observed t i s = sound-with (track_observed t i.events) i.queries i.snapshot i s (track-observed i.events i.life i.snapshot.event_clock t s.events) s.queries (omega arith) s.short s.snapshot
 
 same_texts-refl : (x : EventBody) → same_texts x x ≡ true
 same_texts-refl x = and_from _ _ ((bytes_eq-Decides x.name x.name).1 refl) ((bytes_eq-Decides x.payload x.payload).1 refl)
@@ -149,32 +175,17 @@ pub sound-event_entered : SnapshotLaws → (t : ℕ) (what : EventBody) (i : Ide
     → IsSound (with_snapshot (noted_with kinds.Event t (told_event i.config t what) i.snapshot Kept) (event_entered t what i))
 sound-event_entered snapshots t what i s runs small short fresh =
     let line : Option (List ℕ) = told_event i.config t what in
-    record {
-      config = s.config;
-      member_clock = s.member_clock;
-      events = track-entered i.events i.life i.snapshot.event_clock (noted_with kinds.Event t line i.snapshot Kept).event_clock t what s.events (omega (arith, event-noted t line i.snapshot)) (omega (arith, event-noted t line i.snapshot)) fresh;
-      queries = subst (λ (n : ℕ). IsTrackSound i.queries i.life n) (sym (query-noted_event t line i.snapshot)) s.queries;
-      short = All-push (λ p. texts_len p.entry.key ≤ 9216) i.events.history (record { life = i.life; entry = record { time = t; key = what } }) s.short short;
-      snapshot = sound-noted snapshots kinds.Event i.snapshot t line s.snapshot runs small (quiet-event snapshots i.config t what);
-      asked_below = s.asked_below;
-      asked_distinct = s.asked_distinct;
-      asked_sound = s.asked_sound;
-    }
+    let next : SnapshotView = noted_with kinds.Event t line i.snapshot Kept in
+    sound-with (track_entered i.life t what i.events) i.queries next i s
+    (track-entered i.events i.life i.snapshot.event_clock next.event_clock t what s.events (omega (arith, event-noted t line i.snapshot)) (omega (arith, event-noted t line i.snapshot)) fresh)
+    (subst (λ (n : ℕ). IsTrackSound i.queries i.life n) (sym (query-noted_event t line i.snapshot)) s.queries) (omega arith)
+    (All-push (λ p. texts_len p.entry.key ≤ 9216) i.events.history (record { life = i.life; entry = record { time = t; key = what } }) s.short short)
+    (sound-noted snapshots kinds.Event i.snapshot t line s.snapshot runs small (quiet-event snapshots i.config t what))
 
 -- ---- queries
 
 pub sound-query_observed : (t : ℕ) (i : IdealAgent) → IsSound i → IsSound (query_observed t i)
-sound-query_observed t i s = record {
-  config = s.config;
-  member_clock = s.member_clock;
-  events = s.events;
-  queries = track-observed i.queries i.life i.snapshot.query_clock t s.queries;
-  short = s.short;
-  snapshot = s.snapshot;
-  asked_below = All-weaker (λ q. q.0 < i.queries.clock) (λ q. q.0 < max i.queries.clock (t + 1)) (λ q h. omega arith) i.asked s.asked_below;
-  asked_distinct = s.asked_distinct;
-  asked_sound = s.asked_sound;
-}
+sound-query_observed t i s = sound-with i.events (track_observed t i.queries) i.snapshot i s s.events (track-observed i.queries i.life i.snapshot.query_clock t s.queries) (omega arith) s.short s.snapshot
 
 pub query_admission-new : (i : IdealAgent) (t id : ℕ) → query_admission i t id ≡ None → All (λ p. p.entry ≢ record { time = t; key = id }) i.queries.history
 query_admission-new i t id new = unknown-fresh same_id (λ x. eq-eqb x x refl) i.queries.history t id (no-reason same_id i.config.query_buffer i.config.per_time i.life i.queries t id new)
@@ -183,19 +194,13 @@ pub sound-query_entered : SnapshotLaws → (t id : ℕ) (i : IdealAgent) → IsS
     → IsSound (with_snapshot (noted_with kinds.Query t (told_query i.config t id) i.snapshot Kept) (query_entered t id i))
 sound-query_entered snapshots t id i s runs small fresh =
     let line : Option (List ℕ) = told_query i.config t id in
-    record {
-      config = s.config;
-      member_clock = s.member_clock;
-      events = subst (λ (n : ℕ). IsTrackSound i.events i.life n) (sym (event-noted_query t line i.snapshot)) s.events;
-      queries = track-entered i.queries i.life i.snapshot.query_clock (noted_with kinds.Query t line i.snapshot Kept).query_clock t id s.queries (omega (arith, query-noted t line i.snapshot)) (omega (arith, query-noted t line i.snapshot)) fresh;
-      short = s.short;
-      snapshot = sound-noted snapshots kinds.Query i.snapshot t line s.snapshot runs small (quiet-query snapshots i.config t id);
-      asked_below = All-weaker (λ q. q.0 < i.queries.clock) (λ q. q.0 < max i.queries.clock (t + 1)) (λ q h. omega arith) i.asked s.asked_below;
-      asked_distinct = s.asked_distinct;
-      asked_sound = s.asked_sound;
-    }
+    let next : SnapshotView = noted_with kinds.Query t line i.snapshot Kept in
+    sound-with i.events (track_entered i.life t id i.queries) next i s
+    (subst (λ (n : ℕ). IsTrackSound i.events i.life n) (sym (event-noted_query t line i.snapshot)) s.events)
+    (track-entered i.queries i.life i.snapshot.query_clock next.query_clock t id s.queries (omega (arith, query-noted t line i.snapshot)) (omega (arith, query-noted t line i.snapshot)) fresh) (omega arith)
+    s.short (sound-noted snapshots kinds.Query i.snapshot t line s.snapshot runs small (quiet-query snapshots i.config t id))
 
-no-pairs : {X : Type 0} (R : X → X → Type 0) → AllPairs R []
+pub no-pairs : {X : Type 0} (R : X → X → Type 0) → AllPairs R []
 no-pairs R i j d lt within = absurd (omega arith)
 
 -- a query of this agent's own enters at its clock's time, and is open
@@ -205,17 +210,11 @@ sound-query_asked snapshots now q i s runs at small =
     let lower : All (λ p. p.entry.time < q.time) i.queries.history = subst (λ (t : ℕ). All (λ p. p.entry.time < t) i.queries.history) (sym at) s.queries.below_clock in
     let e = sound-query_entered snapshots q.time q.id i s runs small (later-fresh i.queries.history q.time q.id lower) in
     let new : ℕ × OpenQuery = (q.time, opened_query now q) in
-    record {
-      config = e.config;
-      member_clock = e.member_clock;
-      events = e.events;
-      queries = e.queries;
-      short = e.short;
-      snapshot = e.snapshot;
-      asked_below = All-push (λ p. p.0 < max i.queries.clock (q.time + 1)) i.asked new e.asked_below (omega arith);
-      asked_distinct = all_pairs_push (λ a b. a.0 ≢ b.0) i.asked new s.asked_distinct (All-weaker (λ p. p.0 < i.queries.clock) (λ p. p.0 ≢ q.time) (λ p h r. omega arith) i.asked s.asked_below);
-      asked_sound = All-push (λ p. IsOpenQuerySound p.1) i.asked new s.asked_sound (record { acks = no-pairs (λ a b. a ≢ b); responses = no-pairs (λ a b. a.from ≢ b.from) });
-    }
+    let entered : IdealAgent = with_snapshot (noted_with kinds.Query q.time (told_query i.config q.time q.id) i.snapshot Kept) (query_entered q.time q.id i) in
+    sound-with_asked (i.asked ++ new ∷ []) entered e
+    (All-push (λ p. p.0 < max i.queries.clock (q.time + 1)) i.asked new e.asked_below (omega arith))
+    (all_pairs_push (λ a b. a.0 ≢ b.0) i.asked new s.asked_distinct (All-weaker (λ p. p.0 < i.queries.clock) (λ p. p.0 ≢ q.time) (λ p h r. omega arith) i.asked s.asked_below))
+    (All-push (λ p. IsOpenQuerySound p.1) i.asked new s.asked_sound (record { acks = no-pairs (λ a b. a ≢ b); responses = no-pairs (λ a b. a.from ≢ b.from) }))
 
 -- ---- other agents' clocks
 
@@ -238,17 +237,9 @@ sound-joined m is_join i s small = record {
 
 -- a line that says no clock and enters nothing
 pub sound-told : SnapshotLaws → (line : List ℕ) (i : IdealAgent) → IsSound i → i.snapshot.stopped ≡ false → SaysNoClock line → IsSound (with_snapshot (kept_noted kinds.Event 0 line i.snapshot Kept) i)
-sound-told snapshots line i s runs quiet = let last : i.snapshot.event_clock ≡ max i.snapshot.event_clock 0 = omega arith in record {
-  config = s.config;
-  member_clock = s.member_clock;
-  events = subst (λ (n : ℕ). IsTrackSound i.events i.life n) last s.events;
-  queries = s.queries;
-  short = s.short;
-  snapshot = snapshots.kept_noted kinds.Event i.snapshot 0 line s.snapshot runs (omega arith) quiet;
-  asked_below = s.asked_below;
-  asked_distinct = s.asked_distinct;
-  asked_sound = s.asked_sound;
-}
+sound-told snapshots line i s runs quiet =
+    let last : i.snapshot.event_clock ≡ max i.snapshot.event_clock 0 = omega arith in
+    sound-with_snapshot (kept_noted kinds.Event 0 line i.snapshot Kept) i s last refl (snapshots.kept_noted kinds.Event i.snapshot 0 line s.snapshot runs (omega arith) quiet)
 
 pub sound-heard : SnapshotLaws → (m : PushPull) (is_join : Bool) (i : IdealAgent) → IsSound i → i.snapshot.stopped ≡ false → m.member_clock ≤ 2 ^ 64 - 1 → IsSound (ended i (hear i m is_join) Kept).agent
 sound-heard snapshots m is_join i s runs small = by (told_least i.config m is_join) (quiet-least snapshots i.config m is_join)
@@ -260,17 +251,8 @@ sound-heard snapshots m is_join i s runs small = by (told_least i.config m is_jo
 -- ---- the member clock's line, and a compaction
 
 pub sound-saved : SnapshotLaws → (t : ℕ) (i : IdealAgent) → IsSound i → i.snapshot.stopped ≡ false → t < 2 ^ 64 - 1 → IsSound (with_snapshot (noted kinds.Member t i.snapshot Kept) i)
-sound-saved snapshots t i s runs small = record {
-  config = s.config;
-  member_clock = s.member_clock;
-  events = subst (λ (n : ℕ). IsTrackSound i.events i.life n) (sym (event-noted_member t i.snapshot)) s.events;
-  queries = subst (λ (n : ℕ). IsTrackSound i.queries i.life n) (sym (query-noted_member t i.snapshot)) s.queries;
-  short = s.short;
-  snapshot = snapshots.noted kinds.Member i.snapshot t s.snapshot runs small;
-  asked_below = s.asked_below;
-  asked_distinct = s.asked_distinct;
-  asked_sound = s.asked_sound;
-}
+sound-saved snapshots t i s runs small =
+    sound-with_snapshot (noted kinds.Member t i.snapshot Kept) i s (sym (event-noted_member t i.snapshot)) (sym (query-noted_member t i.snapshot)) (snapshots.noted kinds.Member i.snapshot t s.snapshot runs small)
 
 -- what is durable has the last lines after a compaction whose lines say no clock
 sound-text : SnapshotLaws → (s : SnapshotView) (lines : Option (List ℕ)) (w : Writing) → IsSnapshotSound s → AreQuiet lines → MayReplaceBy (text_with lines s) s w → IsSnapshotSound (text_replaced (text_with lines s) s w)
@@ -280,24 +262,14 @@ sound-text snapshots s (Some lines) Kept sound quiet may = snapshots.kept_compac
 sound-text snapshots s (Some lines) (Failed durable) sound quiet may = snapshots.kept_compaction_failed s lines durable sound quiet may.0
 
 -- a compaction leaves the last lines
-last-text : (kind : ClockKind) (text : List ℕ) (s : SnapshotView) (w : Writing) → last_line kind (text_replaced text s w) ≡ last_line kind s
+pub last-text : (kind : ClockKind) (text : List ℕ) (s : SnapshotView) (w : Writing) → last_line kind (text_replaced text s w) ≡ last_line kind s
 last-text kind text s Kept = refl
 last-text kind text s (Failed durable) = refl
 
 pub sound-compact : SnapshotLaws → (w : Writing) (i : IdealAgent) → IsSound i → (let text = text_with (told_lines (view_of i)) i.snapshot in MayReplaceBy text i.snapshot w → IsSound (with_snapshot (text_replaced text i.snapshot w) i))
 sound-compact snapshots w i s may =
     let text : List ℕ = text_with (told_lines (view_of i)) i.snapshot in
-    record {
-      config = s.config;
-      member_clock = s.member_clock;
-      events = subst (λ (n : ℕ). IsTrackSound i.events i.life n) (sym (last-text kinds.Event text i.snapshot w)) s.events;
-      queries = subst (λ (n : ℕ). IsTrackSound i.queries i.life n) (sym (last-text kinds.Query text i.snapshot w)) s.queries;
-      short = s.short;
-      snapshot = sound-text snapshots i.snapshot (told_lines (view_of i)) w s.snapshot (quiet-lines snapshots (view_of i)) may;
-      asked_below = s.asked_below;
-      asked_distinct = s.asked_distinct;
-      asked_sound = s.asked_sound;
-    }
+    sound-with_snapshot (text_replaced text i.snapshot w) i s (sym (last-text kinds.Event text i.snapshot w)) (sym (last-text kinds.Query text i.snapshot w)) (sound-text snapshots i.snapshot (told_lines (view_of i)) w s.snapshot (quiet-lines snapshots (view_of i)) may)
 
 -- ---- a new life
 
@@ -386,29 +358,17 @@ counted-sound now r q s none =
         record { acks = s.acks; responses = all_pairs_push (λ a b. a.from ≢ b.from) q.responses (record { from = r.from; payload = r.payload }) s.responses (unlike-each (λ (x : ResponseText). x.from) q.responses r.from new.0) }
 
 pub sound-counted : (now : ℕ) (r : QueryResponse) (q : OpenQuery) (i : IdealAgent) → IsSound i → asked_at r.time i.asked ≡ Some q → answer_ignore_reason now r q ≡ None → IsSound (with_asked (with_asked_at r.time (counted r q) i.asked) i)
-sound-counted now r q i s at none = record {
-  config = s.config;
-  member_clock = s.member_clock;
-  events = s.events;
-  queries = s.queries;
-  short = s.short;
-  snapshot = s.snapshot;
-  asked_below = set_value-keys (λ t. t < i.queries.clock) (nat_eq r.time) i.asked (counted r q) s.asked_below;
-  asked_distinct = set_value-distinct (nat_eq r.time) i.asked (counted r q) s.asked_distinct;
-  asked_sound = set_value-values IsOpenQuerySound (nat_eq r.time) i.asked (counted r q) (counted-sound now r q (lookup-each IsOpenQuerySound (nat_eq r.time) i.asked q s.asked_sound at) none) s.asked_sound;
-}
+sound-counted now r q i s at none =
+    sound-with_asked (with_asked_at r.time (counted r q) i.asked) i s
+    (set_value-keys (λ t. t < i.queries.clock) (nat_eq r.time) i.asked (counted r q) s.asked_below)
+    (set_value-distinct (nat_eq r.time) i.asked (counted r q) s.asked_distinct)
+    (set_value-values IsOpenQuerySound (nat_eq r.time) i.asked (counted r q) (counted-sound now r q (lookup-each IsOpenQuerySound (nat_eq r.time) i.asked q s.asked_sound at) none) s.asked_sound)
 
 -- ---- closing
 
 pub sound-closed : (now : ℕ) (i : IdealAgent) → IsSound i → IsSound (close_due i now).agent
-sound-closed now i s = record {
-  config = s.config;
-  member_clock = s.member_clock;
-  events = s.events;
-  queries = s.queries;
-  short = s.short;
-  snapshot = s.snapshot;
-  asked_below = All-filter (λ q. not (is_due now q)) (λ q. q.0 < i.queries.clock) i.asked s.asked_below;
-  asked_distinct = AllPairs-filter (λ a b. a.0 ≢ b.0) (λ q. not (is_due now q)) i.asked s.asked_distinct;
-  asked_sound = All-filter (λ q. not (is_due now q)) (λ q. IsOpenQuerySound q.1) i.asked s.asked_sound;
-}
+sound-closed now i s =
+    sound-with_asked (filter (λ q. not (is_due now q)) i.asked) i s
+    (All-filter (λ q. not (is_due now q)) (λ q. q.0 < i.queries.clock) i.asked s.asked_below)
+    (AllPairs-filter (λ a b. a.0 ≢ b.0) (λ q. not (is_due now q)) i.asked s.asked_distinct)
+    (All-filter (λ q. not (is_due now q)) (λ q. IsOpenQuerySound q.1) i.asked s.asked_sound)

@@ -1,5 +1,5 @@
 -- How a call of the ideal agent ends, by how the real one's ended.
-use Rattle.serf_agent.proofs.Names.{◌≡◌, ℕ, ◌-◌, ◌^◌, ◌<◌, ◌≤◌, nat_lt, nat_le, not, cond, length, Bool, false, List, Option, Some, None, Result, Ok, Err, refl, sym, subst, arith, EventBody, ClockKind, Device, Kept, Failed, written, WireFault, decoded, Message, Query, QueryResponse, UserEvent, or_parts, ltb-false, lt-leb}
+use Rattle.serf_agent.proofs.Names.{◌≡◌, ℕ, ◌-◌, ◌^◌, ◌<◌, ◌≤◌, nat_lt, nat_le, not, length, Bool, false, List, Option, Some, None, Result, Ok, Err, refl, sym, subst, arith, EventBody, ClockKind, Device, Kept, Failed, written, WireFault, Message, Query, QueryResponse, UserEvent, or_parts, ltb-false, lt-leb}
 use Rattle.serf_wire.specs.Decoded.{event_in}
 use Rattle.serf_wire.specs.Message.{user_event, query, query_response, push_pull, foreign}
 use Rattle.serf_snap.specs.declared.kind.ClockKind.TheVariants as kinds
@@ -15,12 +15,11 @@ use Rattle.serf_agent.specs.declared.outcome.QueryFault.TheVariants as asks_faul
 use Rattle.serf_agent.specs.declared.outcome.QueryParams.{QueryParams}
 use Rattle.serf_agent.specs.declared.outcome.Reason.{Reason}
 use Rattle.serf_agent.specs.declared.outcome.ReceiveFault.{ReceiveFault}
-use Rattle.serf_agent.specs.declared.outcome.ReceiveFault.TheVariants.{SinkFault, Stopped}
+use Rattle.serf_agent.specs.declared.outcome.ReceiveFault.TheVariants.{SinkFault}
 use Rattle.serf_agent.specs.Calls.{Ends, Notes, Step, answers}
 use Rattle.serf_snap.specs.Ends.{FailsLine}
 use Rattle.serf_agent.specs.Events.{admission, event_observed, event_entered, event_out, event_packet, received_as, receive_event, fire_fault, fired_as, fire, texts_len, told_event, is_too_large, drawn}
 use Rattle.serf_agent.specs.declared.open_query.OpenQuery.{OpenQuery}
-use Rattle.serf_agent.specs.Receive.{receive_read, receive_tagged}
 use Rattle.serf_agent.specs.Queries.{ack_if_passed, handed_if_passed, has_flag, no_broadcast_flag, query_admission, query_entered, query_observed, query_received_as, receive_query, answer_ignore_reason, asked_at, counted, counted_as, counts, fire_query, fired_query, is_ack, is_full, is_no_timeout, is_too_large_query, query_asked, query_at, query_fault, query_fired_as, receive_response, response_received_as, response_received_at, told_query, with_asked_at}
 use Rattle.serf_agent.specs.Ideal.{IdealAgent, with_asked, with_snapshot}
 use Rattle.serf_agent.specs.Sound.{IsSound}
@@ -63,10 +62,6 @@ steps-event_failed snapshots i t what flag durable result old new sound says may
     subst (λ (r : Option Reason). Steps i (received_as r i t what flag) result old new) (sym says) (steps-failed snapshots i kinds.Event t (told_event i.config t what) _ _ result old new durable sound may answers state device)
 
 -- ---- an event that is fired
-
-pub steps-fire_refused : (i : IdealAgent) (what : EventBody) (flag : Bool) (fault : FireFault) (old : Device) (new : AgentState) → IsSound i → fire_fault i what flag ≡ Some fault → new.concrete ≡ view_of i → new.device ≡ old → Steps i (fire i what flag) (Err fault) old new
-steps-fire_refused i what flag fault old new sound says state device =
-    subst (λ (r : Option FireFault). Steps i (fired_as r i what flag) (Err fault) old new) (sym says) (steps-answers i (Err fault) (Err fault) old new sound refl state device)
 
 pub steps-fire_entered : SnapshotLaws → (i : IdealAgent) (what : EventBody) (flag : Bool) (result : Result Fired FireFault) (old : Device) (new : AgentState) → IsSound i → i.snapshot.stopped ≡ false → i.events.clock < 2 ^ 64 - 1 → texts_len what ≤ 9216 → fire_fault i what flag ≡ None → MayNote kinds.Event i.events.clock (told_event i.config i.events.clock what) i.snapshot Kept
     → result ≡ Ok record { packet = event_packet i.events.clock what flag; handed = event_out i.events.clock what flag }
@@ -118,13 +113,6 @@ steps-counted i now r q result old new sound at none room answers state device =
     let done : Steps i (counts i r q) result old new = rw room (steps-ends i _ result old new answers state (sound-counted now r q i sound at none) device) in
     let taken : Steps i (response_received_as (answer_ignore_reason now r q) i r q) result old new = subst (λ (o : Option Reason). Steps i (response_received_as o i r q) result old new) (sym none) done in
     subst (λ (o : Option OpenQuery). Steps i (response_received_at o i now r) result old new) (sym at) taken
-
--- ---- a packet that comes
-
-pub steps-receive : (tags : Bool) (i : IdealAgent) (now : ℕ) (packet : List ℕ) (read : Result Message WireFault) (result : Result Outcome ReceiveFault) (old : Device) (new : AgentState) → i.snapshot.stopped ≡ false → decoded packet ≡ read → Steps i (receive_read tags i now read) result old new → Steps i (receive_tagged tags i now packet) result old new
-steps-receive tags i now packet read result old new runs is steps =
-    let by_decoded : Steps i (receive_read tags i now (decoded packet)) result old new = subst (λ (m : Result Message WireFault). Steps i (receive_read tags i now m) result old new) (sym is) steps in
-    subst (λ (b : Bool). Steps i (cond b (answers i (Err Stopped)) (receive_read tags i now (decoded packet))) result old new) (sym runs) by_decoded
 
 -- an answer that gives this user event is of it
 pub event_decoded : (read : Result Message WireFault) (u : UserEvent) → Some u ≡ event_in read → read ≡ Ok (user_event u)

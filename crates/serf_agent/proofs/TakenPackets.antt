@@ -7,7 +7,7 @@ use Rattle.serf_agent.specs.declared.outcome.ReceiveFault.TheVariants as faults
 use Rattle.serf_agent.specs.Answers.{CountsAnswer, answer_read}
 use Rattle.serf_agent.specs.Calls.{Call, answers}
 use Rattle.serf_agent.specs.Ideal.{IdealAgent}
-use Rattle.serf_agent.specs.Receive.{TakesMemory, receive_read, receive_tagged}
+use Rattle.serf_agent.specs.Receive.{TakesMemory, receive_read, receive}
 use Rattle.serf_agent.specs.Sound.{IsSound}
 use Rattle.serf_agent.specs.Steps.{Steps}
 use Rattle.serf_agent.specs.TakesPacket.{TakesPacket}
@@ -26,9 +26,9 @@ same-call call other answer more old new r same is taken = record {
 
 -- an agent that isn't stopped takes a packet as what is read of it
 pub takes-read : (tags : Bool) (now : ℕ) (packet : List ℕ) (read : Result Message WireFault) (old new : AgentState) (r : Result Outcome ReceiveFault) → old.concrete.snapshot.stopped ≡ false → decoded packet ≡ read → TakesPacket (λ i. receive_read tags i now read) (answer_read read) old new r
-    → TakesPacket (λ i. receive_tagged tags i now packet) (answer_read (decoded packet)) old new r
+    → TakesPacket (λ i. receive tags i now packet) (answer_read (decoded packet)) old new r
 takes-read tags now packet read old new r runs is taken =
-    same-call (λ i. receive_read tags i now read) (λ i. receive_tagged tags i now packet) (answer_read read) (answer_read (decoded packet)) old new r
+    same-call (λ i. receive_read tags i now read) (λ i. receive tags i now packet) (answer_read read) (answer_read (decoded packet)) old new r
     (λ i at. (λ k. cond (sym (sym (ap (λ (s : ConcreteState). s.snapshot.stopped) at) ∙ runs) k) (answers i (Err faults.Stopped)) (receive_read tags i now (sym is k)))) (ap answer_read (sym is)) taken
 
 -- an answer that counts nothing

@@ -1,5 +1,5 @@
 -- Due queries, moved out of a list one after another, while others of their deadlines stand in their places.
-use Rattle.serf_agent.proofs.Names.{◌≡◌, ℕ, zero, suc, ◌+◌, ◌<◌, ◌≤◌, not, cond, Bool, true, false, List, [], ◌∷◌, ◌++◌, length, map, length-append, filter, filter-append, filter_more, take, take-append-drop, take_all, append-nil, nat_lt, inl, inr, drop, drop_more_same, get_or, get_or-drop, get_or_from_slice_get, slice_get, slice_get_within, slice_get_cases, set_value_at, add-one, Option, Some, IfSome, refl, sym, ◌∙◌, ap, subst, arith}
+use Rattle.serf_agent.proofs.Names.{◌≡◌, ℕ, zero, suc, ◌+◌, ◌<◌, not, cond, Bool, true, false, List, [], ◌∷◌, ◌++◌, length, map, length-append, filter, filter-append, filter_more, take, take-append-drop, append-nil, nat_lt, inl, inr, drop, drop_more_same, get_or, get_or-drop, get_or_from_slice_get, slice_get, slice_get_within, slice_get_cases, set_value_at, add-one, Option, Some, IfSome, refl, sym, ◌∙◌, ap, subst, arith}
 use Rattle.serf_agent.specs.declared.open_query.OpenQuery.{OpenQuery}
 use Rattle.serf_agent.specs.Inside.{IsTaken}
 use Rattle.serf_agent.specs.Queries.{is_due}
@@ -84,10 +84,6 @@ taking-room now old new closed i q t was due =
     let one = ap (λ (l : List (ℕ × OpenQuery)). length l) grown ∙ length-append (filter (is_due now) (take i old)) (q ∷ []) in
     let so_far = ap (λ (l : List (ℕ × OpenQuery)). length l) t.taken in
     omega (arith, count, one, so_far)
-
--- once all are looked at, the due ones are those that are taken out
-pub taking-all : (now : ℕ) (old new closed : List (ℕ × OpenQuery)) (i : ℕ) → length new ≤ i → Taking now old new closed i → closed ≡ filter (is_due now) old
-taking-all now old new closed i end t = t.taken ∙ ap (filter (is_due now)) (take_all i old (omega (arith, t.long, end)))
 
 -- the due queries are counted without their times
 pub count-due : (now : ℕ) (old : List (ℕ × OpenQuery)) → length (filter (λ q. nat_lt q.deadline now) (map (λ q. q.1) old)) ≡ length (filter (is_due now) old)

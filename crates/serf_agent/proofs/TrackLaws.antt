@@ -1,5 +1,6 @@
 -- What a sound track stays, and that its window decides as its whole history does.
-use Rattle.serf_agent.proofs.Names.{◌≡◌, ◌≢◌, ℕ, ◌+◌, ◌<◌, ◌≤◌, ◌==◌, ◌&&◌, ◌||◌, ◌%◌, inl, inr, nat_lt, nat_le, max, cond, Bool, true, false, List, [], ◌∷◌, ◌++◌, length, Option, Some, None, refl, sym, ◌∙◌, ap, subst, arith, All, cases_Bool, eqb-false, eq-eqb, ne_eqb, true≢false, or_parts, and_from, ltb-false, All-nil, All-cons, All-head, All-tail, All-push, All-weaker, all_pairs_push, get_or-map-range_with_len, length-map-range_with_len, observed, Verdict, TimedEntry, SlotOf, greatest_time, entries_of, slots_of, was_entered, count_at, verdict_of, TimesBelow}
+use Rattle.serf_agent.proofs.Names.{◌≡◌, ◌≢◌, ℕ, ◌+◌, ◌<◌, ◌≤◌, ◌==◌, ◌&&◌, ◌||◌, ◌%◌, inl, inr, nat_lt, nat_le, max, cond, Bool, true, false, List, [], ◌∷◌, ◌++◌, length, Option, Some, None, refl, sym, ◌∙◌, ap, subst, arith, All, cases_Bool, eqb-false, eq-eqb, ne_eqb, true≢false, or_parts, and_from, ltb-false, filter, All-filter, All-nil, All-cons, All-head, All-tail, All-push, All-weaker, all_pairs_push, get_or-map-range_with_len, length-map-range_with_len, observed, Verdict, TimedEntry, SlotOf, greatest_time, entries_of, slots_of, was_entered, count_at, verdict_of, TimesBelow}
+use Rattle.std.proofs.lemmas.List.Elements.{All-map}
 use Rattle.serf_window.specs.Window.{slot_of}
 use Rattle.serf_agent.specs.declared.outcome.Reason.{Reason}
 use Rattle.serf_agent.specs.declared.outcome.Reason.TheVariants.{BelowMinimum, TooOld, Seen, TimeFull}
@@ -54,17 +55,6 @@ track-reopened track life last value s within =
       minimum = omega arith;
     }
 
--- another last line, which is no lower
-pub track-noted : {K : Type 0} (track : Track K) (life last new_last : ℕ) → IsTrackSound track life last → last ≤ new_last → IsTrackSound track life new_last
-track-noted track life last new_last s up = record {
-  lives = s.lives;
-  below_clock = s.below_clock;
-  noted = All-weaker (λ p. p.entry.time ≤ last) (λ p. p.entry.time ≤ new_last) (λ p h. omega arith) track.history s.noted;
-  earlier = s.earlier;
-  distinct = s.distinct;
-  minimum = s.minimum;
-}
-
 -- ---- what is new
 
 -- what was never entered differs from each entry
@@ -83,8 +73,8 @@ pub later-fresh : {K : Type 0} (history : List (Past K)) (t : ℕ) (what : K) �
 later-fresh {K} history t what below =
     All-weaker (λ p. p.entry.time < t) (λ p. p.entry ≢ record { time = t; key = what }) (λ p b q. let same = ap (λ (y : TimedEntry K). y.time) q in omega arith) history below
 
--- there is no reason only where no test finds one
-pub none-from : (b : Bool) (x : Reason) (r : Option Reason) → cond b (Some x) r ≡ None → (b ≡ false) × (r ≡ None)
+-- there is no reason, or no fault, only where no test finds one
+pub none-from : {X : Type 0} (b : Bool) (x : X) (r : Option X) → cond b (Some x) r ≡ None → (b ≡ false) × (r ≡ None)
 none-from true x r h = absurd (cc)
 none-from false x r h = (refl, h)
 
@@ -110,15 +100,9 @@ greatest_time-below n i c (e ∷ es) pos h =
       | inr there ↦ rw there ih
     ]
 
--- the entries of a life are below what all entries are below
-of_life-below : {K : Type 0} (life c : ℕ) (hs : List (Past K)) → All (λ p. p.entry.time < c) hs → All (λ e. e.time < c) (of_life life hs)
-of_life-below life c [] h = All-nil (λ e. e.time < c)
-of_life-below {K} life c (x ∷ hs) h =
-    let rest = of_life-below life c hs (All-tail (λ p. p.entry.time < c) x hs h) in
-    elim (cases_Bool (x.life == life)) [
-      | inl mine ↦ rw mine (All-cons (λ e. e.time < c) x.entry (of_life life hs) (All-head (λ p. p.entry.time < c) x hs h) rest)
-      | inr other ↦ rw other rest
-    ]
+-- what holds of the entries of a history holds of those of a life
+pub of-life : {K : Type 0} (P : TimedEntry K → Type 0) (life : ℕ) (history : List (Past K)) → All (λ p. P p.entry) history → All P (of_life life history)
+of-life {K} P life history all = All-map P (λ (p : Past K). p.entry) (filter (λ (p : Past K). p.life == life) history) (All-filter (λ (p : Past K). p.life == life) (λ (p : Past K). P p.entry) history all)
 
 -- each slot's time is below what each entry's is below
 pub slots-below : {K : Type 0} (n life c : ℕ) (hs : List (Past K)) → 0 < c → All (λ p. p.entry.time < c) hs → TimesBelow c (slots_of n (of_life life hs))
@@ -127,7 +111,7 @@ slots-below {K} n life c hs pos all k d within =
     let size : length (slots_of n mine) ≡ n = length-map-range_with_len (slot_of n mine) 0 n in
     let inside : k < n = subst (λ (m : ℕ). k < m) size within in
     let at = get_or-map-range_with_len (slot_of n mine) 0 n k k d inside (omega arith) in
-    let below : (slot_of n mine k).time < c = greatest_time-below n k c mine pos (of_life-below life c hs all) in
+    let below : (slot_of n mine k).time < c = greatest_time-below n k c mine pos (of-life (λ (e : TimedEntry K). e.time < c) life hs all) in
     subst (λ (s : SlotOf K). s.time < c) (sym at) below
 
 -- above the minimum only this life counts
@@ -212,11 +196,3 @@ view-entered {K} n life track old new t what is slots clock minimum =
 pub view-observed : {K : Type 0} (n life : ℕ) (track : Track K) (old new : ConcreteTrack K) (t : ℕ) → old ≡ view_of_track n life track → new.clock ≡ observed old.clock t → new.minimum ≡ old.minimum → new.slots ≡ old.slots → new ≡ view_of_track n life (track_observed t track)
 view-observed {K} n life track old new t is clock minimum slots =
     concrete-eq new _ _ _ (clock ∙ ap (λ (s : ConcreteTrack K). observed s.clock t) is) (minimum ∙ ap (λ (s : ConcreteTrack K). s.minimum) is) (slots ∙ ap (λ (s : ConcreteTrack K). s.slots) is)
-
-pub view-raised : {K : Type 0} (n life : ℕ) (track : Track K) (old new : ConcreteTrack K) (c m : ℕ) → old ≡ view_of_track n life track → new.clock ≡ max old.clock c → new.minimum ≡ max old.minimum m → new.slots ≡ old.slots → new ≡ view_of_track n life (track_raised c m track)
-view-raised {K} n life track old new c m is clock minimum slots =
-    concrete-eq new _ _ _ (clock ∙ ap (λ (s : ConcreteTrack K). max s.clock c) is) (minimum ∙ ap (λ (s : ConcreteTrack K). max s.minimum m) is) (slots ∙ ap (λ (s : ConcreteTrack K). s.slots) is)
-
-pub view-reopened : {K : Type 0} (n life last value : ℕ) (track : Track K) (new : ConcreteTrack K) → IsTrackSound track life last → new.clock ≡ value + 1 → new.minimum ≡ value + 1 → new.slots ≡ slots_of n [] → new ≡ view_of_track n (life + 1) (track_reopened value track)
-view-reopened {K} n life last value track new sound clock minimum slots =
-    concrete-eq new _ _ _ clock minimum (slots ∙ ap (slots_of n) (sym (of_life-none life track.history sound.lives)))

@@ -1,5 +1,5 @@
 -- What is durable of an agent that keeps no events: its clock lines say that all up to them was handed out.
-use Rattle.serf_agent.proofs.Names.{◌≡◌, ◌≢◌, ℕ, ◌+◌, ◌-◌, ◌^◌, ◌<◌, ◌≤◌, ◌⊎◌, ◌==◌, inl, inr, max, nat_le, cond, Bool, true, false, List, [], ◌∷◌, ◌++◌, Some, map, refl, sym, subst, ap, ◌∙◌, append-nil, arith, All-push, All-weaker, eqb-false, leb-false, leb-true, EventBody, ClockKind, clock_line, Device, Kept, compaction_of, noted, opened, written}
+use Rattle.serf_agent.proofs.Names.{◌≡◌, ◌≢◌, ℕ, ◌+◌, ◌-◌, ◌^◌, ◌<◌, ◌≤◌, ◌⊎◌, ◌==◌, inl, inr, max, nat_le, cond, Bool, true, false, List, [], ◌∷◌, ◌++◌, Some, map, refl, sym, subst, ap, ◌∙◌, append-nil, arith, All-push, All-weaker, eqb-false, leb-false, leb-true, EventBody, TimedEntry, ClockKind, clock_line, Device, Kept, compaction_of, noted, opened, written}
 use Rattle.std.specs.Prelude.{Contains}
 use Rattle.std.proofs.lemmas.Bool.{eqb-true}
 use Rattle.serf_snap.specs.declared.kept.Wanted.{Wanted}
@@ -11,13 +11,13 @@ use Rattle.serf_snap.specs.Notes.{AreTimes, IsSnapshotSound}
 use Rattle.serf_agent.specs.Events.{event_entered}
 use Rattle.serf_agent.specs.Ideal.{IdealAgent, Past, with_snapshot}
 use Rattle.serf_agent.specs.KeptRestart.{HasKept}
-use Rattle.serf_agent.specs.KeptTexts.{KeptEventLaws, KeptQueryLaws, event_entry, kept_events, kept_queries, query_entry, whatever}
+use Rattle.serf_agent.specs.KeptTexts.{AreKept, KeptEventLaws, KeptQueryLaws, event_entry, kept_events, kept_queries, query_entry, whatever}
 use Rattle.serf_agent.specs.Queries.{query_entered}
 use Rattle.serf_agent.specs.Restart.{restarted, restarted_by}
 use Rattle.serf_agent.specs.Sound.{IsSound}
 use Rattle.serf_agent.specs.Unkept.{HasSaid, IsSaid, IsSaidSound, UnkeptLaws}
 use Rattle.serf_agent.proofs.KeptRestartLaws.{sealed-kept}
-use Rattle.serf_agent.proofs.KeptStepLaws.{grown-durable}
+use Rattle.serf_agent.proofs.KeptStepLaws.{appended}
 
 -- ---- what the crates below promise
 
@@ -46,6 +46,11 @@ said-below kind minimum last t text (inr said) from up = omega arith
 said-above : BelowUnkept → (kind : ClockKind) (minimum t : ℕ) (text : List ℕ) → is_whole text ≡ true → 0 < t → t < 2 ^ 64 - 1 → IsSaid kind minimum t (text ++ clock_line kind t)
 said-above laws kind minimum t text whole some small = inr (omega (arith, laws.least_clock_line kind text t whole some small))
 
+-- what enters at or below the last line is below the least time of the text
+entered-below : {K : Type 0} (kind : ClockKind) (read : Wanted → List ℕ → List (TimedEntry K)) (history : List (Past K)) (p : Past K) (minimum last : ℕ) (text : List ℕ) → IsSaid kind minimum last text → minimum ≤ p.entry.time → nat_le p.entry.time last ≡ true → AreKept kind read history text → AreKept kind read (history ++ p ∷ []) text
+entered-below {K} kind read history p minimum last text said from low kept =
+    All-push (λ (q : Past K). (q.entry.time < least_in kind text) ⊎ Contains (read whatever text) q.entry) history p kept (inl (said-below kind minimum last p.entry.time text said from (leb-true p.entry.time last low)))
+
 enters_event : BelowUnkept → (t : ℕ) (what : EventBody) (i : IdealAgent) → IsSaidSound i → IsSnapshotSound i.snapshot → i.snapshot.stopped ≡ false → i.events.minimum ≤ t → t < 2 ^ 64 - 1
     → IsSaidSound (with_snapshot (noted kinds.Event t i.snapshot Kept) (event_entered t what i))
 enters_event laws t what i had sound runs from small durable = by (nat_le t i.snapshot.event_clock) refl
@@ -53,34 +58,27 @@ enters_event laws t what i had sound runs from small durable = by (nat_le t i.sn
     p : Past EventBody
     p = record { life = i.life; entry = record { time = t; key = what } }
 
+    line : List ℕ
+    line = clock_line kinds.Event t
+
     by : (b : Bool) → nat_le t i.snapshot.event_clock ≡ b → (cond b i.snapshot (written kinds.Event t i.snapshot Kept)).durable ≡ Some durable
         → HasSaid (with_snapshot (cond b i.snapshot (written kinds.Event t i.snapshot Kept)) (event_entered t what i)) durable
-    by true low at =
-        let before : HasSaid i durable = had durable at in
-        let up : t ≤ i.snapshot.event_clock = leb-true t i.snapshot.event_clock low in
-        record {
-          kept = record {
-            events = All-push (λ (q : Past EventBody). (q.entry.time < least_in kinds.Event durable) ⊎ Contains (kept_events whatever durable) q.entry) i.events.history p before.kept.events
-                (inl (said-below kinds.Event i.events.minimum i.snapshot.event_clock t durable before.events from up));
-            queries = before.kept.queries;
-          };
-          events = before.events;
-          queries = before.queries;
-        }
+    by true low at = let before : HasSaid i durable = had durable at in record {
+      kept = record { events = entered-below kinds.Event kept_events i.events.history p i.events.minimum i.snapshot.event_clock durable before.events from low before.kept.events; queries = before.kept.queries };
+      events = before.events;
+      queries = before.queries;
+    }
     by false high at =
         let above : i.snapshot.event_clock < t = leb-false t i.snapshot.event_clock high in
         let some : 0 < t = omega arith in
-        let g = grown-durable i.snapshot.durable (clock_line kinds.Event t) durable at in
-        let before : HasSaid i g.0 = had g.0 g.1 in
-        let whole : is_whole g.0 ≡ true = (sound g.0 g.1).whole runs in
-        subst (HasSaid (with_snapshot (written kinds.Event t i.snapshot Kept) (event_entered t what i))) g.2 (record {
+        appended (HasSaid i) (HasSaid (with_snapshot (written kinds.Event t i.snapshot Kept) (event_entered t what i))) i.snapshot line durable had sound runs (λ old whole before. record {
           kept = record {
-            events = laws.event_texts.clock_line_kept i.events.history g.0 i.life t t what whole (omega arith) some small before.kept.events;
-            queries = laws.query_texts.grows i.queries.history g.0 (clock_line kinds.Event t) before.kept.queries;
+            events = laws.event_texts.clock_line_kept i.events.history old i.life t t what whole (omega arith) some small before.kept.events;
+            queries = laws.query_texts.grows i.queries.history old line before.kept.queries;
           };
-          events = said-above laws kinds.Event i.events.minimum t g.0 whole some small;
-          queries = said-grows laws kinds.Query i.queries.minimum i.snapshot.query_clock g.0 (clock_line kinds.Event t) before.queries;
-        })
+          events = said-above laws kinds.Event i.events.minimum t old whole some small;
+          queries = said-grows laws kinds.Query i.queries.minimum i.snapshot.query_clock old line before.queries;
+        }) at
 
 enters_query : BelowUnkept → (t id : ℕ) (i : IdealAgent) → IsSaidSound i → IsSnapshotSound i.snapshot → i.snapshot.stopped ≡ false → i.queries.minimum ≤ t → t < 2 ^ 64 - 1
     → IsSaidSound (with_snapshot (noted kinds.Query t i.snapshot Kept) (query_entered t id i))
@@ -89,34 +87,27 @@ enters_query laws t id i had sound runs from small durable = by (nat_le t i.snap
     p : Past ℕ
     p = record { life = i.life; entry = record { time = t; key = id } }
 
+    line : List ℕ
+    line = clock_line kinds.Query t
+
     by : (b : Bool) → nat_le t i.snapshot.query_clock ≡ b → (cond b i.snapshot (written kinds.Query t i.snapshot Kept)).durable ≡ Some durable
         → HasSaid (with_snapshot (cond b i.snapshot (written kinds.Query t i.snapshot Kept)) (query_entered t id i)) durable
-    by true low at =
-        let before : HasSaid i durable = had durable at in
-        let up : t ≤ i.snapshot.query_clock = leb-true t i.snapshot.query_clock low in
-        record {
-          kept = record {
-            events = before.kept.events;
-            queries = All-push (λ (q : Past ℕ). (q.entry.time < least_in kinds.Query durable) ⊎ Contains (kept_queries whatever durable) q.entry) i.queries.history p before.kept.queries
-                (inl (said-below kinds.Query i.queries.minimum i.snapshot.query_clock t durable before.queries from up));
-          };
-          events = before.events;
-          queries = before.queries;
-        }
+    by true low at = let before : HasSaid i durable = had durable at in record {
+      kept = record { events = before.kept.events; queries = entered-below kinds.Query kept_queries i.queries.history p i.queries.minimum i.snapshot.query_clock durable before.queries from low before.kept.queries };
+      events = before.events;
+      queries = before.queries;
+    }
     by false high at =
         let above : i.snapshot.query_clock < t = leb-false t i.snapshot.query_clock high in
         let some : 0 < t = omega arith in
-        let g = grown-durable i.snapshot.durable (clock_line kinds.Query t) durable at in
-        let before : HasSaid i g.0 = had g.0 g.1 in
-        let whole : is_whole g.0 ≡ true = (sound g.0 g.1).whole runs in
-        subst (HasSaid (with_snapshot (written kinds.Query t i.snapshot Kept) (query_entered t id i))) g.2 (record {
+        appended (HasSaid i) (HasSaid (with_snapshot (written kinds.Query t i.snapshot Kept) (query_entered t id i))) i.snapshot line durable had sound runs (λ old whole before. record {
           kept = record {
-            events = laws.event_texts.grows i.events.history g.0 (clock_line kinds.Query t) before.kept.events;
-            queries = laws.query_texts.clock_line_kept i.queries.history g.0 i.life t t id whole (omega arith) some small before.kept.queries;
+            events = laws.event_texts.grows i.events.history old line before.kept.events;
+            queries = laws.query_texts.clock_line_kept i.queries.history old i.life t t id whole (omega arith) some small before.kept.queries;
           };
-          events = said-grows laws kinds.Event i.events.minimum i.snapshot.event_clock g.0 (clock_line kinds.Query t) before.events;
-          queries = said-above laws kinds.Query i.queries.minimum t g.0 whole some small;
-        })
+          events = said-grows laws kinds.Event i.events.minimum i.snapshot.event_clock old line before.events;
+          queries = said-above laws kinds.Query i.queries.minimum t old whole some small;
+        }) at
 
 -- ---- openings and compactions
 

@@ -22,14 +22,14 @@ use Rattle.serf_agent.specs.TrackOf.{TrackOf, asked_query, event_track, got_quer
 use Rattle.serf_agent.specs.declared.outcome.QueryParams.{QueryParams}
 use Rattle.serf_agent.specs.Lives.{Act, Fires, Asks, Gets, Hears, Takes, Saves, Compacts, Closes, Opens, Lived, MayAct, acted, after, asked_entries, event_entry, fired_entries, first_life, got_entries, lived}
 use Rattle.serf_agent.specs.Queries.{answer_ignore_reason, asked_at, counts_where, fire_query, is_ack, is_full, query_admission, query_at, query_fault, query_fired_as, query_received_as, response_received_as, response_received_at}
-use Rattle.serf_agent.specs.Receive.{receive_message, receive_read, receive_tagged}
+use Rattle.serf_agent.specs.Receive.{receive_message, receive_read, receive}
 use Rattle.serf_agent.specs.States.{compact, handed_by, hear, heard_by, receive_one, save, told_least}
 use Rattle.serf_agent.specs.Told.{MayNote, noted_with, text_with}
 use Rattle.serf_agent.specs.Sound.{IsSound}
-use Rattle.serf_agent.proofs.KeptLifeLaws.{BelowKeptLives, begins_durable, disk_suffices, durable-lived, may-go}
-use Rattle.serf_agent.proofs.LifeLaws.{keeps, keeps-first, later, once, queries_later, queries_once, text-of-flushed}
+use Rattle.serf_agent.proofs.KeptLifeLaws.{durable-lived, may-open}
+use Rattle.serf_agent.proofs.LifeLaws.{Below, keeps, keeps-first, later, once, queries_later, queries_once, text-of-flushed}
 use Rattle.serf_agent.specs.Config.{is_sound}
-use Rattle.serf_agent.specs.KeptLives.{IsDurable, StartsWithDurable}
+use Rattle.serf_agent.specs.KeptLives.{BeginsDurable, DiskSuffices, IsDurable, KeepsBehind, StartsWithDurable, StaysDurable}
 use Rattle.serf_agent.specs.Once.{OpensBehind}
 use Rattle.serf_agent.specs.Restart.{HasPast}
 use Rattle.serf_agent.specs.Unseen.{AsksLaterUnseen, FiresLaterUnseen, HandsOutNewUnseen, HandsOutOnceUnseen, HandsOutQueriesOnceUnseen, OpensUnseen, RemembersJoinsUnseen, TakesNewQueriesUnseen, TakesNewUnseen, IsSame, IsUnseen, Seen, UnseenLaws, hidden, hidden_call, hidden_life, hidden_snapshot, hidden_step, unseen, unseen_act}
@@ -165,7 +165,7 @@ hides-read : (tags : Bool) (i : IdealAgent) (now : ℕ) (r : Result Message Wire
 hides-read tags i now (Ok m) = hides-message tags i now m
 hides-read tags i now (Err fault) = refl
 
-hides-tagged : (tags : Bool) (i : IdealAgent) (now : ℕ) (packet : List ℕ) → receive_tagged tags (hidden i) now packet ≡ hidden_call (receive_tagged tags i now packet)
+hides-tagged : (tags : Bool) (i : IdealAgent) (now : ℕ) (packet : List ℕ) → receive tags (hidden i) now packet ≡ hidden_call (receive tags i now packet)
 hides-tagged tags i now packet = by i.snapshot.stopped
   where
     by : (b : Bool) → cond b (answers (hidden i) (Err receives.Stopped)) (receive_read tags (hidden i) now (decoded packet)) ≡ hidden_call (cond b (answers i (Err receives.Stopped)) (receive_read tags i now (decoded packet)))
@@ -197,7 +197,7 @@ same i (Asks now id name payload params w) =
     let e = hides-act i (fire_query i now id name payload params) (fire_query (hidden i) now id name payload params) w (hides-query_fired params.tags_pass (query_fault i id name payload params) i now (query_at i.queries.clock i.config.name id name payload params)) in
     record { agent = ap (λ (s : Step (Result FiredQuery QueryFault)). s.agent) e; events = refl; queries = ap (λ (s : Step (Result FiredQuery QueryFault)). asked_entries s.answer) e; entered = ap (λ (s : Step (Result FiredQuery QueryFault)). asked_query id s.answer) e }
 same i (Gets tags now packet w) =
-    let e = hides-act i (receive_tagged tags i now packet) (receive_tagged tags (hidden i) now packet) w (hides-tagged tags i now packet) in
+    let e = hides-act i (receive tags i now packet) (receive tags (hidden i) now packet) w (hides-tagged tags i now packet) in
     record { agent = ap (λ (s : Step (Result Outcome ReceiveFault)). s.agent) e; events = ap (λ (s : Step (Result Outcome ReceiveFault)). map event_entry (handed_by s.answer)) e; queries = ap (λ (s : Step (Result Outcome ReceiveFault)). got_entries s.answer) e; entered = ap (λ (s : Step (Result Outcome ReceiveFault)). got_query (decoded packet) s.answer) e }
 same i (Hears m is_join w) =
     let e = hides-act i (hear i m is_join) (hear (hidden i) m is_join) w (hides-heard (told_least i.config m is_join) i m is_join) in
@@ -238,7 +238,7 @@ seen i (Asks now id name payload params w) u may =
     let c = chosen i (fire_query i now id name payload params) (fire_query (hidden i) now id name payload params) w (hides-query_fired params.tags_pass (query_fault i id name payload params) i now (query_at i.queries.clock i.config.name id name payload params)) may in
     record { act = Asks now id name payload params c.choice; is = ap (λ (v : Writing). Asks now id name payload params v) c.is; may = c.may }
 seen i (Gets tags now packet w) u may =
-    let c = chosen i (receive_tagged tags i now packet) (receive_tagged tags (hidden i) now packet) w (hides-tagged tags i now packet) may in
+    let c = chosen i (receive tags i now packet) (receive tags (hidden i) now packet) w (hides-tagged tags i now packet) may in
     record { act = Gets tags now packet c.choice; is = ap (λ (v : Writing). Gets tags now packet v) c.is; may = c.may }
 seen i (Hears m is_join w) u may =
     let h = hides-heard (told_least i.config m is_join) i m is_join in
@@ -274,32 +274,40 @@ unseen_laws = record { same = same; seen = seen; begins = λ config text d. refl
 
 -- ---- what is promised of lives
 
-pub once_unseen : BelowKeptLives → HandsOutOnceUnseen
-once_unseen laws = λ config text d acts ok go.
-    subst (λ (t : Lived). AllPairs (λ x y. x ≢ y) t.events) (sym (lives acts (first_life config text d))) (once laws.life config text d acts ok (disk_suffices laws config text d acts ok go).0)
+-- what is promised over a sink that shows its bytes
+pub record BelowUnseen : Type 0 where
+  pub life : Below
+  pub begins : BeginsDurable
+  pub stays : StaysDurable
+  pub behind : KeepsBehind
+  pub suffices : DiskSuffices
 
-pub queries_once_unseen : BelowKeptLives → HandsOutQueriesOnceUnseen
+pub once_unseen : BelowUnseen → HandsOutOnceUnseen
+once_unseen laws = λ config text d acts ok go.
+    subst (λ (t : Lived). AllPairs (λ x y. x ≢ y) t.events) (sym (lives acts (first_life config text d))) (once laws.life config text d acts ok (laws.suffices config text d acts ok go).0)
+
+pub queries_once_unseen : BelowUnseen → HandsOutQueriesOnceUnseen
 queries_once_unseen laws = λ config text d acts ok go.
-    subst (λ (t : Lived). AllPairs (λ x y. x ≢ y) t.queries) (sym (lives acts (first_life config text d))) (queries_once laws.life config text d acts ok (disk_suffices laws config text d acts ok go).0)
+    subst (λ (t : Lived). AllPairs (λ x y. x ≢ y) t.queries) (sym (lives acts (first_life config text d))) (queries_once laws.life config text d acts ok (laws.suffices config text d acts ok go).0)
 
 hides-fire : (i : IdealAgent) (what : EventBody) (flag : Bool) (w : Writing) → (ended (hidden i) (fire (hidden i) what flag) (unseen w)).answer ≡ (ended i (fire i what flag) w).answer
 hides-fire i what flag w = ap (λ (s : Step (Result Fired FireFault)). s.answer) (hides-act i (fire i what flag) (fire (hidden i) what flag) w (hides-fired (fire_fault i what flag) i what flag))
 
-pub later_unseen : BelowKeptLives → FiresLaterUnseen
+pub later_unseen : BelowUnseen → FiresLaterUnseen
 later_unseen laws = λ config text d acts what flag w f ok go.
     let s = first_life config text d in
     subst (λ (t : Lived). (ended t.agent (fire t.agent what flag) (unseen w)).answer ≡ Ok f → All (λ (e : TimedEntry EventBody). e.time < f.handed.time) t.events) (sym (lives acts s))
-    (λ is. later laws.life config text d acts what flag w f ok (disk_suffices laws config text d acts ok go).0 (sym (hides-fire (lived s acts).agent what flag w) ∙ is))
+    (λ is. later laws.life config text d acts what flag w f ok (laws.suffices config text d acts ok go).0 (sym (hides-fire (lived s acts).agent what flag w) ∙ is))
 
 hides-asked : (i : IdealAgent) (now id : ℕ) (name payload : List ℕ) (params : QueryParams) (w : Writing) → (ended (hidden i) (fire_query (hidden i) now id name payload params) (unseen w)).answer ≡ (ended i (fire_query i now id name payload params) w).answer
 hides-asked i now id name payload params w = ap (λ (s : Step (Result FiredQuery QueryFault)). s.answer)
     (hides-act i (fire_query i now id name payload params) (fire_query (hidden i) now id name payload params) w (hides-query_fired params.tags_pass (query_fault i id name payload params) i now (query_at i.queries.clock i.config.name id name payload params)))
 
-pub queries_later_unseen : BelowKeptLives → AsksLaterUnseen
+pub queries_later_unseen : BelowUnseen → AsksLaterUnseen
 queries_later_unseen laws = λ config text d acts now id name payload params w f ok go.
     let s = first_life config text d in
     subst (λ (t : Lived). (ended t.agent (fire_query t.agent now id name payload params) (unseen w)).answer ≡ Ok f → All (λ (e : TimedEntry ℕ). e.time < f.time) t.queries) (sym (lives acts s))
-    (λ is. queries_later laws.life config text d acts now id name payload params w f ok (disk_suffices laws config text d acts ok go).0 (sym (hides-asked (lived s acts).agent now id name payload params w) ∙ is))
+    (λ is. queries_later laws.life config text d acts now id name payload params w f ok (laws.suffices config text d acts ok go).0 (sym (hides-asked (lived s acts).agent now id name payload params w) ∙ is))
 
 takes-unseen : {K : Type 0} (which : TrackOf K) → ((i : IdealAgent) (a : Act) → which.entered (hidden i) (unseen_act a) ≡ which.entered i a) → TakesNew which → TakesNewUnseen which
 takes-unseen which enters promised = λ config text d acts offer e ok on go same_settings offers runs short young least told new.
@@ -324,25 +332,25 @@ joins_unseen promised = λ config text d acts rest m ok go keeps ignores join mo
 sound-hidden : (i : IdealAgent) → IsSound i → IsSound (hidden i)
 sound-hidden i s = record { config = s.config; member_clock = s.member_clock; events = s.events; queries = s.queries; short = s.short; snapshot = λ durable at. absurd (let no : None ≡ Some durable = at in cc); asked_below = s.asked_below; asked_distinct = s.asked_distinct; asked_sound = s.asked_sound }
 
-opens-hidden : BelowKeptLives → (i : IdealAgent) (config : Config) (text : List ℕ) → IsSound i → IsDurable i → is_sound config ≡ true → StartsWithDurable i text → IsSound (hidden i) × HasPast config (hidden i) text
+opens-hidden : BelowUnseen → (i : IdealAgent) (config : Config) (text : List ℕ) → IsSound i → IsDurable i → is_sound config ≡ true → StartsWithDurable i text → IsSound (hidden i) × HasPast config (hidden i) text
 opens-hidden laws i config text s h ok on =
-    let may = may-go laws i (Opens config text (fresh_device text)) s h (ok, on) in
+    let may = may-open laws.life laws.behind i config text (fresh_device text) s h (ok, on) in
     let times = text-of-flushed i text s may.0.0 in
     let kept = may.1 in
     (sound-hidden i s, record { times = record { events = times.events; queries = times.queries }; kept = λ keeps. record { events = kept.events; queries = kept.queries } })
 
-pub opens_unseen : BelowKeptLives → OpensUnseen
+pub opens_unseen : BelowUnseen → OpensUnseen
 opens_unseen laws = λ config text d acts next left ok go sound_next on.
     let s = first_life config text d in
-    let may = disk_suffices laws config text d acts ok go in
+    let may = laws.suffices config text d acts ok go in
     let first = keeps-first laws.life config text d ok in
     let sound = (keeps laws.life acts s first may.0).sound in
-    let durable = durable-lived laws acts s first.sound (begins_durable laws config text d) may.0 may.1 in
+    let durable = durable-lived laws.life laws.stays acts s first.sound (laws.begins config text d) may.0 may.1 in
     subst (λ (t : Lived). IsSound t.agent × HasPast next t.agent left) (sym (lives acts s)) (opens-hidden laws (lived s acts).agent next left sound durable sound_next on)
 
-pub opens_behind : BelowKeptLives → OpensBehind
+pub opens_behind : BelowUnseen → OpensBehind
 opens_behind laws i config text d s h ok on =
-    let may = may-go laws i (Opens config text d) s h (ok, on) in
+    let may = may-open laws.life laws.behind i config text d s h (ok, on) in
     let times = text-of-flushed i text s may.0.0 in
     let kept = may.1 in
     (may.0, may.1, record { times = record { events = times.events; queries = times.queries }; kept = λ keeps. record { events = kept.events; queries = kept.queries } })

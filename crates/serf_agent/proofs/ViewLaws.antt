@@ -1,9 +1,7 @@
 -- What an agent stores of the ideal agent, after each change.
-use Rattle.serf_agent.proofs.Names.{◌≡◌, ℕ, ◌+◌, Bool, true, false, List, [], Option, sym, ◌∙◌, ap, observed, EventBody, same_id, same_texts, slots_of, ClockKind, Device, SnapshotView, Failed, written, opened}
+use Rattle.serf_agent.proofs.Names.{◌≡◌, ℕ, ◌+◌, Bool, true, false, List, [], Option, sym, ◌∙◌, ap, observed, EventBody, same_id, same_texts, slots_of, ClockKind, Device, Failed, written, opened}
 use Rattle.serf_snap.specs.declared.kind.ClockKind.TheVariants as kinds
 use Rattle.serf_snap.specs.EventLines.{least_in}
-use Rattle.serf_agent.specs.declared.config.Config.{Config}
-use Rattle.serf_agent.specs.declared.open_query.OpenQuery.{OpenQuery}
 use Rattle.serf_agent.specs.Events.{event_observed}
 use Rattle.serf_agent.specs.Ideal.{IdealAgent, with_snapshot}
 use Rattle.serf_agent.specs.Inside.{first_concrete, first_track}
@@ -15,11 +13,6 @@ use Rattle.serf_agent.specs.Sound.{IsSound}
 use Rattle.serf_agent.specs.Tracks.{ConcreteTrack, view_of_track}
 use Rattle.serf_agent.specs.View.{ConcreteState, view_of, concrete_with}
 use Rattle.serf_agent.proofs.TrackLaws.{of_life-none, view-observed}
-
-pub concrete-eq : (new : ConcreteState) (config : Config) (member_clock : ℕ) (events : ConcreteTrack EventBody) (queries : ConcreteTrack ℕ) (snapshot : SnapshotView) (asked : List (ℕ × OpenQuery))
-    → new.config ≡ config → new.member_clock ≡ member_clock → new.events ≡ events → new.queries ≡ queries → new.snapshot ≡ snapshot → new.asked ≡ asked
-    → new ≡ record { config = config; member_clock = member_clock; events = events; queries = queries; snapshot = snapshot; asked = asked }
-concrete-eq new config member_clock events queries snapshot asked h1 h2 h3 h4 h5 h6 = λ k. record { config = h1 k; member_clock = h2 k; events = h3 k; queries = h4 k; snapshot = h5 k; asked = h6 k }
 
 -- what is stored at an opening is stored of an agent that was restarted with its settings
 pub first-view : KeptRestartLaws → (i : IdealAgent) (text : List ℕ) (d : Device) → IsSound i → first_concrete i.config text (opened text d) ≡ view_of (restarted text (opened text d) i)

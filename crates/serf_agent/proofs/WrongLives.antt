@@ -55,20 +55,21 @@ none-met {K} k t some h = one h.entries h.many h.met
     one [] many met = absurd (omega arith)
     one (e ∷ es) many met = nothing-met e (All-head (λ (x : TimedEntry K). (x.time ≡ t) × IsMet [] [] x) e es met).1
 
+-- what is above the last line 3 alone isn't an entry of the time 2, and no time is full
+misses : {K : Type 0} (out : List (TimedEntry K)) (e : TimedEntry K) → e.time ≡ 2 → (filter (λ x. nat_lt 3 x.time) out ≡ e ∷ []) ⊎ IsFull {K = K} 2 2 [] [] → ⊥
+misses {K} out e is (inl all) =
+    let late : All (λ (x : TimedEntry K). nat_lt 3 x.time ≡ true) (e ∷ []) = subst (All (λ (x : TimedEntry K). nat_lt 3 x.time ≡ true)) all (filter_passes (λ (x : TimedEntry K). nat_lt 3 x.time) out) in
+    let first : nat_lt 3 2 ≡ true = subst (λ (t : ℕ). nat_lt 3 t ≡ true) is (All-head (λ (x : TimedEntry K). nat_lt 3 x.time ≡ true) e [] late) in
+    absurd (cc first)
+misses out e is (inr (inl full)) = none-met 2 2 (omega arith) full
+misses out e is (inr (inr full)) = none-met 3 full.0 (omega arith) full.2
+
 -- ---- an agent that misses an event
 
 pub misses_an_event : TakesNewBy event_track above-last → ⊥
-misses_an_event promised = by (promised settings text disk [] (Takes event Kept) event refl refl tt (All-nil (KeepsSettings settings)) refl refl (omega arith) (omega arith) (omega arith) tt (nothing-met event))
-  where
-    by : (above-last (first_life settings text disk).agent (Takes event Kept) ≡ event ∷ []) ⊎ IsFull {K = EventBody} 2 2 [] [] → ⊥
-    by (inl out) =
-        let agent = (first_life settings text disk).agent in
-        let passes : All (λ (e : TimedEntry EventBody). nat_lt agent.snapshot.event_clock e.time ≡ true) (event ∷ []) =
-        subst (λ (es : List (TimedEntry EventBody)). All (λ (e : TimedEntry EventBody). nat_lt agent.snapshot.event_clock e.time ≡ true) es) out (filter_passes (λ (e : TimedEntry EventBody). nat_lt agent.snapshot.event_clock e.time) (events_out agent (Takes event Kept))) in
-        let late : nat_lt 3 2 ≡ true = All-head (λ (e : TimedEntry EventBody). nat_lt agent.snapshot.event_clock e.time ≡ true) event [] passes in
-        absurd (cc late)
-    by (inr (inl full)) = none-met 2 2 (omega arith) full
-    by (inr (inr full)) = none-met 3 full.0 (omega arith) full.2
+misses_an_event promised =
+    misses (events_out (first_life settings text disk).agent (Takes event Kept)) event refl
+    (promised settings text disk [] (Takes event Kept) event refl refl tt (All-nil (KeepsSettings settings)) refl refl (omega arith) (omega arith) (omega arith) tt (nothing-met event))
 
 -- ---- an agent that misses a query
 
@@ -84,17 +85,9 @@ asked = record { time = 2; key = 7 }
 
 -- It opens on a text whose last line of queries has the time 3, and then a packet brings a query of the time 2.
 pub misses_a_query : (packet : List ℕ) → BringsQuery asked (decoded packet) → TakesNewBy query_track queries-above-last → ⊥
-misses_a_query packet brings promised = by (promised settings query_text disk [] (Gets true 0 packet Kept) asked refl refl tt (All-nil (KeepsSettings settings)) brings refl tt (omega arith) (omega arith) tt (nothing-met asked))
-  where
-    by : (queries-above-last (first_life settings query_text disk).agent (Gets true 0 packet Kept) ≡ asked ∷ []) ⊎ IsFull {K = ℕ} 2 2 [] [] → ⊥
-    by (inl out) =
-        let agent = (first_life settings query_text disk).agent in
-        let passes : All (λ (e : TimedEntry ℕ). nat_lt agent.snapshot.query_clock e.time ≡ true) (asked ∷ []) =
-        subst (λ (es : List (TimedEntry ℕ)). All (λ (e : TimedEntry ℕ). nat_lt agent.snapshot.query_clock e.time ≡ true) es) out (filter_passes (λ (e : TimedEntry ℕ). nat_lt agent.snapshot.query_clock e.time) (queries_entered agent (Gets true 0 packet Kept))) in
-        let late : nat_lt 3 2 ≡ true = All-head (λ (e : TimedEntry ℕ). nat_lt agent.snapshot.query_clock e.time ≡ true) asked [] passes in
-        absurd (cc late)
-    by (inr (inl full)) = none-met 2 2 (omega arith) full
-    by (inr (inr full)) = none-met 3 full.0 (omega arith) full.2
+misses_a_query packet brings promised =
+    misses (queries_entered (first_life settings query_text disk).agent (Gets true 0 packet Kept)) asked refl
+    (promised settings query_text disk [] (Gets true 0 packet Kept) asked refl refl tt (All-nil (KeepsSettings settings)) brings refl tt (omega arith) (omega arith) tt (nothing-met asked))
 
 -- ---- a file that loses what was flushed
 

@@ -28,7 +28,7 @@ use Rattle.serf_agent.specs.Handed.{Handed}
 use Rattle.serf_agent.specs.Ideal.{IdealAgent, with_config}
 use Rattle.serf_agent.specs.KeptRestart.{HasKept}
 use Rattle.serf_agent.specs.Queries.{close_due, fire_query}
-use Rattle.serf_agent.specs.Receive.{receive_tagged}
+use Rattle.serf_agent.specs.Receive.{receive}
 use Rattle.serf_agent.specs.Restart.{restarted, unopened}
 use Rattle.serf_agent.specs.States.{compact, handed_by, hear, receive_one, save}
 
@@ -50,7 +50,7 @@ pub data Act : Type 0 where
 abbrev pub after : IdealAgent → Act → IdealAgent
 after i (Fires what coalesce w) = (ended i (fire i what coalesce) w).agent
 after i (Asks now id name payload params w) = (ended i (fire_query i now id name payload params) w).agent
-after i (Gets tags now packet w) = (ended i (receive_tagged tags i now packet) w).agent
+after i (Gets tags now packet w) = (ended i (receive tags i now packet) w).agent
 after i (Hears m is_join w) = (ended i (hear i m is_join) w).agent
 after i (Takes e w) = (ended i (receive_one i e) w).agent
 after i (Saves w) = (ended i (save i) w).agent
@@ -71,7 +71,7 @@ pub record HasFlushed (i : IdealAgent) (text : List ℕ) : Type 0 where
 abbrev pub MayAct : IdealAgent → Act → Type 0
 MayAct i (Fires what coalesce w) = MayEnd i (fire i what coalesce) w
 MayAct i (Asks now id name payload params w) = MayEnd i (fire_query i now id name payload params) w
-MayAct i (Gets tags now packet w) = MayEnd i (receive_tagged tags i now packet) w
+MayAct i (Gets tags now packet w) = MayEnd i (receive tags i now packet) w
 MayAct i (Hears m is_join w) = MayEnd i (hear i m is_join) w × (m.member_clock ≤ greatest_clock) × (AsksSink (hear i m is_join) → i.snapshot.stopped ≡ false)
 MayAct i (Takes e w) = (i.snapshot.stopped ≡ false) × (e.time < greatest_clock) × MayEnd i (receive_one i e) w
 MayAct i (Saves w) = MayEnd i (save i) w
@@ -103,14 +103,14 @@ got_entries _ = []
 -- the events that are handed out, each by its time, name and payload
 abbrev pub events_out : IdealAgent → Act → List (TimedEntry EventBody)
 events_out i (Fires what coalesce w) = fired_entries (ended i (fire i what coalesce) w).answer
-events_out i (Gets tags now packet w) = map event_entry (handed_by (ended i (receive_tagged tags i now packet) w).answer)
+events_out i (Gets tags now packet w) = map event_entry (handed_by (ended i (receive tags i now packet) w).answer)
 events_out i (Takes e w) = map event_entry (handed_by (ended i (receive_one i e) w).answer)
 events_out i _ = []
 
 -- the queries, each by its time and ID
 abbrev pub queries_out : IdealAgent → Act → List (TimedEntry ℕ)
 queries_out i (Asks now id name payload params w) = asked_entries (ended i (fire_query i now id name payload params) w).answer
-queries_out i (Gets tags now packet w) = got_entries (ended i (receive_tagged tags i now packet) w).answer
+queries_out i (Gets tags now packet w) = got_entries (ended i (receive tags i now packet) w).answer
 queries_out i _ = []
 
 -- Lives

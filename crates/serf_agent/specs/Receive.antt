@@ -1,5 +1,5 @@
 -- What the ideal agent does with a packet of any kind.
-use Rattle.std.specs.Prelude.{◌≡◌, ◌⊎◌, ℕ, Bool, false, List, if◌then◌else◌, Result, Ok, Err}
+use Rattle.std.specs.Prelude.{◌≡◌, ◌⊎◌, ℕ, Bool, List, if◌then◌else◌, Result, Ok, Err}
 use Rattle.serf_wire.specs.declared.fault.WireFault.{WireFault}
 use Rattle.serf_wire.specs.Decoded.{decoded}
 use Rattle.serf_wire.specs.Message.{Message, user_event, query, query_response, push_pull, foreign}
@@ -26,12 +26,8 @@ receive_read tags i now (Ok m) = receive_message tags i now m
 receive_read tags i now (Err fault) = answers i (Err (Wire fault))
 
 -- a packet that comes at a moment, with what the host says of tag filters
-abbrev pub receive_tagged : Bool → IdealAgent → ℕ → List ℕ → Call (Result Outcome ReceiveFault)
-receive_tagged tags i now packet = if i.snapshot.stopped then answers i (Err Stopped) else receive_read tags i now (decoded packet)
-
--- where the host says nothing, a tag filter excludes every node
-abbrev pub receive : IdealAgent → ℕ → List ℕ → Call (Result Outcome ReceiveFault)
-receive i now packet = receive_tagged false i now packet
+abbrev pub receive : Bool → IdealAgent → ℕ → List ℕ → Call (Result Outcome ReceiveFault)
+receive tags i now packet = if i.snapshot.stopped then answers i (Err Stopped) else receive_read tags i now (decoded packet)
 
 -- memory is wanted only where an event or a query is new, or an answer is counted
 abbrev pub TakesMemory : Call (Result Outcome ReceiveFault) → Type 0

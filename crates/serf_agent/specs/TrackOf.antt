@@ -23,7 +23,7 @@ use Rattle.serf_agent.specs.Ideal.{IdealAgent, Track}
 use Rattle.serf_agent.specs.KeptTexts.{kept_events, kept_queries}
 use Rattle.serf_agent.specs.Lives.{Act, Asks, Gets, Takes, events_out}
 use Rattle.serf_agent.specs.Queries.{fire_query, query_admission}
-use Rattle.serf_agent.specs.Receive.{receive_tagged}
+use Rattle.serf_agent.specs.Receive.{receive}
 
 pub record TrackOf (K : Type 0) : Type 1 where
   -- where an agent has it, the kind of its lines, and the size of its buffer
@@ -77,7 +77,7 @@ asked_query id (Err fault) = []
 -- the queries that enter, each by its time and ID
 abbrev pub queries_entered : IdealAgent → Act → List (TimedEntry ℕ)
 queries_entered i (Asks now id name payload params w) = asked_query id (ended i (fire_query i now id name payload params) w).answer
-queries_entered i (Gets tags now packet w) = got_query (decoded packet) (ended i (receive_tagged tags i now packet) w).answer
+queries_entered i (Gets tags now packet w) = got_query (decoded packet) (ended i (receive tags i now packet) w).answer
 queries_entered i _ = []
 
 -- a packet brings a query of this time and ID

@@ -72,14 +72,15 @@ impl<S: Sink> Model for Agent<S> {
 impl<S: Sink> Agent<S> {
     /// An agent over a sink that keeps this text: the first agent of a node where the text is empty, else the node's
     /// agent in a new life, whose settings may be others than before. It goes on from the text as the agent would whose
-    /// lines the text has: its clocks, and the least times that it takes, are above all that was handed out before. Where its
-    /// settings keep events, its least times are those of the text, and its buffers take back the events and the queries that
-    /// the text keeps: each of them is known as handed out.
+    /// lines the text has: its clocks, and the least times that it takes, are above all that was handed out before. Where
+    /// its settings keep events, its least times are those of the text, and its buffers take back the events and the
+    /// queries that the text keeps: each of them is known as handed out.
     ///
-    /// `BadConfig` where the settings are out of bounds; `OutOfMemory` where the last line of the text is torn, or what it
-    /// keeps is wanted; and only where that line is torn, `SinkFault` where the sink failed as it was ended. Each hands back
-    /// the settings and the sink, and the first two left the sink alone. On a text that is empty or ends in a newline the sink
-    /// isn't called, and where the settings keep no events no memory is taken: slots are made as times enter.
+    /// `BadConfig` where the settings are out of bounds; `OutOfMemory` where the last line of the text is torn, or what
+    /// it keeps is wanted; and only where that line is torn, `SinkFault` where the sink failed as it was ended. Each
+    /// hands back the settings and the sink, and the first two left the sink alone. On a text that is empty or ends in a
+    /// newline the sink isn't called, and where the settings keep no events no memory is taken: slots are made as times
+    /// enter.
     pub fn open(alloc: Global, config: Config, text: &[u8], sink: S) -> Result<Self, NotOpened<S>>
         requires { HasText text.now (S.device sink) }
 
@@ -156,7 +157,7 @@ impl<S: Sink> Agent<S> {
         Ok(Agent::behind(alloc, config, events, queries, snapshot))
     }
 
-    /// The agent that has these tracks at an opening, after the last lines of a snapshot.
+    /// The agent of an opening: its tracks, and a snapshot whose last lines the text has.
     fn behind(
         alloc: Global,
         config: Config,

@@ -29,7 +29,7 @@ impl Model for Asked {
     ghost view = { λ a. a.queries.entries };
 }
 
-/// How many of these queries have a deadline before a moment. Takes no memory.
+/// How many of `queries` have a deadline before the moment `now`. Takes no memory.
 fn count_due(queries: &[OpenQuery], now: u64) -> usize
     ensures { result ≡ length (filter (λ q. nat_lt q.deadline now) queries.now) }
 {
@@ -53,14 +53,14 @@ impl Asked {
         self.queries.get(&time)
     }
 
-    /// All of them, in order. Takes no memory.
+    /// All open queries with their times, in the order in which they were fired. Takes no memory.
     pub(crate) fn iter(&self) -> Iter<'_, u64, OpenQuery>
         ensures { result ≡ self.now }
     {
         self.queries.iter()
     }
 
-    /// All of them without their times, in order. Takes no memory.
+    /// All open queries without their times, in the order in which they were fired. Takes no memory.
     pub(crate) fn values(&self) -> &[OpenQuery]
         ensures { result.now ≡ map (λ q. q.1) self.now }
     {

@@ -72,7 +72,7 @@ fn packet_of(
     }
 }
 
-/// Whether an event is too large to be fired under a limit.
+/// Whether an event is too large to be fired: its texts, or its packet, have more than `limit` bytes.
 fn is_too_large(limit: u64, time: Time, name: &[u8], payload: &[u8], coalesce: bool) -> bool
     ensures { result ≡ is_too_large limit time (event_of name.now payload.now) coalesce }
 {
@@ -91,11 +91,12 @@ impl<S: Sink> Agent<S> {
     /// here, and its packet is to be sent (Serf's `serf.go`, `UserEvent`).
     ///
     /// On Ok the sink was appended this one line and flushed, and nothing else, or was not called where its last line of
-    /// events already says this time or a later one. Where the settings keep events, the event's own line goes with it, in
-    /// the same append, and is written in any case.
+    /// events already says this time or a later one. Where the settings keep events, the event's own line goes with it,
+    /// in the same append, and is written in any case.
     ///
     /// Of the refusals the first that holds is answered. All of them leave the agent and its sink as they were, but
-    /// `SinkFault`, which stops the agent: then the sink failed at this line's append or flush, and may keep a part of it.
+    /// `SinkFault`, which stops the agent: then the sink failed at this line's append or flush, and may keep a part of
+    /// it.
     pub fn fire(
         &mut self,
         alloc: Global,
@@ -158,7 +159,7 @@ impl<S: Sink> Agent<S> {
         self.events.reason(time, &EventView { name, payload })
     }
 
-    /// Takes an event that comes.
+    /// Takes an event that comes: ignores it, or writes its line and hands it out.
     #[inline(always)]
     pub(crate) fn receive_event(
         &mut self,
@@ -185,7 +186,8 @@ impl<S: Sink> Agent<S> {
         }
     }
 
-    /// Takes in an event, once its line is durable.
+    /// Writes an event's line to the sink, enters the event into the buffer once that is durable, and gives what is
+    /// handed out.
     pub(crate) fn take_in(
         &mut self,
         alloc: Global,
@@ -213,7 +215,7 @@ impl<S: Sink> Agent<S> {
         Ok(handed)
     }
 
-    /// Takes an event into the buffer, once its line is durable.
+    /// Writes an event's line to the sink, and enters the event into the buffer once that is durable.
     fn enter_event(
         &mut self,
         alloc: Global,

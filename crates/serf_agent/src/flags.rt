@@ -9,7 +9,7 @@ pub(crate) const ACK: u32 = 1;
 /// A query that nodes don't send on.
 pub(crate) const NO_BROADCAST: u32 = 2;
 
-/// Whether flags have this one.
+/// Whether the bit of `flag` is set in `flags`.
 pub(crate) fn has_flag(flag: u32, flags: u32) -> bool
     ensures { result ≡ has_flag flag flags }
 {

@@ -68,7 +68,7 @@ impl Model for HandedQuery {
     ghost invariant = { λ q. q.parts.value.response_limit ≤ greatest_packet_limit };
 }
 
-/// The last moment at which a query of this timeout can be answered.
+/// The last moment, in nanoseconds, at which a query that came at `now` with this timeout can be answered.
 pub(crate) fn deadline_of(now: u64, timeout: i64) -> u64
     ensures { result ≡ deadline_of now timeout }
 {
@@ -79,7 +79,7 @@ pub(crate) fn deadline_of(now: u64, timeout: i64) -> u64
     }
 }
 
-/// A node's ack of a query.
+/// The packet of a node's ack of a query.
 pub(crate) fn ack_of<F>(alloc: Global, query: &Query<F>, node: &[u8]) -> Result<Bytes, AllocError>
     requires { length node.now ≤ longest_name }
     ensures { IfOk result (λ ack. ack ≡ ack_packet node.now (query_with [] query.now)) }
@@ -99,7 +99,7 @@ pub(crate) fn ack_of<F>(alloc: Global, query: &Query<F>, node: &[u8]) -> Result<
 }
 
 impl HandedQuery {
-    /// What an agent of these settings hands out of a query.
+    /// What an agent with the settings `config` hands out of a query that comes at `now`.
     pub(crate) fn of<F>(
         alloc: Global,
         query: &Query<F>,
@@ -203,7 +203,7 @@ impl HandedQuery {
         self.parts.node.as_slice()
     }
 
-    /// The response of this payload.
+    /// The response to this query that carries `payload`.
     fn response<'a>(&'a self, payload: &'a [u8]) -> QueryResponse<'a>
         ensures { query_response (response_said result)
             ≡ response_of self.now.time self.now.id self.now.node 0 payload.now }
@@ -217,7 +217,7 @@ impl HandedQuery {
         }
     }
 
-    /// The packet of a response that fits.
+    /// The packet of the response that carries `payload`, which is known to fit.
     fn packet_of(&self, alloc: Global, payload: &[u8]) -> Result<Bytes, AllocError>
         requires { length (response_packet self.now payload.now) ≤ greatest_packet_limit }
         ensures { IfOk result (λ packet. packet ≡ response_packet self.now payload.now) }

@@ -31,7 +31,7 @@ impl<'a> Iterator for LentQueries<'a> {
     }
 }
 
-/// The earlier one of two deadlines, where there are two.
+/// The earlier one of `first`, where there is one, and `deadline`.
 fn earlier(first: Option<u64>, deadline: u64) -> u64
     ensures { Some result ≡ lesser deadline first }
 {
@@ -41,7 +41,7 @@ fn earlier(first: Option<u64>, deadline: u64) -> u64
     }
 }
 
-/// The least deadline of these queries, if there is one.
+/// The least deadline of `queries`, if there is a query.
 fn least_deadline(queries: &[OpenQuery]) -> Option<u64>
     ensures { result ≡ least (map (λ q. q.deadline) queries.now) }
 {

@@ -25,7 +25,7 @@ impl Model for OwnLine {
 }
 
 impl OwnLine {
-    /// The line of these bytes.
+    /// The line that `bytes` are.
     pub(crate) fn of(bytes: Vec<u8>) -> OwnLine
         ensures { result ≡ lines_given bytes.items }
     {
@@ -39,14 +39,14 @@ impl OwnLine {
         OwnLine::of(Vec::new(alloc))
     }
 
-    /// Whether it is none.
+    /// Whether there is no line.
     pub(crate) fn is_none(&self) -> bool
         ensures { MatchOption self.now (result ≡ true) (λ line. result ≡ false) }
     {
         self.bytes.is_empty()
     }
 
-    /// Its bytes.
+    /// The line's bytes, none where there is no line.
     fn as_slice(&self) -> &[u8]
         ensures { lines_given result.now ≡ self.now }
     {
@@ -54,7 +54,8 @@ impl OwnLine {
     }
 }
 
-/// Notes a time of a kind, with a line of its own where it has one: both are written by one append and one flush.
+/// Notes a time of a kind, with a line of its own where `line` is one: what has to be written goes to the sink by one
+/// append and one flush.
 pub(crate) fn note_line<S: Sink>(
     snapshot: &mut Snapshot<S>,
     alloc: Global,

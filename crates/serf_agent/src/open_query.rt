@@ -28,14 +28,14 @@ pub struct OpenQuery {
     pub responses: Responses,
 }
 
-/// Whether a name is among these.
+/// Whether `name` is among `names`.
 fn has_name(names: &[Bytes], name: &[u8]) -> bool
     ensures { result ≡ list_any (λ a. bytes_eq a name.now) names.now }
 {
     names.iter().any(|n| n.as_slice() == name)
 }
 
-/// Whether one of the responses is of this node.
+/// Whether one of `responses` is from the node `name`.
 fn has_responded(responses: &[Response], name: &[u8]) -> bool
     ensures { result ≡ list_any (λ a. bytes_eq a.from name.now) responses.now }
 {
@@ -43,7 +43,7 @@ fn has_responded(responses: &[Response], name: &[u8]) -> bool
 }
 
 impl OpenQuery {
-    /// Why an answer is ignored, if it is.
+    /// Why an answer that comes at `now` is ignored, if it is.
     pub(crate) fn ignore_reason(&self, now: u64, answer: &QueryResponse) -> Option<Reason>
         ensures { result ≡ answer_ignore_reason now (response_said answer.now) self.now }
     {
@@ -94,7 +94,7 @@ impl OpenQuery {
         }
     }
 
-    /// Counts an answer, or changes nothing where there is no memory for it.
+    /// Counts an answer among the acks or the responses, or changes nothing where there is no memory for it.
     pub(crate) fn count(&mut self, alloc: Global, answer: &QueryResponse) -> Result<(), AllocError>
         ensures ok { OnOk result (self.new ≡ counted (response_said answer.now) self.old) }
         ensures err { OnErr result (self.new ≡ self.old) }

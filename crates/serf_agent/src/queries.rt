@@ -45,7 +45,7 @@ pub fn is_tag_filter(filter: &[u8]) -> bool
     }
 }
 
-/// Whether a filter lets a node pass, whose host says whether tag filters do.
+/// Whether a filter lets `node` pass; `tags_pass` is what the host says of tag filters.
 pub(crate) fn filter_passes(filter: &[u8], node: &[u8], tags_pass: bool) -> bool
     ensures { result ≡ (if tags_pass && is_tag_filter filter.now then true
         else passes_of filter.now node.now) }
@@ -57,7 +57,7 @@ pub(crate) fn filter_passes(filter: &[u8], node: &[u8], tags_pass: bool) -> bool
     }
 }
 
-/// Whether every filter of a packet lets a node pass, whose host says whether tag filters do.
+/// Whether every filter of a packet lets `node` pass; `tags_pass` is what the host says of tag filters.
 fn lent_filters_pass(filters: Texts, node: &[u8], tags_pass: bool) -> bool
     ensures { result ≡ all_pass tags_pass (texts_left filters.entry) node.now }
 {
@@ -76,7 +76,8 @@ pub(crate) struct Passed {
     pub(crate) ack: Option<Bytes>,
 }
 
-/// Makes what a node hands out and sends of a query.
+/// Makes what a node hands out and sends of a query that comes at `now`: nothing unless its filters let the node pass
+/// (`passed`).
 pub(crate) fn pass<F>(
     alloc: Global,
     query: &Query<F>,
@@ -110,7 +111,7 @@ pub(crate) fn pass<F>(
     })
 }
 
-/// What is answered to an answer that was counted.
+/// What [`Agent::receive`] says of an answer that was counted.
 fn outcome_of(answer: &QueryResponse) -> Outcome
     ensures { result ≡ counted_as (is_ack (response_said answer.now)) }
 {
@@ -122,7 +123,8 @@ fn outcome_of(answer: &QueryResponse) -> Outcome
 }
 
 impl<S: Sink> Agent<S> {
-    /// Takes a query that comes, with what the host says of its tag filters.
+    /// Takes a query that comes at `now`: ignores it, or writes its line and hands it out; `tags_pass` is what the host
+    /// says of its tag filters.
     pub(crate) fn receive_query(
         &mut self,
         alloc: Global,
@@ -168,7 +170,8 @@ impl<S: Sink> Agent<S> {
         self.queries.reason(time, &id)
     }
 
-    /// Takes in a query, once its line is durable.
+    /// Writes a query's line to the sink, enters the query into the buffer once that is durable, and gives what is handed
+    /// out.
     fn take_in_query(
         &mut self,
         alloc: Global,
@@ -200,7 +203,7 @@ impl<S: Sink> Agent<S> {
         Ok(passes)
     }
 
-    /// Takes a query into the buffer, once its line is durable.
+    /// Writes a query's line to the sink, and enters the query's ID into the buffer once that is durable.
     fn enter_query(&mut self, alloc: Global, time: Time, id: u32) -> Result<(), NoteFault>
         requires runs { self.old.concrete.snapshot.stopped ≡ false }
         requires not_later { time_in self.old.concrete.queries.slots time ≤ time }

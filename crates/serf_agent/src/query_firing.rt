@@ -34,7 +34,7 @@ use serf_snap::{ClockKind, NoteFault, Sink, Snapshot};
 use serf_wire::{Bytes, EncodeFault, Query, encode_query, query_len};
 use std::alloc::{AllocError, Global};
 
-/// Whether every filter of a query that is fired lets a node pass, whose host says whether tag filters do.
+/// Whether every filter of a query that is fired lets `node` pass; `tags_pass` is what the host says of tag filters.
 fn filters_pass(filters: &[Bytes], node: &[u8], tags_pass: bool) -> bool
     ensures { result ≡ all_pass tags_pass filters.now node.now }
 {
@@ -43,7 +43,7 @@ fn filters_pass(filters: &[Bytes], node: &[u8], tags_pass: bool) -> bool
         .all(|f| filter_passes(f.as_slice(), node, tags_pass))
 }
 
-/// The packet of a query that is small enough to be fired.
+/// The packet of a query that is known to be small enough to be fired.
 fn packet_of(alloc: Global, parts: &Query<&[Bytes]>) -> Result<Bytes, AllocError>
     requires { length (canonical (query (query_of parts.now))) ≤ greatest_packet_limit }
     ensures { IfOk result (λ packet. packet ≡ canonical (query (query_of parts.now))) }
@@ -55,8 +55,8 @@ fn packet_of(alloc: Global, parts: &Query<&[Bytes]>) -> Result<Bytes, AllocError
     }
 }
 
-/// What a node answers that fires a query, whose host says whether its tags pass the tag filters: the packet that is to be
-/// sent, and what it hands out and sends itself.
+/// What a node answers that fires a query, whose host says whether its tags pass the tag filters: the packet that is to
+/// be sent, and what it hands out and sends itself.
 fn fired_of(
     alloc: Global,
     parts: &Query<&[Bytes]>,
@@ -80,7 +80,7 @@ fn fired_of(
     })
 }
 
-/// A query that takes answers from now on, and has none.
+/// The open query of a query that is fired at `now`: it has no answers yet.
 fn opened(alloc: Global, query: &Query<&[Bytes]>, now: u64) -> OpenQuery
     ensures { result ≡ opened_query now (query_of query.now) }
 {
@@ -93,7 +93,8 @@ fn opened(alloc: Global, query: &Query<&[Bytes]>, now: u64) -> OpenQuery
     }
 }
 
-/// Adds an open query, once its time is noted, with a line of its own where it has one; else the open queries are as before.
+/// Adds an open query, once its time is noted, with a line of its own where it has one; else the open queries are as
+/// before.
 fn note_asked<S: Sink>(
     asked: &mut Asked,
     snapshot: &mut Snapshot<S>,
@@ -126,7 +127,7 @@ impl QueryParams {
         self.timeout <= 0
     }
 
-    /// The query that a node fires so at a time.
+    /// The query with these parameters that `node` fires at `time`.
     fn parts<'a>(
         &'a self,
         time: Time,
@@ -169,11 +170,12 @@ impl<S: Sink> Agent<S> {
     /// out here too. The agent knows no tags: whether tag filters let this node pass is what `params` says.
     ///
     /// On Ok the sink was appended this one line and flushed, and nothing else, or was not called where its last line of
-    /// queries already says this time or a later one. Where the settings keep events, the query's own line goes with it, in
-    /// the same append, and is written in any case.
+    /// queries already says this time or a later one. Where the settings keep events, the query's own line goes with it,
+    /// in the same append, and is written in any case.
     ///
     /// Of the refusals the first that holds is answered. All of them leave the agent and its sink as they were, but
-    /// `SinkFault`, which stops the agent: then the sink failed at this line's append or flush, and may keep a part of it.
+    /// `SinkFault`, which stops the agent: then the sink failed at this line's append or flush, and may keep a part of
+    /// it.
     pub fn query(
         &mut self,
         alloc: Global,
@@ -223,7 +225,8 @@ impl<S: Sink> Agent<S> {
         Ok(self.ask(alloc, now, time, id, name, payload, params)?)
     }
 
-    /// Fires a query of this agent's own at the query clock's time, once its line is durable.
+    /// Writes the line of a query of this agent's own, opens the query once that is durable, and gives its packet and
+    /// what is handed out.
     fn ask(
         &mut self,
         alloc: Global,
@@ -261,7 +264,8 @@ impl<S: Sink> Agent<S> {
         Ok(fired)
     }
 
-    /// Takes a query of this agent's own into the buffer, open for answers, once its line is durable.
+    /// Writes the line of a query of this agent's own to the sink, and enters the query once that is durable, open for
+    /// answers.
     fn enter_asked(&mut self, alloc: Global, time: Time, query: OpenQuery) -> Result<(), NoteFault>
         requires runs { self.old.concrete.snapshot.stopped ≡ false }
         requires at { time ≡ self.old.concrete.queries.clock }

@@ -6,6 +6,7 @@ ghost use Rattle.serf_agent.specs.Reasons.{reason_for};
 use crate::outcome::Reason;
 use serf_window::Verdict;
 
+/// Why an agent ignores what a window has this verdict of; `None` where it is new.
 pub(crate) fn reason_of(verdict: Verdict) -> Option<Reason>
     ensures { result ≡ reason_for verdict }
 {

@@ -18,7 +18,8 @@ use serf_window::Offer;
 use serf_wire::EventView;
 use std::alloc::{AllocError, Global};
 
-/// Which lines a buffer of so many slots can take back, where a text has this last clock and this least time.
+/// Which lines a buffer of `slot_count` slots can take back, where a text has the last clock `last` and the least time
+/// `least`.
 fn within_reach(slot_count: u64, last: u64, least: u64) -> Wanted
     requires { last < greatest_clock }
     ensures { result ≡ within_reach slot_count last least }
@@ -32,7 +33,7 @@ fn within_reach(slot_count: u64, last: u64, least: u64) -> Wanted
     }
 }
 
-/// Events as they are offered to a window.
+/// The events that a text keeps, as they are offered to a window.
 fn event_offers<'a>(
     alloc: Global,
     events: &'a [KeptEvent],
@@ -55,7 +56,7 @@ fn event_offers<'a>(
     Ok(offers)
 }
 
-/// Queries as they are offered to a window.
+/// The queries that a text keeps, as they are offered to a window.
 fn query_offers(alloc: Global, queries: &[KeptQuery]) -> Result<Vec<Offer<u32>>, AllocError>
     ensures { IfOk result (λ offers. entries_offered (λ id. id) offers.items
         ≡ map query_entry queries.now) }
@@ -126,8 +127,8 @@ pub(crate) fn first_tracks(
     let event_reach = within_reach(event_slots, clocks.event_clock, least.events);
     let query_reach = within_reach(query_slots, clocks.query_clock, least.queries);
     let kept = read_kept(alloc, text, event_reach, query_reach)?;
-    let offers = event_offers(alloc, kept.events.as_slice())?;
-    let asked = query_offers(alloc, kept.queries.as_slice())?;
+    let offered_events = event_offers(alloc, kept.events.as_slice())?;
+    let offered_queries = query_offers(alloc, kept.queries.as_slice())?;
     let (last, least_time) = (clocks.event_clock, least.events);
     let events = EventTrack::recalled(
         alloc,
@@ -135,7 +136,7 @@ pub(crate) fn first_tracks(
         per_time,
         last,
         least_time,
-        offers.as_slice(),
+        offered_events.as_slice(),
     )?;
     let (last, least_time) = (clocks.query_clock, least.queries);
     let queries = QueryTrack::recalled(
@@ -144,7 +145,7 @@ pub(crate) fn first_tracks(
         per_time,
         last,
         least_time,
-        asked.as_slice(),
+        offered_queries.as_slice(),
     )?;
     Ok(FirstTracks {
         clocks,

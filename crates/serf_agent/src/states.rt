@@ -50,7 +50,7 @@ fn push_pull_of<'a>(message: &Message<'a>) -> Option<PushPull<'a>>
     }
 }
 
-/// Adds an event where there is room for it.
+/// Adds an event to `out`, which is known to have room for it.
 fn add(out: &mut Vec<EventOut>, event: EventOut)
     requires { vec_len out.old < vec_capacity out.old }
     ensures { out.new.items ≡ out.old.items ++ event ∷ [] }
@@ -62,8 +62,8 @@ fn add(out: &mut Vec<EventOut>, event: EventOut)
 }
 
 impl<S: Sink> Agent<S> {
-    /// The packet of this agent's whole state, to send (Serf's `delegate.go`, `LocalState`): its clocks, its event buffer,
-    /// and these status times and members that left. The agent is unchanged.
+    /// The packet of this agent's whole state, to send (Serf's `delegate.go`, `LocalState`): its clocks, its event
+    /// buffer, and these status times and members that left. The agent is unchanged.
     ///
     /// `Stopped`, `TooLong` where a text or a list is longer than 4,294,967,295, and `OutOfMemory`, only where there is a
     /// packet to send; the first that holds.
@@ -99,7 +99,8 @@ impl<S: Sink> Agent<S> {
         }
     }
 
-    /// Notes the time before the member clock, so that a restart goes on from there (Serf's `snapshot.go`, `updateClock`).
+    /// Notes the time before the member clock, so that a restart goes on from there (Serf's `snapshot.go`,
+    /// `updateClock`).
     ///
     /// `Stopped` and `OutOfMemory` leave the agent and its sink as they were; `SinkFault` stops the agent: then the sink
     /// failed at the line's append or flush, and may keep a part of it. On Ok the sink was appended this one line and
@@ -132,8 +133,8 @@ impl<S: Sink> Agent<S> {
         self.snapshot.note(alloc, ClockKind::Member, time, b"")
     }
 
-    /// Makes the clocks at least those of another agent; where this one joins and its settings say so, the least time of
-    /// events too.
+    /// Makes the clocks at least those of `state`, another agent's; where this agent joins and its settings ignore what
+    /// is old, the least time of events too.
     fn join(&mut self, state: &PushPull, is_join: bool)
         ensures joined { (i : IdealAgent) → IsSound i → self.old.concrete ≡ view_of i
             → (self.new.concrete ≡ view_of (joined (push_pull_said state.now) is_join i))
@@ -146,12 +147,13 @@ impl<S: Sink> Agent<S> {
         } else {
             0
         };
+        // (a state says the time that a clock draws next: the one before it was seen)
         self.member_clock.observe_before(state.member_clock);
         self.events.raise(state.event_clock, minimum);
         self.queries.raise(state.query_clock, 0);
     }
 
-    /// Notes the line of a least time of events, if there is one.
+    /// Writes the line of a least time of events to the sink and flushes it, if there is such a line.
     fn note_least(&mut self, alloc: Global, line: &OwnLine) -> Result<(), NoteFault>
         requires { self.old.concrete.snapshot.stopped ≡ false }
         ensures noted { OnOk result (self.new.concrete ≡ concrete_with
@@ -169,8 +171,8 @@ impl<S: Sink> Agent<S> {
         note_line(&mut self.snapshot, alloc, ClockKind::Event, no_time, line)
     }
 
-    /// Hears of the clocks of another agent. Where this one joins, and its settings ignore what is old and keep events, the line
-    /// of the least time that this sets is written first.
+    /// Hears of the clocks of another agent. Where this one joins, and its settings ignore what is old and keep events,
+    /// the line of the least time that this sets is written first.
     fn hear(&mut self, alloc: Global, state: &PushPull, is_join: bool) -> Result<(), MergeFault>
         requires { self.old.concrete.snapshot.stopped ≡ false }
         ensures heard { (i : IdealAgent) → IsSound i → self.old.concrete ≡ view_of i
@@ -188,20 +190,22 @@ impl<S: Sink> Agent<S> {
     }
 
     /// Merges the whole state of another agent (Serf's `delegate.go`, `MergeRemoteState`): its clocks, the least time of
-    /// events where this agent joins and is set to ignore what is old, and its events, of which those that are new are added
-    /// to `out` in order. What the packet says is lent.
+    /// events where this agent joins and is set to ignore what is old, and its events, of which those that are new are
+    /// added to `out` in order. What the packet says is lent.
     ///
-    /// Where this agent joins, and its settings ignore what is old and keep events, the line of the least time is written before
-    /// anything is heard of, by one append and one flush, at each such join: what is below it is refused in later lives too.
+    /// Where this agent joins, and its settings ignore what is old and keep events, the line of the least time is written
+    /// before anything is heard of, by one append and one flush, at each such join: what is below it is refused in later
+    /// lives too.
     ///
     /// Each event that is new is written first: the sink is appended its one line and flushed, or is not called where its
     /// last line of events already says the time or a later one; one event's line after the other, in the packet's order.
-    /// Where the settings keep events, each event's own line goes with it, in the same append, and is written in any case.
+    /// Where the settings keep events, each event's own line goes with it, in the same append, and is written in any
+    /// case.
     ///
-    /// Of the refusals the first that holds is answered. `Stopped`, `Wire` and `NotPushPull` leave all as it was. `OutOfMemory`,
-    /// after which the same merge may be called again, and `SinkFault`, which stops the agent, come at one of the lines. At the
-    /// line of a join's least time nothing was heard of, and `out` is as it was. At an event's line the clocks were heard of, and
-    /// `out` has just what was handed out before that event.
+    /// Of the refusals the first that holds is answered. `Stopped`, `Wire` and `NotPushPull` leave all as it was.
+    /// `OutOfMemory`, after which the same merge may be called again, and `SinkFault`, which stops the agent, come at one
+    /// of the lines. At the line of a join's least time nothing was heard of, and `out` is as it was. At an event's line
+    /// the clocks were heard of, and `out` has just what was handed out before that event.
     pub fn merge_remote_state<'a>(
         &mut self,
         alloc: Global,
@@ -229,7 +233,7 @@ impl<S: Sink> Agent<S> {
         }
     }
 
-    /// Merges a message.
+    /// Merges a message that is a push/pull, or refuses another one.
     fn merge_message<'a>(
         &mut self,
         alloc: Global,
@@ -259,7 +263,7 @@ impl<S: Sink> Agent<S> {
         }
     }
 
-    /// Receives the events of slots, one after another.
+    /// Receives the events of `slots`, one after another; those that are new are added to `out`.
     fn receive_slots(
         &mut self,
         alloc: Global,
@@ -282,7 +286,7 @@ impl<S: Sink> Agent<S> {
         Ok(())
     }
 
-    /// Receives the events of a slot, one after another.
+    /// Receives the events of `slot`, one after another; those that are new are added to `out`.
     fn receive_slot(
         &mut self,
         alloc: Global,
@@ -305,7 +309,7 @@ impl<S: Sink> Agent<S> {
         }
     }
 
-    /// Receives the events of one time, one after another.
+    /// Receives the events of one time, one after another; those that are new are added to `out`.
     fn receive_events(
         &mut self,
         alloc: Global,
@@ -331,7 +335,7 @@ impl<S: Sink> Agent<S> {
         Ok(())
     }
 
-    /// Receives one event of a push/pull.
+    /// Receives one event of a push/pull: it is ignored, or written, entered and added to `out`.
     fn receive_one(
         &mut self,
         alloc: Global,
@@ -357,7 +361,7 @@ impl<S: Sink> Agent<S> {
         }
     }
 
-    /// Takes in one event of a push/pull that is new.
+    /// Writes the line of an event of a push/pull that is new, enters the event, and adds it to `out`.
     fn take_one(
         &mut self,
         alloc: Global,
@@ -388,12 +392,12 @@ impl<S: Sink> Agent<S> {
 }
 
 impl<S: ReplaceSink> Agent<S> {
-    /// Replaces what the sink keeps by the last line of each clock, and where the settings keep events by the lines of what the
-    /// buffers hold too. The rest of the agent is unchanged.
+    /// Replaces what the sink keeps by the last line of each clock, and where the settings keep events by the lines of
+    /// what the buffers hold too. The rest of the agent is unchanged.
     ///
-    /// On Ok the sink's text was replaced once, and it was neither appended to nor flushed. `Stopped` leaves all as it was,
-    /// the counts of the sink's calls too; `OutOfMemory` leaves the agent as it was, and its sink but for a call that is
-    /// counted; `SinkFault` stops the agent, and what is durable is then the old text or the new one.
+    /// On Ok the sink's text was replaced once, and it was neither appended to nor flushed. `Stopped` leaves all as it
+    /// was, the counts of the sink's calls too; `OutOfMemory` leaves the agent as it was, and its sink but for a call
+    /// that is counted; `SinkFault` stops the agent, and what is durable is then the old text or the new one.
     pub fn compact(&mut self, alloc: Global) -> Result<(), NoteFault>
         ensures step { (i : IdealAgent) → IsSound i → self.old.concrete ≡ view_of i
             → result ≢ Err NoteFault.OutOfMemory

@@ -65,8 +65,8 @@ pub(crate) fn told_query(
     Ok(OwnLine::of(line))
 }
 
-/// The line of the least time of events that a join with this state sets, where the settings ignore what is old and keep events.
-/// Memory is wanted only where there is one.
+/// The line of the least time of events that a join with this state sets, where the settings ignore what is old and keep
+/// events. Memory is wanted only where there is one.
 pub(crate) fn told_least(
     alloc: Global,
     config: &Config,
@@ -98,11 +98,11 @@ pub(crate) trait Told: Drop {
 
     const KIND: ClockKind;
 
-    /// Adds the line of its entry of a time.
+    /// Appends the line of its entry of `time` to `text`.
     fn put_line(&self, text: &mut Vec<u8>, time: Time) -> Result<(), AllocError>
         ensures { OnOk result (text.new.items ≡ text.old.items ++ line time self.now) };
 
-    /// How long this line is. A length stays at 2^64 - 1.
+    /// How long the line of its entry of `time` is, in bytes. A length stays at 2^64 - 1.
     fn line_length(&self, time: Time) -> u64
         ensures { result ≡ counted (line time self.now) };
 }
@@ -139,7 +139,7 @@ impl Told for u32 {
     }
 }
 
-/// Adds the lines of what is held of a time.
+/// Appends to `text` the lines of what is held of `time`.
 fn put_held<K: Told>(text: &mut Vec<u8>, time: Time, held: &[K]) -> Result<(), AllocError>
     ensures { OnOk result (text.new.items ≡ text.old.items ++ flat_map (K.line time) held.now) }
 {
@@ -149,7 +149,7 @@ fn put_held<K: Told>(text: &mut Vec<u8>, time: Time, held: &[K]) -> Result<(), A
     Ok(())
 }
 
-/// Adds the lines of what a slot holds, where its time isn't below this.
+/// Appends to `text` the lines of what `slot` holds, where its time isn't below `least`.
 fn put_slot<K: Told>(text: &mut Vec<u8>, least: u64, slot: &LentSlot<K>) -> Result<(), AllocError>
     ensures { OnOk result (text.new.items ≡ text.old.items
         ++ lines_of_slot K.line least (lent_slot slot.now)) }
@@ -160,7 +160,7 @@ fn put_slot<K: Told>(text: &mut Vec<u8>, least: u64, slot: &LentSlot<K>) -> Resu
     put_held(text, slot.time, slot.held)
 }
 
-/// Adds the lines of what slots hold from a time on.
+/// Appends to `text` the lines of what `slots` hold of the time `least` and later ones.
 fn put_slots<K: Told>(text: &mut Vec<u8>, least: u64, slots: LentSlots<K>) -> Result<(), AllocError>
     ensures { OnOk result (text.new.items ≡ text.old.items
         ++ flat_map (lines_of_slot K.line least) (slots_to_come slots.entry)) }
@@ -171,7 +171,8 @@ fn put_slots<K: Told>(text: &mut Vec<u8>, least: u64, slots: LentSlots<K>) -> Re
     Ok(())
 }
 
-/// The least time that a compaction tells of a track, whose buffer has so many slots.
+/// The least time that a compaction writes of a track, whose buffer has `slot_count` slots and whose last clock line says
+/// `last`.
 pub(crate) fn least_told<K: Drop>(track: &Track<K>, slot_count: u64, last: u64) -> u64
     requires { last < greatest_clock }
     ensures { result ≡ least_told slot_count last track.now.minimum }
@@ -179,7 +180,7 @@ pub(crate) fn least_told<K: Drop>(track: &Track<K>, slot_count: u64, last: u64) 
     track.minimum().max((last + 1).saturating_sub(slot_count))
 }
 
-/// Adds the lines of what is stored of a track.
+/// Appends to `text` the lines of what a compaction stores of `track`.
 fn put_stored<K: Told>(
     text: &mut Vec<u8>,
     slot_count: u64,
@@ -196,8 +197,8 @@ fn put_stored<K: Told>(
 }
 
 impl<S: Sink> Agent<S> {
-    /// The lines that a compaction keeps beside the last clock lines, where the settings keep events: of each kind the least time
-    /// that may be taken, and what the buffer holds from there on. Else there are none.
+    /// The lines that a compaction keeps beside the last clock lines, where the settings keep events: of each kind the
+    /// least time that may be taken, and what the buffer holds from there on. Else there are none.
     pub(crate) fn told_lines(&self, alloc: Global) -> Result<Vec<u8>, AllocError>
         ensures { IfOk result (λ lines. lines_given lines.items ≡ told_lines self.now.concrete) }
     {

@@ -1,5 +1,5 @@
-//! How long the lines of what an agent keeps over a restart are, without making them. A length stays at 2^64 - 1. None of these
-//! calls takes memory.
+//! How long the lines of what an agent keeps over a restart are, without making them. A length stays at 2^64 - 1. None of
+//! these calls takes memory.
 
 ghost use Rattle.std.specs.Prelude.{◌≡◌, ◌<◌};
 ghost use Rattle.std.specs.List.{flat_map};
@@ -16,7 +16,7 @@ use serf_lamport::Time;
 use serf_snap::{Sink, least_line_length};
 use serf_wire::{LentSlot, LentSlots};
 
-/// How long the lines of what is held of a time are.
+/// How many bytes the lines of what is held of `time` have.
 fn held_length<K: Told>(time: Time, held: &[K]) -> u64
     ensures { result ≡ counted (flat_map (K.line time) held.now) }
 {
@@ -27,7 +27,7 @@ fn held_length<K: Told>(time: Time, held: &[K]) -> u64
     total
 }
 
-/// How long the lines are of what a slot holds, where its time isn't below this.
+/// How many bytes the lines of what `slot` holds have, where its time isn't below `least`; else none.
 fn slot_length<K: Told>(least: u64, slot: &LentSlot<K>) -> u64
     ensures { result ≡ counted (lines_of_slot K.line least (lent_slot slot.now)) }
 {
@@ -37,7 +37,7 @@ fn slot_length<K: Told>(least: u64, slot: &LentSlot<K>) -> u64
     held_length(slot.time, slot.held)
 }
 
-/// How long the lines are of what slots hold from a time on.
+/// How many bytes the lines have of what `slots` hold of the time `least` and later ones.
 fn slots_length<K: Told>(least: u64, slots: LentSlots<K>) -> u64
     ensures { result ≡ counted (flat_map (lines_of_slot K.line least) (slots_to_come slots.entry)) }
 {
@@ -48,7 +48,7 @@ fn slots_length<K: Told>(least: u64, slots: LentSlots<K>) -> u64
     total
 }
 
-/// How long the lines of what is stored of a track are.
+/// How many bytes the lines have that a compaction stores of `track`.
 fn stored_length<K: Told>(slot_count: u64, last: u64, track: &Track<K>) -> u64
     requires { last < greatest_clock }
     ensures { result

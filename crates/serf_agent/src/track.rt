@@ -70,7 +70,7 @@ impl<K: Drop> Track<K> {
         }
     }
 
-    /// A track that has nothing, above the last time of a text. Takes no memory.
+    /// A track that holds nothing, and takes only what is later than a snapshot's last clock, `last`. Takes no memory.
     pub(crate) fn after(alloc: Global, slot_count: u64, per_time: u64, last: u64) -> Track<K>
         requires some_slot { 0 < slot_count }
         requires most_slots { slot_count ≤ greatest_slot_count }
@@ -86,8 +86,8 @@ impl<K: Drop> Track<K> {
         track
     }
 
-    /// The track that takes back what a text keeps, where it has this last clock and this least time: the clock is above the
-    /// last one, and no less than the least time; no time below the buffer's reach may be taken.
+    /// The track that takes back what a text keeps, whose last clock is `last` and whose least time is `least`: the clock
+    /// is above the last one, and no less than the least time; no time below the buffer's reach may be taken.
     pub(crate) fn recalled<L: LentKey<K>>(
         alloc: Global,
         slot_count: u64,
@@ -123,18 +123,21 @@ impl<K: Drop> Track<K> {
         self.window.held()
     }
 
+    /// The time that the clock draws next, if it is one.
     pub(crate) fn time(&self) -> u64
         ensures { result ≡ self.now.clock }
     {
         self.clock.time()
     }
 
+    /// The least time that is taken.
     pub(crate) fn minimum(&self) -> u64
         ensures { result ≡ self.now.minimum }
     {
         self.minimum
     }
 
+    /// The slots of the window, in order.
     pub(crate) fn slots(&self) -> LentSlots<'_, K>
         ensures { map slot_view (slots_lent result) ≡ self.now.window.slots }
     {
@@ -161,7 +164,7 @@ impl<K: Drop> Track<K> {
         Time::new(self.clock.time())
     }
 
-    /// Why what comes is ignored, if it is.
+    /// Why an entry that comes with this time and key is ignored, if it is.
     pub(crate) fn reason<L: LentKey<K>>(&self, time: Time, key: &L) -> Option<Reason>
         ensures reason { (track : ideal.Track K) (n life last : ℕ) → IsTrackSound track life last
             → concrete_of self.now ≡ view_of_track n life track → result
@@ -176,6 +179,7 @@ impl<K: Drop> Track<K> {
         reason_of(verdict)
     }
 
+    /// Makes the clock later than `time`; the window stays as it is.
     pub(crate) fn observe(&mut self, time: Time)
         ensures clock { self.new.clock ≡ observed self.old.clock time }
         ensures minimum { self.new.minimum ≡ self.old.minimum }
@@ -184,7 +188,7 @@ impl<K: Drop> Track<K> {
         self.clock.observe(time);
     }
 
-    /// Makes the clock at least this, and the least time at least that.
+    /// Makes the clock at least `clock`, and the least time at least `minimum`.
     pub(crate) fn raise(&mut self, clock: u64, minimum: u64)
         ensures clock { self.new.clock ≡ max self.old.clock clock }
         ensures minimum { self.new.minimum ≡ max self.old.minimum minimum }
@@ -194,7 +198,7 @@ impl<K: Drop> Track<K> {
         self.minimum = self.minimum.max(minimum);
     }
 
-    /// Makes what comes ready to enter.
+    /// Makes ready what [`Track::enter`] takes: all memory that the entry of this time and key needs is there then.
     pub(crate) fn prepare<L: LentKey<K>>(
         &mut self,
         alloc: Global,
@@ -209,7 +213,7 @@ impl<K: Drop> Track<K> {
         self.window.prepare(alloc, time, key)
     }
 
-    /// Takes an entry in, and observes its time.
+    /// Takes in an entry that is ready, and observes its time. Takes no memory.
     pub(crate) fn enter(&mut self, time: Time, entry: Entry<K>)
         requires entry { entry.time ≡ time }
         requires room { 0 < room_for self.old.window time }

@@ -22,7 +22,7 @@ use Rattle.serf_agent.specs.Devices.{LeavesDevice, device_after}
 use Rattle.serf_agent.specs.Events.{admission, fire, fire_fault, fired_as, received_as}
 use Rattle.serf_agent.specs.Ideal.{IdealAgent}
 use Rattle.serf_agent.specs.Queries.{answer_ignore_reason, asked_at, counts_where, fire_query, is_ack, is_full, query_admission, query_at, query_fault, query_fired_as, query_received_as, response_received_as, response_received_at}
-use Rattle.serf_agent.specs.Receive.{receive_message, receive_read, receive_tagged}
+use Rattle.serf_agent.specs.Receive.{receive_message, receive_read, receive}
 use Rattle.serf_agent.specs.Sound.{IsSound}
 use Rattle.serf_agent.specs.Steps.{Steps}
 use Rattle.serf_agent.specs.Told.{noted_with}
@@ -90,7 +90,7 @@ read-plain : (tags : Bool) (i : IdealAgent) (now : ℕ) (m : Result Message Wire
 read-plain tags i now (Ok m) = message-plain tags i now m
 read-plain tags i now (Err fault) = refl
 
-pub receive-plain : (tags : Bool) (now : ℕ) (packet : List ℕ) (i : IdealAgent) → IsPlain i (receive_tagged tags i now packet)
+pub receive-plain : (tags : Bool) (now : ℕ) (packet : List ℕ) (i : IdealAgent) → IsPlain i (receive tags i now packet)
 receive-plain tags now packet i = plain-if i i.snapshot.stopped _ (receive_read tags i now (decoded packet)) refl (read-plain tags i now (decoded packet))
 
 fired-plain : (fault : Option FireFault) (i : IdealAgent) (what : EventBody) (coalesce : Bool) → IsPlain i (fired_as fault i what coalesce)

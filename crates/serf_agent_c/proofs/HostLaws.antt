@@ -20,7 +20,7 @@ use Rattle.serf_agent.specs.Calls.{Call, Ends, Notes, Replaces, MayEnd, answers,
 use Rattle.serf_agent.specs.Events.{fire}
 use Rattle.serf_agent.specs.Lives.{Closes, Opens, after as ideal_after}
 use Rattle.serf_agent.specs.Queries.{fire_query}
-use Rattle.serf_agent.specs.Receive.{receive_tagged}
+use Rattle.serf_agent.specs.Receive.{receive}
 use Rattle.serf_agent.specs.Restart.{HasPast}
 use Rattle.serf_agent.specs.States.{save}
 use Rattle.serf_agent.specs.Devices.{LeavesDevice}
@@ -418,7 +418,7 @@ compacted s t code i file says f = by (is_ready s) refl
 pub host_steps : HostSteps
 host_steps = record {
   fires = λ name payload coalesce s t code i file says f. called (λ r. gaves.Fired r) fire_code (λ i. fire i (event_of name payload) coalesce) (fire-plain (event_of name payload) coalesce) s t code i file says.0 (λ ready. (says.1 ready).text) f;
-  receives = λ tags now packet s t code i file says f. called (λ r. gaves.Received r) receive_code (λ i. receive_tagged tags i now packet) (receive-plain tags now packet) s t code i file says.0 (λ ready. (says.1 ready).text) f;
+  receives = λ tags now packet s t code i file says f. called (λ r. gaves.Received r) receive_code (λ i. receive tags i now packet) (receive-plain tags now packet) s t code i file says.0 (λ ready. (says.1 ready).text) f;
   asks = λ now id name payload addr params s t code i file says f. called (λ r. gaves.Asked r) query_code (λ i. fire_query i now id name payload (params_of s.filters addr params)) (query-fire-plain now id name payload (params_of s.filters addr params)) s t code i file says.0 (λ ready. (says.1 ready).2) f;
   saves = λ s t code i file says f. called (λ r. gaves.Noted r) note_code (λ i. save i) save-plain s t code i file says.0 (λ ready. (says.1 ready).text) f;
   writes = written-follows;

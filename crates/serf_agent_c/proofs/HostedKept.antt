@@ -26,7 +26,7 @@ use Rattle.serf_agent.specs.KeptLives.{IsDurable, MayGoOn, MayKeep, StartsWithDu
 use Rattle.serf_agent.specs.KeptTexts.{whatever}
 use Rattle.serf_agent.specs.Lives.{Act, Asks, Closes, Compacts, Fires, Gets, Hears, MayAct, Opens, Saves, Takes, after, event_entry}
 use Rattle.serf_agent.specs.Queries.{fire_query}
-use Rattle.serf_agent.specs.Receive.{receive_read, receive_tagged}
+use Rattle.serf_agent.specs.Receive.{receive_read, receive}
 use Rattle.serf_agent.specs.Sound.{IsSound}
 use Rattle.serf_agent.specs.States.{delivered, handed_by, save, told_lines, joined}
 use Rattle.serf_agent.specs.Taking.{TakesOrFull, TakingLaws}
@@ -84,8 +84,8 @@ pub record Tracking {K : Type 0} (kind : Showing K) : Type 0 where
   pub alone : (t : ℕ) (config : Config) (m : PushPull) → kind.which.HearsNoneAbove t config m false
   pub fires : (i : IdealAgent) (name payload : List ℕ) (flag : Bool) → kind.which.entered i (Fires (event_of name payload) flag Kept) ≡ kind.entered (Fire name payload flag) (gaves.Fired (ended i (fire i (event_of name payload) flag) Kept).answer)
   pub fires_on : (i : IdealAgent) (name payload : List ℕ) (flag : Bool) → kind.which.entered i (Fires (event_of name payload) flag Kept) ≡ kind.entered (Burst (bursts.Fires name payload flag)) (gaves.Fired (ended i (fire i (event_of name payload) flag) Kept).answer)
-  pub gets : (i : IdealAgent) (tags : Bool) (now : ℕ) (packet : List ℕ) → kind.which.entered i (Gets tags now packet Kept) ≡ kind.entered (Receive tags now packet) (gaves.Received (ended i (receive_tagged tags i now packet) Kept).answer)
-  pub gets_on : (i : IdealAgent) (tags : Bool) (now : ℕ) (packet : List ℕ) → kind.which.entered i (Gets tags now packet Kept) ≡ kind.entered (Burst (bursts.Receives tags now packet)) (gaves.Received (ended i (receive_tagged tags i now packet) Kept).answer)
+  pub gets : (i : IdealAgent) (tags : Bool) (now : ℕ) (packet : List ℕ) → kind.which.entered i (Gets tags now packet Kept) ≡ kind.entered (Receive tags now packet) (gaves.Received (ended i (receive tags i now packet) Kept).answer)
+  pub gets_on : (i : IdealAgent) (tags : Bool) (now : ℕ) (packet : List ℕ) → kind.which.entered i (Gets tags now packet Kept) ≡ kind.entered (Burst (bursts.Receives tags now packet)) (gaves.Received (ended i (receive tags i now packet) Kept).answer)
   pub asks : (i : IdealAgent) (now id : ℕ) (name payload addr : List ℕ) (params : Params) (how : QueryParams) → kind.which.entered i (Asks now id name payload how Kept) ≡ kind.entered (Query now id name payload addr params) (gaves.Asked (ended i (fire_query i now id name payload how) Kept).answer)
   pub asks_on : (i : IdealAgent) (now id : ℕ) (name payload : List ℕ) (how : QueryParams) → kind.which.entered i (Asks now id name payload how Kept) ≡ kind.entered (Burst (bursts.Asks now id name payload how)) (gaves.Asked (ended i (fire_query i now id name payload how) Kept).answer)
   -- the events of a merge
@@ -113,8 +113,8 @@ event_tracking taking = record {
   alone = λ t config m no. absurd (let wrong : false ≡ true = no in cc);
   fires = λ i name payload flag. ap (λ (g : Given). g.events) (fired-out (ended i (fire i (event_of name payload) flag) Kept).answer);
   fires_on = λ i name payload flag. ap (λ (g : Given). g.events) (fired-out (ended i (fire i (event_of name payload) flag) Kept).answer);
-  gets = λ i tags now packet. ap (λ (g : Given). g.events) (received-out (ended i (receive_tagged tags i now packet) Kept).answer);
-  gets_on = λ i tags now packet. ap (λ (g : Given). g.events) (received-out (ended i (receive_tagged tags i now packet) Kept).answer);
+  gets = λ i tags now packet. ap (λ (g : Given). g.events) (received-out (ended i (receive tags i now packet) Kept).answer);
+  gets_on = λ i tags now packet. ap (λ (g : Given). g.events) (received-out (ended i (receive tags i now packet) Kept).answer);
   asks = λ i now id name payload addr params how. ap (λ (g : Given). g.events) (asked-out (ended i (fire_query i now id name payload how) Kept).answer);
   asks_on = λ i now id name payload how. ap (λ (g : Given). g.events) (asked-out (ended i (fire_query i now id name payload how) Kept).answer);
   merges = λ es. map event_entry es;
@@ -435,7 +435,7 @@ offered-kept {K} kind track state g what file s t met w offer code offers says p
         → Contains (enters kind offer s t) e ⊎ IsFull g.settings.per_time g.time (met ++ enters kind offer s t) []
     by (Receive tags now packet) offers says passed keeps young = elim (admitted young w.goes) [
       | inl none ↦
-          (let call = receive_tagged tags i now packet in
+          (let call = receive tags i now packet in
           let gives = says.0.2 offers.0 other in
           let step = kept-step i call gives.0 s.agent.device t.agent f.calm (receive-plain tags now packet i) (says.0.3 offers.0 other gives.0 gives.1 i f.sound f.state) in
           let gave : t.gave ≡ gaves.Received (ended i call Kept).answer = gives.1 ∙ ap (λ (r : Result Outcome ReceiveFault). gaves.Received r) step.0 in
@@ -446,7 +446,7 @@ offered-kept {K} kind track state g what file s t met w offer code offers says p
       | inl none ↦
           (let call = bursts.Receives tags now packet in
           let b = says.2 other i [] s (record { state = f.state; sound = f.sound; calm = f.calm; flushed = f.flushed; outcomes = sym (append-nil s.burst.items); lines = sym (append-nil (lacking s.agent.device s.written)) }) in
-          let x = answereds.Received (ended i (receive_tagged tags i now packet) Kept).answer in
+          let x = answereds.Received (ended i (receive tags i now packet) Kept).answer in
           inl (one (enters kind (Burst call) s t) (waiting-since kind call s t x b.outcomes ∙ sym (track.gets_on i tags now packet) ∙ track.offers i tags now packet e brings w.runs none)))
       | inr full ↦ inr (full-then (enters kind (Burst (bursts.Receives tags now packet)) s t) full)
     ]

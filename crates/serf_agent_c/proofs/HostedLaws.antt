@@ -13,7 +13,7 @@ use Rattle.serf_agent.specs.Events.{fire}
 use Rattle.serf_agent.specs.Ideal.{IdealAgent}
 use Rattle.serf_agent.specs.Lives.{Asks, Fires, Gets, Opens, Saves, first_life}
 use Rattle.serf_agent.specs.Lives as lives
-use Rattle.serf_agent.specs.Receive.{receive_tagged}
+use Rattle.serf_agent.specs.Receive.{receive}
 use Rattle.serf_agent_c.specs.declared.answered.Answered.{Answered}
 use Rattle.serf_agent_c.specs.declared.code.Code.{Code}
 use Rattle.serf_agent_c.specs.declared.gave.Gave.{Gave}
@@ -204,8 +204,8 @@ does laws name h (Calls (Burst (bursts.Fires what payload flag)) t code) k may =
 does laws name h (Calls (Next old new) t code) k may = next-hosted h t code old new k may.0
 does laws name h (Calls (Receive tags now packet) t code) k may =
     let i = k.inside.agent in
-    went-hosted laws (λ r. gaves.Received r) h t (Gets tags now packet Kept) i (receive_tagged tags i now packet) k refl (λ ready. (may.0.1 ready).burst)
-    (host_steps.receives tags now packet h.session t code i h.file may.0 k.inside.follows) refl (λ ends. ends) (λ m at. tells m (laws.bytes packet m may.1 at)) (received-out (ended i (receive_tagged tags i now packet) Kept).answer)
+    went-hosted laws (λ r. gaves.Received r) h t (Gets tags now packet Kept) i (receive tags i now packet) k refl (λ ready. (may.0.1 ready).burst)
+    (host_steps.receives tags now packet h.session t code i h.file may.0 k.inside.follows) refl (λ ends. ends) (λ m at. tells m (laws.bytes packet m may.1 at)) (received-out (ended i (receive tags i now packet) Kept).answer)
 does laws name h (Calls (Query now id what payload addr params) t code) k may =
     let i = k.inside.agent in
     let how = params_of h.session.filters addr params in
@@ -217,9 +217,9 @@ does laws name h (Calls Save t code) k may =
     (host_steps.saves h.session t code i h.file may.0 k.inside.follows) refl (λ ends. ends) tt (noted-out (ended i (save i) Kept).answer)
 does laws name h (Calls (Burst (bursts.Receives tags now packet)) t code) k may =
     let i = k.inside.agent in
-    let call = receive_tagged tags i now packet in
+    let call = receive tags i now packet in
     bursted-hosted laws (λ r. answereds.Received r) h t (Gets tags now packet Kept) i call k refl may.0.0.0 may.0.0.3
-    (bursted (λ r. answereds.Received r) (λ j. receive_tagged tags j now packet) (bursts.Receives tags now packet) (λ j. refl) (receive-plain tags now packet) h.session t code i h.file may.0.0 may.0.1 may.0.2 k.inside.follows)
+    (bursted (λ r. answereds.Received r) (λ j. receive tags j now packet) (bursts.Receives tags now packet) (λ j. refl) (receive-plain tags now packet) h.session t code i h.file may.0.0 may.0.1 may.0.2 k.inside.follows)
     refl (λ ends. ends) (λ m at. tells m (laws.bytes packet m may.1 at)) (received-out (ended i call Kept).answer)
 does laws name h (Calls (Burst (bursts.Asks now id what payload params)) t code) k may =
     let i = k.inside.agent in
@@ -309,7 +309,7 @@ calls-within laws kind track g file s t met w (Fire what payload flag) code says
     (λ ends. record { may = ends; keep = told; go = (ends, told); same = tt; told = λ c. tt; none = refl }) (λ ready gives. track.fires w.agent what payload flag ∙ ap (λ (x : Gave). kind.entered (Fire what payload flag) x) (sym gives) ∙ made-now (is_ready s) (kind.entered (Fire what payload flag) t.gave) ready)
 calls-within laws kind track g file s t met w (Receive tags now packet) code says passed keeps =
     let told : IsTellable (Gets tags now packet Kept) = λ m at. tells m (laws.bytes packet m passed at) in
-    went-within laws kind track g (λ r. gaves.Received r) file s t met (enters kind (Receive tags now packet) s t) w (Gets tags now packet Kept) (receive_tagged tags w.agent now packet) (host_steps.receives tags now packet s t code w.agent file says w.follows) (receive-plain tags now packet w.agent) refl
+    went-within laws kind track g (λ r. gaves.Received r) file s t met (enters kind (Receive tags now packet) s t) w (Gets tags now packet Kept) (receive tags w.agent now packet) (host_steps.receives tags now packet s t code w.agent file says w.follows) (receive-plain tags now packet w.agent) refl
     (λ ends. record { may = ends; keep = told; go = (ends, told); same = tt; told = λ c. tt; none = refl }) (λ ready gives. track.gets w.agent tags now packet ∙ ap (λ (x : Gave). kind.entered (Receive tags now packet) x) (sym gives) ∙ made-now (is_ready s) (kind.entered (Receive tags now packet) t.gave) ready)
 calls-within laws kind track g file s t met w (Query now id what payload addr params) code says passed keeps =
     let how = params_of s.filters addr params in
@@ -338,8 +338,8 @@ calls-within laws kind track g file s t met w (Burst (bursts.Fires what payload 
     (λ ends. record { may = ends; keep = told; go = (ends, told); same = tt; told = λ c. tt; none = refl }) (track.fires_on w.agent what payload flag)
 calls-within laws kind track g file s t met w (Burst (bursts.Receives tags now packet)) code says passed keeps =
     let told : IsTellable (Gets tags now packet Kept) = λ m at. tells m (laws.bytes packet m passed at) in
-    bursted-within laws kind track g (λ r. answereds.Received r) file s t met w (Gets tags now packet Kept) (bursts.Receives tags now packet) (receive_tagged tags w.agent now packet)
-    (bursted (λ r. answereds.Received r) (λ j. receive_tagged tags j now packet) (bursts.Receives tags now packet) (λ j. refl) (receive-plain tags now packet) s t code w.agent file says.0 says.1 says.2 w.follows) (receive-plain tags now packet w.agent) refl
+    bursted-within laws kind track g (λ r. answereds.Received r) file s t met w (Gets tags now packet Kept) (bursts.Receives tags now packet) (receive tags w.agent now packet)
+    (bursted (λ r. answereds.Received r) (λ j. receive tags j now packet) (bursts.Receives tags now packet) (λ j. refl) (receive-plain tags now packet) s t code w.agent file says.0 says.1 says.2 w.follows) (receive-plain tags now packet w.agent) refl
     (λ ends. record { may = ends; keep = told; go = (ends, told); same = tt; told = λ c. tt; none = refl }) (track.gets_on w.agent tags now packet)
 calls-within laws kind track g file s t met w (Burst (bursts.Asks now id what payload how)) code says passed keeps =
     bursted-within laws kind track g (λ r. answereds.Asked r) file s t met w (Asks now id what payload how Kept) (bursts.Asks now id what payload how) (fire_query w.agent now id what payload how)

@@ -42,7 +42,7 @@ abbrev pub AddsFilter : List ℕ → Session → Session → Code → Type 0
 AddsFilter filter s t code =
     (code ≡ Done → t.filters ≡ s.filters ++ filter ∷ [])
     × (code ≢ Done → t.filters ≡ s.filters)
-    × (is_ready s ≡ true → code ≢ Done → code ≡ OutOfMemory)
+    × (code ≢ Done → code ≡ OutOfMemory)
     × (t.agent ≡ s.agent) × (t.gave ≡ s.gave) × (t.written ≡ s.written) × (t.replaces ≡ s.replaces) × (t.waiting ≡ s.waiting) × KeepsMembers s t × KeepsBurst s t
 
 -- What was added for the next query is forgotten once it was tried; for want of memory it wasn't.

@@ -11,7 +11,7 @@ use Rattle.serf_agent.specs.Calls.{Call, Ends, Notes, Replaces, ended}
 use Rattle.serf_agent.specs.Events.{fire}
 use Rattle.serf_agent.specs.Ideal.{IdealAgent}
 use Rattle.serf_agent.specs.Queries.{fire_query}
-use Rattle.serf_agent.specs.Receive.{receive_tagged}
+use Rattle.serf_agent.specs.Receive.{receive}
 use Rattle.serf_agent.specs.Sound.{IsSound}
 use Rattle.serf_agent.specs.View.{view_of}
 use Rattle.serf_agent_c.specs.declared.answered.Answered.{Answered}
@@ -66,7 +66,7 @@ abbrev pub outcome : {R : Type 0} → (R → Answered) → IdealAgent → Call R
 outcome answered i call = record { agent = (ended i call Kept).agent; answer = answered (ended i call Kept).answer; line = line_of i call }
 
 abbrev pub outcome_of : IdealAgent → BurstCall → Outcome
-outcome_of i (Receives tags now packet) = outcome (λ r. Received r) i (receive_tagged tags i now packet)
+outcome_of i (Receives tags now packet) = outcome (λ r. Received r) i (receive tags i now packet)
 outcome_of i (Fires name payload coalesce) = outcome (λ r. Fired r) i (fire i (event_of name payload) coalesce)
 outcome_of i (Asks now id name payload params) = outcome (λ r. Asked r) i (fire_query i now id name payload params)
 

@@ -6,8 +6,8 @@ use Rattle.serf_wire.specs.Lists.{texts_left}
 use Rattle.serf_wire.specs.Message.{Message, query}
 use Rattle.serf_agent_c.specs.declared.code.Code.{Code}
 use Rattle.serf_agent_c.specs.declared.code.Code.TheVariants.{Done, Nothing, OutOfMemory}
-use Rattle.serf_agent_c.specs.declared.tagged.FiltersHead.{FiltersHead}
-use Rattle.serf_agent_c.specs.declared.tagged.LentFilters.{LentFilters}
+use Rattle.serf_agent_c.specs.declared.filters.FiltersHead.{FiltersHead}
+use Rattle.serf_agent_c.specs.declared.filters.LentFilters.{LentFilters}
 
 -- the filters of a query, lent from its packet
 abbrev pub filters_lent : LentFilters → List (List ℕ)

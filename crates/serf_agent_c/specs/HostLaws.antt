@@ -9,7 +9,7 @@ use Rattle.serf_agent.specs.Ideal.{IdealAgent}
 use Rattle.serf_agent.specs.Lives.{Opens, after}
 use Rattle.serf_agent.specs.Once.{IsOnce}
 use Rattle.serf_agent.specs.Queries.{fire_query}
-use Rattle.serf_agent.specs.Receive.{receive_tagged}
+use Rattle.serf_agent.specs.Receive.{receive}
 use Rattle.serf_agent.specs.Restart.{HasPast}
 use Rattle.serf_agent.specs.Sound.{IsSound}
 use Rattle.serf_agent.specs.States.{save}
@@ -46,7 +46,7 @@ pub data Went {R : Type 0} (gave : R → Gave) (i : IdealAgent) (call : Call R) 
 
 pub record HostSteps : Type 0 where
   pub fires : (name payload : List ℕ) (coalesce : Bool) (s t : Session) (code : Code) (i : IdealAgent) (file : List ℕ) → Says (Fire name payload coalesce) s t code → Follows i file s → Went (λ r. gaves.Fired r) i (fire i (event_of name payload) coalesce) file s t
-  pub receives : (tags : Bool) (now : ℕ) (packet : List ℕ) (s t : Session) (code : Code) (i : IdealAgent) (file : List ℕ) → Says (Receive tags now packet) s t code → Follows i file s → Went (λ r. gaves.Received r) i (receive_tagged tags i now packet) file s t
+  pub receives : (tags : Bool) (now : ℕ) (packet : List ℕ) (s t : Session) (code : Code) (i : IdealAgent) (file : List ℕ) → Says (Receive tags now packet) s t code → Follows i file s → Went (λ r. gaves.Received r) i (receive tags i now packet) file s t
   pub asks : (now id : ℕ) (name payload addr : List ℕ) (params : Params) (s t : Session) (code : Code) (i : IdealAgent) (file : List ℕ) → Says (Query now id name payload addr params) s t code → Follows i file s → Went (λ r. gaves.Asked r) i (fire_query i now id name payload (params_of s.filters addr params)) file s t
   pub saves : (s t : Session) (code : Code) (i : IdealAgent) (file : List ℕ) → Says Save s t code → Follows i file s → Went (λ r. gaves.Noted r) i (save i) file s t
   -- the host's word

@@ -21,7 +21,7 @@ use Rattle.serf_agent.specs.Kept.{IsFull}
 use Rattle.serf_agent.specs.KeptTexts.{whatever}
 use Rattle.serf_agent.specs.Lives.{event_entry, query_entries}
 use Rattle.serf_agent.specs.Queries.{fire_query}
-use Rattle.serf_agent.specs.Receive.{receive_tagged}
+use Rattle.serf_agent.specs.Receive.{receive}
 use Rattle.serf_agent.specs.States.{compact, events_of, save}
 use Rattle.serf_agent.specs.TrackOf.{BringsQuery, TrackOf, asked_query, event_track, got_query, query_track}
 use Rattle.serf_agent_c.specs.declared.code.Code.{Code}
@@ -69,7 +69,7 @@ Bursted call s t code = Stands s t × Leaves s t code × Extends call s t code
 
 abbrev pub Says : Export → Session → Session → Code → Type 0
 Says (Fire name payload coalesce) s t code = Called (λ r. gaves.Fired r) fire_code (λ i. fire i (event_of name payload) coalesce) s t code × Tells s t
-Says (Receive tags now packet) s t code = Called (λ r. gaves.Received r) receive_code (λ i. receive_tagged tags i now packet) s t code × Tells s t
+Says (Receive tags now packet) s t code = Called (λ r. gaves.Received r) receive_code (λ i. receive tags i now packet) s t code × Tells s t
 Says (Query now id name payload addr params) s t code = Called (λ r. gaves.Asked r) query_code (λ i. fire_query i now id name payload (params_of s.filters addr params)) s t code × ForgetsFilters s t code
 Says (Merge packet is_join) s t code = Waits s t code × Tells s t × IsUnbegun s t code × IsUnmerged packet s t code × MergesFrom packet is_join s t code
 Says Save s t code = Called (λ r. gaves.Noted r) note_code (λ i. save i) s t code × Tells s t

@@ -29,7 +29,7 @@ impl Answered {
         }
     }
 
-    /// What the call gave, for C to read.
+    /// What the call gave, for the getters to read.
     pub(crate) fn gave(self) -> Gave
         ensures { result ≡ gave_of self }
     {

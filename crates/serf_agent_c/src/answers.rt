@@ -25,7 +25,8 @@ fn head_of_answer(answer: &QueryResponse) -> AnswerHead
     }
 }
 
-/// The ack or the response that a packet is.
+/// Fills `answer` with the ack or the response that `packet` is, and `from` and `payload` with as much of its texts as
+/// fits.
 pub(crate) fn read_answer(
     packet: &[u8],
     answer: &mut AnswerHead,

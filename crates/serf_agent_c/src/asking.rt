@@ -15,7 +15,7 @@ use serf_agent::{BytesList, FiredQuery, QueryFault, QueryParams, Reply, RespondF
 use serf_wire::Bytes;
 use std::alloc::Global;
 
-/// The code of a query that was fired or refused.
+/// The code that C gets where a query was fired or refused.
 pub(crate) fn asked_code(answer: &Result<FiredQuery, QueryFault>) -> Code
     ensures code { result ≡ answer_code query_code answer.now }
     ensures memory { answer.now ≡ Err QueryFault.OutOfMemory → result ≡ Code.OutOfMemory }
@@ -26,7 +26,7 @@ pub(crate) fn asked_code(answer: &Result<FiredQuery, QueryFault>) -> Code
     }
 }
 
-/// The code of a query that was answered or not.
+/// The code that C gets where a query was answered or not.
 fn replied_code(answer: &Result<Reply, RespondFault>) -> Code
     ensures code { result ≡ answer_code respond_code answer.now }
     ensures memory { answer.now ≡ Err RespondFault.OutOfMemory → result ≡ Code.OutOfMemory }
@@ -37,7 +37,7 @@ fn replied_code(answer: &Result<Reply, RespondFault>) -> Code
     }
 }
 
-/// How a query is fired.
+/// How a query is fired: the host's `params`, with the filters that were added and the node's address.
 pub(crate) fn params_with(filters: BytesList, addr: Bytes, params: &Params) -> QueryParams
     ensures { result ≡ params_of filters addr params.now }
 {
@@ -54,19 +54,8 @@ pub(crate) fn params_with(filters: BytesList, addr: Bytes, params: &Params) -> Q
 }
 
 impl Session {
-    /// Adds a filter of the next query.
+    /// Adds a filter to the next query's, also while bytes for the host's file aren't written.
     pub(crate) fn add_filter(&mut self, alloc: Global, filter: &[u8]) -> Code
-        ensures waits { Waits self.old self.new result }
-        ensures adds { AddsFilter filter.now self.old self.new result }
-    {
-        if !self.is_ready() {
-            return Code::Unwritten;
-        }
-        self.put_filter(alloc, filter)
-    }
-
-    /// Adds a filter of the next query, whatever the host's file lacks.
-    pub(crate) fn put_filter(&mut self, alloc: Global, filter: &[u8]) -> Code
         ensures adds { AddsFilter filter.now self.old self.new result }
         ensures refused { result ≢ Code.Done → result ≡ Code.OutOfMemory }
     {
@@ -79,7 +68,7 @@ impl Session {
         }
     }
 
-    /// Takes the filters of a query back that was not tried: memory was wanting.
+    /// Keeps `filters` for the next query where `code` says that memory was wanting; else they are spent.
     pub(crate) fn take_back(&mut self, filters: BytesList, code: Code)
         ensures kept { code ≡ Code.OutOfMemory → self.new.filters ≡ filters }
         ensures forgotten { code ≢ Code.OutOfMemory → KeepsFilters self.old self.new }
@@ -94,7 +83,7 @@ impl Session {
         }
     }
 
-    /// Fires a query.
+    /// Fires a query with the filters that were added, and keeps what it gave.
     pub(crate) fn query(
         &mut self,
         alloc: Global,
@@ -128,7 +117,7 @@ impl Session {
         code
     }
 
-    /// Answers a query that was handed out.
+    /// Answers the query of this number that was handed out, and keeps the packet.
     pub(crate) fn respond(&mut self, alloc: Global, now: u64, number: u64, payload: &[u8]) -> Code
         ensures waits { Waits self.old self.new result }
         ensures agent { self.new.agent ≡ self.old.agent }
@@ -147,7 +136,7 @@ impl Session {
         code
     }
 
-    /// Forgets a query that was handed out.
+    /// Forgets the query of this number that was handed out.
     pub(crate) fn forget(&mut self, number: u64) -> Code
         ensures waits { Waits self.old self.new result }
         ensures agent { self.new.agent ≡ self.old.agent }
@@ -166,8 +155,8 @@ impl Session {
         }
     }
 
-    /// Closes the open queries whose deadline is before a moment, and gives them. Those that were handed out, and whose
-    /// deadline is before it, are forgotten.
+    /// Closes the open queries whose deadline is before `now`, and keeps them to be read; `closed` is how many. Those
+    /// that were handed out, and whose deadline is before `now`, are forgotten.
     pub(crate) fn close_due(&mut self, alloc: Global, now: u64, closed: &mut usize) -> Code
         ensures waits { Waits self.old self.new result }
         ensures late { ForgetsLate now self.old self.new result }

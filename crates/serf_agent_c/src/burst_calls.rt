@@ -1,7 +1,7 @@
 //! The calls of a burst: what C calls through a handle before the host flushes once, and what it reads then.
 
-ghost use Rattle.std.specs.Prelude.{◌≡◌, ◌≢◌, false, length, None, true};
-ghost use Rattle.serf_agent_c.specs.Asking.{AddsFilter, params_of};
+ghost use Rattle.std.specs.Prelude.{◌≡◌, ◌≢◌, length, None, true};
+ghost use Rattle.serf_agent_c.specs.Asking.{params_of};
 ghost use Rattle.serf_agent_c.specs.Bursts.{Extends, Fires, GoesToNext, Leaves, LeavesAgent, Queues, Receives, Asks, SpendsFilters, Stands};
 ghost use Rattle.serf_agent_c.specs.Calls.{Waits};
 ghost use Rattle.serf_agent_c.specs.Exports.{Answers, FillsIfDone, Shows};
@@ -14,26 +14,28 @@ use crate::handle::Handle;
 use crate::heads::Params;
 use std::alloc::Global;
 
-/// Takes a packet that comes at a moment, within a burst: its outcome waits for [`serf_agent_next`].
+/// Takes a packet that comes at a moment, within a burst, where the host says whether this node's tags pass every tag filter
+/// of its query: its outcome waits for [`serf_agent_next`].
 #[unsafe(no_mangle)]
 pub extern "C" fn serf_agent_burst_receive(
     alloc: Global,
     handle: &mut Handle,
     now: u64,
     packet: &[u8],
+    tags_pass: bool,
 ) -> u32
     ensures stands { Answers (λ s t code. Stands s t × KeepsFilters s t)
         handle.old handle.new result }
     ensures memory { Answers (λ s t code. Leaves s t code) handle.old handle.new result }
     ensures queues { Answers (λ s t code. Queues (λ r. Answered.Received r) s t code)
         handle.old handle.new result }
-    ensures extends { Answers (λ s t code. Extends (Receives false now packet.now) s t code)
+    ensures extends { Answers (λ s t code. Extends (Receives tags_pass now packet.now) s t code)
         handle.old handle.new result }
 {
     let Some(mut session) = handle.take(alloc) else {
         return Code::Empty.number();
     };
-    let code = session.burst_receive(alloc, now, packet, false);
+    let code = session.burst_receive(alloc, now, packet, tags_pass);
     *handle = Handle::of(session);
     code.number()
 }
@@ -59,22 +61,6 @@ pub extern "C" fn serf_agent_burst_fire(
         return Code::Empty.number();
     };
     let code = session.burst_fire(alloc, name, payload, coalesce);
-    *handle = Handle::of(session);
-    code.number()
-}
-
-/// Adds a filter of the next query, within a burst.
-#[unsafe(no_mangle)]
-pub extern "C" fn serf_agent_burst_filter(alloc: Global, handle: &mut Handle, filter: &[u8]) -> u32
-    ensures adds { Answers (λ s t code. AddsFilter filter.now s t code)
-        handle.old handle.new result }
-    ensures refused { Answers (λ s t code. code ≢ Code.Done → code ≡ Code.OutOfMemory)
-        handle.old handle.new result }
-{
-    let Some(mut session) = handle.take(alloc) else {
-        return Code::Empty.number();
-    };
-    let code = session.put_filter(alloc, filter);
     *handle = Handle::of(session);
     code.number()
 }

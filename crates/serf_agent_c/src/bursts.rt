@@ -33,7 +33,7 @@ impl Session {
         self.burst.reserve(1)
     }
 
-    /// Puts the outcome of a call after those that wait, unless there was no memory for the call.
+    /// Puts the outcome of a call behind those that wait, unless `code` says that there was no memory for the call.
     fn wait(&mut self, answered: Answered, code: Code)
         requires { deque_len self.old.burst < deque_capacity self.old.burst }
         ensures waits { code ≢ Code.OutOfMemory
@@ -67,7 +67,7 @@ impl Session {
         if self.prepare().is_err() {
             return Code::OutOfMemory;
         }
-        let answer = self.agent.receive_tagged(alloc, now, packet, tags_pass);
+        let answer = self.agent.receive(alloc, now, packet, tags_pass);
         let code = received_code(&answer);
         self.wait(Answered::Received(answer), code);
         code
@@ -129,7 +129,7 @@ impl Session {
         code
     }
 
-    /// Goes on to the next outcome of a burst: it is what was given then, with the code of its call.
+    /// Goes on to the next outcome of a burst: the getters read it then, and `answered` is the code of its call.
     pub(crate) fn next(&mut self, answered: &mut u32) -> Code
         ensures waits { Waits self.old self.new result }
         ensures same { result ≢ Code.Done → answered.new ≡ answered.old }
@@ -152,7 +152,7 @@ impl Session {
         Code::Done
     }
 
-    /// How many outcomes of a burst wait.
+    /// Sets `total` to how many outcomes of a burst wait.
     pub(crate) fn read_outcomes(&self, total: &mut usize)
         ensures { total.new ≡ length self.now.burst.items }
     {

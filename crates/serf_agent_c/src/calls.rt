@@ -3,7 +3,7 @@
 ghost use Rattle.std.specs.Prelude.{◌≡◌, Err};
 ghost use Rattle.serf_window.specs.Texts.{event_of};
 ghost use Rattle.serf_agent.specs.Events.{fire};
-ghost use Rattle.serf_agent.specs.Receive.{receive_tagged};
+ghost use Rattle.serf_agent.specs.Receive.{receive};
 ghost use Rattle.serf_agent_c.specs.Calls.{Forgoes, Gives, Takes, Tells, Waits, answer_code};
 ghost use Rattle.serf_agent_c.specs.Codes.{fire_code, receive_code};
 ghost use Rattle.serf_agent_c.specs.Sessions.{KeepsBurst, KeepsFilters, KeepsMembers};
@@ -14,7 +14,7 @@ use crate::session::Session;
 use serf_agent::{FireFault, Fired, Outcome, ReceiveFault};
 use std::alloc::Global;
 
-/// The code of an event that was fired or refused.
+/// The code that C gets where an event was fired or refused.
 pub(crate) fn fired_code(answer: &Result<Fired, FireFault>) -> Code
     ensures code { result ≡ answer_code fire_code answer.now }
     ensures memory { answer.now ≡ Err FireFault.OutOfMemory → result ≡ Code.OutOfMemory }
@@ -25,7 +25,7 @@ pub(crate) fn fired_code(answer: &Result<Fired, FireFault>) -> Code
     }
 }
 
-/// The code of a packet that was taken or refused.
+/// The code that C gets where a packet was taken or refused.
 pub(crate) fn received_code(answer: &Result<Outcome, ReceiveFault>) -> Code
     ensures code { result ≡ answer_code receive_code answer.now }
     ensures memory { answer.now ≡ Err ReceiveFault.OutOfMemory → result ≡ Code.OutOfMemory }
@@ -37,7 +37,7 @@ pub(crate) fn received_code(answer: &Result<Outcome, ReceiveFault>) -> Code
 }
 
 impl Session {
-    /// Keeps what a call gave.
+    /// Keeps what a call gave, for the getters to read.
     #[inline(always)]
     pub(crate) fn give(&mut self, gave: Gave)
         ensures gave { self.new.gave ≡ gave }
@@ -49,7 +49,7 @@ impl Session {
         self.gave = gave;
     }
 
-    /// Fires an event.
+    /// Fires an event, and keeps what it gave.
     pub(crate) fn fire(
         &mut self,
         alloc: Global,
@@ -74,7 +74,7 @@ impl Session {
         code
     }
 
-    /// Takes a packet that comes, with what the host says of tag filters.
+    /// Takes a packet that comes, and keeps what it gave; `tags_pass` is what the host says of tag filters.
     pub(crate) fn receive(
         &mut self,
         alloc: Global,
@@ -87,13 +87,13 @@ impl Session {
         ensures memory { Forgoes self.old self.new result }
         ensures gives { Gives (λ r. Gave.Received r) receive_code self.old self.new result }
         ensures takes { Takes (λ r. Gave.Received r)
-            (λ i. receive_tagged tags_pass i now packet.now) self.old self.new result }
+            (λ i. receive tags_pass i now packet.now) self.old self.new result }
     {
         match self.begin() {
             Ok(()) => {}
             Err(code) => return code,
         }
-        let answer = self.agent.receive_tagged(alloc, now, packet, tags_pass);
+        let answer = self.agent.receive(alloc, now, packet, tags_pass);
         let code = received_code(&answer);
         self.give(Gave::Received(answer));
         code

@@ -40,7 +40,7 @@ fn head_of_response(response: &Response) -> ResponseHead
 }
 
 impl Gave {
-    /// A name that acked a closed query, in order of arrival.
+    /// The name that acked the closed query `index` as number `number`, both from 0 on, in order of arrival.
     fn closed_ack(&self, index: usize, number: usize) -> Option<&Bytes>
         ensures { option_copied result ≡ ack_of number (slice_get (closed_in self.now) index) }
     {
@@ -48,7 +48,7 @@ impl Gave {
         query.acks.as_slice().get(number)
     }
 
-    /// A response to a closed query, in order of arrival.
+    /// The response number `number` to the closed query `index`, both from 0 on, in order of arrival.
     fn closed_response(&self, index: usize, number: usize) -> Option<&Response>
         ensures { option_copied result ≡ response_of number (slice_get (closed_in self.now) index) }
     {
@@ -58,7 +58,7 @@ impl Gave {
 }
 
 impl Session {
-    /// A query that the last call closed.
+    /// Fills `head` with the query `index`, from 0 on, that the last call closed.
     pub(crate) fn read_closed(&self, index: usize, head: &mut ClosedHead) -> Code
         ensures reads { ReadsAs (is_ready self.now) (slice_get (closed_in self.now.gave) index)
             (λ q. head.new ≡ closed_head q) result }
@@ -74,7 +74,7 @@ impl Session {
         Code::Done
     }
 
-    /// The name of a node that acked a closed query.
+    /// Reads the name that acked the closed query `index` as number `number`: its length, and as much of it as fits.
     pub(crate) fn read_closed_ack(
         &self,
         index: usize,
@@ -98,7 +98,7 @@ impl Session {
         Code::Done
     }
 
-    /// A response to a closed query.
+    /// Reads the response number `number` to the closed query `index`, and as much of its texts as fits.
     pub(crate) fn read_closed_response(
         &self,
         index: usize,
@@ -126,7 +126,7 @@ impl Session {
         Code::Done
     }
 
-    /// Whether the host's file is worth a compaction.
+    /// Sets `should` to whether a compaction of the host's file is worth doing, by `Agent::should_compact`.
     pub(crate) fn read_should_compact(&self, limit: u64, should: &mut bool) -> Code
         ensures waits { is_ready self.now ≡ false → result ≡ Code.Unwritten }
         ensures tells { is_ready self.now ≡ true

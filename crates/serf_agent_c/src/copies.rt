@@ -3,7 +3,7 @@
 ghost use Rattle.std.specs.Prelude.{◌≡◌};
 ghost use Rattle.serf_agent_c.specs.Texts.{copied};
 
-/// Copies as many items as fit.
+/// Copies as many items of `from` to the begin of `to` as fit.
 pub(crate) fn copy_into<T: Copy>(to: &mut [T], from: &[T])
     ensures { to.new ≡ copied from.now to.old }
 {

@@ -29,7 +29,7 @@ fn fault_kind(fault: WireFault) -> u32
     }
 }
 
-/// Where in the packet it is.
+/// Where in the packet the fault is, in bytes from its begin.
 fn fault_offset(fault: WireFault) -> usize
     ensures { result ≡ fault_offset fault }
 {
@@ -47,7 +47,7 @@ fn fault_offset(fault: WireFault) -> usize
     }
 }
 
-/// The byte that it is of.
+/// The byte of the packet that the fault names, 0 where it names none.
 fn fault_byte(fault: WireFault) -> u8
     ensures { result ≡ fault_byte fault }
 {

@@ -30,7 +30,7 @@ pub enum Gave {
 }
 
 impl Gave {
-    /// An event that was handed out, in order.
+    /// The event `index` of those that were handed out, from 0 on.
     pub(crate) fn event(&self, index: usize) -> Option<&EventOut>
         ensures { option_copied result ≡ slice_get (events_in self.now) index }
     {
@@ -77,7 +77,7 @@ impl Gave {
         }
     }
 
-    /// A query that was closed, in order.
+    /// The query `index` of those that were closed, from 0 on, in order.
     pub(crate) fn closed(&self, index: usize) -> Option<&(u64, OpenQuery)>
         ensures { option_copied result ≡ slice_get (closed_in self.now) index }
     {
@@ -97,7 +97,7 @@ impl Gave {
         }
     }
 
-    /// That query, as its own.
+    /// The query of `unsettled`, moved out.
     pub(crate) fn into_unsettled(self) -> Option<HandedQuery>
         ensures { result ≡ unsettled_in self }
     {

@@ -26,6 +26,7 @@ pub struct IntentHead {
     pub prune: bool,
 }
 
+/// What C reads of an intent, beside the node's name.
 fn head_of_intent(intent: &Intent) -> IntentHead
     ensures { result ≡ intent_head (intent_of intent.now) }
 {
@@ -45,6 +46,7 @@ fn head_of_intent(intent: &Intent) -> IntentHead
     }
 }
 
+/// The name of the node that an intent is of.
 fn node_of<'a>(intent: &Intent<'a>) -> &'a [u8]
     ensures { result.now ≡ intent_node (intent_of intent.now) }
 {
@@ -54,7 +56,7 @@ fn node_of<'a>(intent: &Intent<'a>) -> &'a [u8]
     }
 }
 
-/// The intent that a packet is.
+/// Fills `intent` and `node` with the intent that `packet` is, if it is one.
 fn read(packet: &[u8], intent: &mut IntentHead, node: &mut [u8]) -> Code
     ensures reads { ReadsIntent (intent_read packet.now) (λ i. (intent.new ≡ intent_head i)
         × (node.new ≡ copied (intent_node i) node.old)) result }
@@ -71,7 +73,7 @@ fn read(packet: &[u8], intent: &mut IntentHead, node: &mut [u8]) -> Code
     }
 }
 
-/// Why a packet is no intent, where its type is an intent's or no message's.
+/// Fills `fault` with why `packet` is no intent, where its type is an intent's or no message's.
 fn read_fault(packet: &[u8], fault: &mut FaultHead) -> Code
     ensures { ReadsIntentFault (intent_read packet.now) fault.old fault.new result }
 {
@@ -84,6 +86,7 @@ fn read_fault(packet: &[u8], fault: &mut FaultHead) -> Code
     }
 }
 
+/// The code that C gets where a packet can't be made.
 fn code_of(fault: EncodeFault) -> Code
     ensures { result ≡ encode_code fault }
 {
@@ -146,8 +149,8 @@ pub extern "C" fn serf_agent_intent(packet: &[u8], intent: &mut IntentHead, node
     read(packet, intent, node).number()
 }
 
-/// Why a packet is no intent: its first fault, where `serf_agent_intent` says `NO_MESSAGE`. Else it says `NOTHING`, and the
-/// fault stays as it was.
+/// Why a packet is no intent: its first fault, where `serf_agent_intent` says `NO_MESSAGE`. Else it says `NOTHING`, and
+/// the fault stays as it was.
 #[unsafe(no_mangle)]
 pub extern "C" fn serf_agent_intent_fault(packet: &[u8], fault: &mut FaultHead) -> u32
     ensures { (code : Code) × (result ≡ number_of code)

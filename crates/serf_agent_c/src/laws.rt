@@ -1,4 +1,5 @@
-//! What a host in C can count on, whatever it calls and whenever it is killed: laws that name exports by what their clauses say.
+//! What a host in C can count on, whatever it calls and whenever it is killed: laws that name exports by what their
+//! clauses say.
 
 ghost use Rattle.serf_agent_c.specs.HostLaws.{CodesDiffer, GivesExactly, HostSteps};
 ghost use Rattle.serf_agent_c.specs.Hosts.{GivesLater, GivesNew, GivesOnce, GivesQueriesLater, GivesQueriesOnce, TakesNewQueries};
@@ -17,14 +18,14 @@ pub fn host_steps()
 
 /// What is promised to a host in C over one file, in all its lives. Does nothing.
 ///
-/// A host makes calls, says by `serf_agent_written` what its file has, and is killed at any place. Each session opens on a
-/// text that begins with all that the host said was written, or with the text of a compaction that was under way; any bytes
-/// may stand after it. Then no event and no query is given twice by the getters, in all lives. What is fired is later
-/// than all of its kind that was given before. And there is always an agent that forgets nothing, which the session follows:
-/// so each call answers what that agent answers.
+/// A host makes calls, says by `serf_agent_written` what its file has, and is killed at any place. Each session opens on
+/// a text that begins with all that the host said was written, or with the text of a compaction that was under way; any
+/// bytes may stand after it. Then no event and no query is given twice by the getters, in all lives. What is fired is
+/// later than all of its kind that was given before. And there is always an agent that forgets nothing, which the session
+/// follows: so each call answers what that agent answers.
 ///
-/// Where the settings stay and keep events, nothing is missed of what comes and is new, in a packet, in a burst or in a state
-/// that is merged: an event is given (`kept`), and a query enters (`queries_kept`).
+/// Where the settings stay and keep events, nothing is missed of what comes and is new, in a packet, in a burst or in a
+/// state that is merged: an event is given (`kept`), and a query enters (`queries_kept`).
 pub fn host_promises()
     ensures once { GivesOnce }
     ensures queries_once { GivesQueriesOnce }
@@ -34,6 +35,8 @@ pub fn host_promises()
     ensures kept { GivesNew }
     ensures queries_kept { TakesNewQueries }
 {
+    // what the clauses rest on: the steps of a life, what lives with kept events promise, what a life over any sink does,
+    // that what a text says can be written again, and the texts and the ranges of what `decode` gives
     once_steps();
     kept_life_promises();
     unseen_promises();

@@ -1,13 +1,13 @@
 //! One agent of a Serf cluster for C: `include/serf_agent.h` declares these functions.
 //!
-//! A [`Handle`] lies in the host's memory and has a session: an agent, what its last call gave, and which bytes the host's
-//! file lacks. The library holds no file: the agent's sink is in memory, and the host appends to its file what
-//! [`serf_agent_unwritten`] gives, flushes it, and says so by [`serf_agent_written`]. Until then no call is made and nothing
-//! that was handed out is read, so an event is handed out only once its line is durable.
+//! A [`Handle`] lies in the host's memory and has a session: an agent, what its last call gave, and which bytes the
+//! host's file lacks. The library holds no file: the agent's sink is in memory, and the host appends to its file what
+//! [`serf_agent_unwritten`] gives, flushes it, and says so by [`serf_agent_written`]. Until then no call is made and
+//! nothing that was handed out is read, so an event is handed out only once its line is durable.
 //!
 //! Each export that calls the agent says that the agent takes the step that the ideal agent takes (see `serf_agent`), and
-//! each getter that C reads what was given. No export requires anything: an empty handle, one in use and a wrong number are
-//! answered by a [`Code`].
+//! each getter that C reads what was given. No export requires anything: an empty handle, one in use and a wrong number
+//! are answered by a [`Code`].
 #![tactic(auto)]
 
 ghost use Rattle.std.specs.Prelude.{true, ◌≡◌, ◌≢◌, ◌++◌, ◌∷◌, if◌then◌else◌, [], None, Some, IfSome, false, length};
@@ -38,6 +38,7 @@ mod closings;
 mod code;
 mod copies;
 mod faults;
+mod filters;
 mod gave;
 mod getters;
 mod handle;
@@ -51,16 +52,16 @@ mod observing;
 mod opening;
 mod reading;
 mod session;
-mod tagged;
 mod told;
 mod waiting;
 
 pub use asked::serf_agent_asked_time;
 pub use burst_calls::{
-    serf_agent_burst_filter, serf_agent_burst_fire, serf_agent_burst_query,
-    serf_agent_burst_receive, serf_agent_next, serf_agent_outcomes,
+    serf_agent_burst_fire, serf_agent_burst_query, serf_agent_burst_receive, serf_agent_next,
+    serf_agent_outcomes,
 };
 pub use code::Code;
+pub use filters::{FiltersHead, serf_agent_query_filters};
 use gave::Gave;
 pub use getters::{
     serf_agent_ack, serf_agent_answer, serf_agent_clocks, serf_agent_closed, serf_agent_closed_ack,
@@ -81,10 +82,6 @@ pub use laws::{host_promises, host_steps};
 pub use observing::serf_agent_observe_member;
 use session::Session;
 use std::alloc::Global;
-pub use tagged::{
-    FiltersHead, serf_agent_burst_receive_tagged, serf_agent_query_filters,
-    serf_agent_receive_tagged,
-};
 pub use told::{MemberHead, MembersHead, serf_agent_state_members};
 
 /// Opens an agent over the text of the host's file, into an empty handle.
@@ -204,13 +201,15 @@ pub extern "C" fn serf_agent_fire(
     code.number()
 }
 
-/// Takes a packet that comes at a moment, in nanoseconds. A query that has a tag filter is not handed out.
+/// Takes a packet that comes at a moment, in nanoseconds, where the host says whether this node's tags pass every tag
+/// filter of its query.
 #[unsafe(no_mangle)]
 pub extern "C" fn serf_agent_receive(
     alloc: Global,
     handle: &mut Handle,
     now: u64,
     packet: &[u8],
+    tags_pass: bool,
 ) -> u32
     ensures waits { Answers (λ s t code. Waits s t code) handle.old handle.new result }
     ensures tells { Answers (λ s t code. Tells s t) handle.old handle.new result }
@@ -218,13 +217,13 @@ pub extern "C" fn serf_agent_receive(
     ensures gives { Answers (λ s t code. Gives (λ r. Gave.Received r) receive_code s t code)
         handle.old handle.new result }
     ensures takes { Answers
-        (λ s t code. Takes (λ r. Gave.Received r) (λ i. receive i now packet.now) s t code)
-        handle.old handle.new result }
+        (λ s t code. Takes (λ r. Gave.Received r)
+        (λ i. receive tags_pass i now packet.now) s t code) handle.old handle.new result }
 {
     let Some(mut session) = handle.take(alloc) else {
         return Code::Empty.number();
     };
-    let code = session.receive(alloc, now, packet, false);
+    let code = session.receive(alloc, now, packet, tags_pass);
     *handle = Handle::of(session);
     code.number()
 }
@@ -253,8 +252,8 @@ pub extern "C" fn serf_agent_merge(
     code.number()
 }
 
-/// Makes the packet of the agent's whole state, with the members that were named since the last that was tried; it forgets
-/// them.
+/// Makes the packet of the agent's whole state, with the members that were named since the last that was tried; it
+/// forgets them.
 #[unsafe(no_mangle)]
 pub extern "C" fn serf_agent_local_state(alloc: Global, handle: &mut Handle) -> u32
     ensures waits { Answers (λ s t code. Waits s t code) handle.old handle.new result }
@@ -306,10 +305,12 @@ pub extern "C" fn serf_agent_add_left(alloc: Global, handle: &mut Handle, name: 
     code.number()
 }
 
-/// Adds a filter of the next query.
+/// Adds a filter of the next query, also while bytes for the host's file aren't written.
 #[unsafe(no_mangle)]
 pub extern "C" fn serf_agent_add_filter(alloc: Global, handle: &mut Handle, filter: &[u8]) -> u32
-    ensures { Answers (λ s t code. Waits s t code × AddsFilter filter.now s t code)
+    ensures adds { Answers (λ s t code. AddsFilter filter.now s t code)
+        handle.old handle.new result }
+    ensures refused { Answers (λ s t code. code ≢ Code.Done → code ≡ Code.OutOfMemory)
         handle.old handle.new result }
 {
     let Some(mut session) = handle.take(alloc) else {
@@ -437,7 +438,8 @@ pub extern "C" fn serf_agent_save_member_clock(alloc: Global, handle: &mut Handl
     code.number()
 }
 
-/// Makes the text that replaces the file's: one line of each clock.
+/// Makes the text that replaces the file's: one line of each clock, and where the settings keep events the lines of what
+/// the buffers hold.
 #[unsafe(no_mangle)]
 pub extern "C" fn serf_agent_compact(alloc: Global, handle: &mut Handle) -> u32
     ensures waits { Answers (λ s t code. Waits s t code) handle.old handle.new result }

@@ -42,7 +42,7 @@ fn count(queries: LentQueries<'_>) -> usize
 }
 
 impl Session {
-    /// The query of a number that was handed out and not yet answered.
+    /// The query `number` that was handed out and not yet answered.
     fn handed_at(&self, number: u64) -> Option<&HandedQuery>
         ensures { option_copied result ≡ waiting_at number (settled self.now).waiting }
     {
@@ -53,7 +53,7 @@ impl Session {
         }
     }
 
-    /// A query that was handed out.
+    /// Fills `head` and the texts with the query `number` that was handed out and not yet answered.
     pub(crate) fn read_handed(
         &self,
         number: u64,
@@ -86,7 +86,7 @@ impl Session {
         Code::Done
     }
 
-    /// The least deadline of the open queries.
+    /// Sets `deadline` to the least one of the open queries, if one is open.
     pub(crate) fn read_next_deadline(&self, deadline: &mut u64) -> Code
         ensures waits { is_ready self.now ≡ false → result ≡ Code.Unwritten }
         ensures tells { is_ready self.now ≡ true
@@ -105,7 +105,7 @@ impl Session {
         }
     }
 
-    /// How many queries of the agent's own still take answers.
+    /// Sets `total` to how many queries of the agent's own still take answers.
     pub(crate) fn read_open_queries(&self, total: &mut usize) -> Code
         ensures reads { ReadsAs (is_ready self.now)
             (Some (min (length self.now.agent.concrete.asked) (2 ^ 64 - 1)))

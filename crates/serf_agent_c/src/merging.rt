@@ -20,7 +20,7 @@ use serf_snap::{MemSink, NoteFault};
 use serf_wire::Bytes;
 use std::alloc::Global;
 
-/// The code of a push/pull that was merged, or not all of it.
+/// The code that C gets where a push/pull was merged, or not all of it.
 fn merged_code(fault: Option<MergeFault>) -> Code
     ensures { result ≡ merged_code fault }
 {
@@ -30,7 +30,7 @@ fn merged_code(fault: Option<MergeFault>) -> Code
     }
 }
 
-/// The code of a state that was made or refused.
+/// The code that C gets where a state was made or refused.
 fn state_code(answer: &Result<Bytes, PushPullFault>) -> Code
     ensures code { result ≡ answer_code state_code answer.now }
     ensures memory { answer.now ≡ Err PushPullFault.OutOfMemory → result ≡ Code.OutOfMemory }
@@ -41,7 +41,7 @@ fn state_code(answer: &Result<Bytes, PushPullFault>) -> Code
     }
 }
 
-/// The code of a line that was noted or refused.
+/// The code that C gets where a line was written or refused.
 fn noted_code(answer: &Result<(), NoteFault>) -> Code
     ensures code { result ≡ answer_code note_code answer.now }
     ensures memory { answer.now ≡ Err NoteFault.OutOfMemory → result ≡ Code.OutOfMemory }
@@ -52,7 +52,8 @@ fn noted_code(answer: &Result<(), NoteFault>) -> Code
     }
 }
 
-/// Merges another agent's whole state, and answers why not all of it, if so.
+/// Merges another agent's whole state into `agent`; what is new is added to `events`. Gives why not all of it was merged,
+/// if so.
 fn merge_into(
     agent: &mut Agent<MemSink>,
     alloc: Global,
@@ -74,7 +75,7 @@ fn merge_into(
 }
 
 impl Session {
-    /// Merges another agent's whole state.
+    /// Merges another agent's whole state, and keeps what it gave.
     pub(crate) fn merge(&mut self, alloc: Global, packet: &[u8], is_join: bool) -> Code
         ensures waits { Waits self.old self.new result }
         ensures tells { Tells self.old self.new }
@@ -111,7 +112,7 @@ impl Session {
         code
     }
 
-    /// Notes the member clock.
+    /// Writes the line of the member clock to the agent's text.
     pub(crate) fn save_member_clock(&mut self, alloc: Global) -> Code
         ensures waits { Waits self.old self.new result }
         ensures tells { Tells self.old self.new }

@@ -22,14 +22,15 @@ use serf_wire::Bytes;
 use std::alloc::{AllocError, Global};
 use std::collections::VecDeque;
 
-/// A limit of packets. 0 stands for Serf's own, since a host in C that leaves the field out has 0 there.
+/// The limit of a packet's bytes: `limit`, or where that is 0 Serf's own, since a host in C that leaves the field out has
+/// 0 there.
 fn limit_or(serfs: u64, limit: u64) -> u64
     ensures { result ≡ limit_or serfs limit }
 {
     if limit == 0 { serfs } else { limit }
 }
 
-/// An agent's settings.
+/// The settings of an agent of this name, from those that C gives.
 fn config_of(alloc: Global, name: &[u8], settings: &Settings) -> Result<Config, AllocError>
     ensures { IfOk result (λ config. config ≡ config_of name.now settings.now) }
 {

@@ -15,7 +15,7 @@ use crate::session::Session;
 use serf_agent::{EventOut, Outcome, Reason};
 use serf_wire::Bytes;
 
-/// The number of a reason in C.
+/// The number of a reason, by `enum serf_agent_reason` of `include/serf_agent.h`.
 fn reason_number(reason: Reason) -> u32
     ensures { result ≡ reason_number reason }
 {
@@ -34,7 +34,7 @@ fn reason_number(reason: Reason) -> u32
     }
 }
 
-/// The kind of an outcome in C.
+/// The kind of an outcome, by `enum serf_agent_kind` of `include/serf_agent.h`.
 fn outcome_kind(outcome: &Outcome) -> u32
     ensures { result ≡ outcome_kind outcome.now }
 {
@@ -50,7 +50,7 @@ fn outcome_kind(outcome: &Outcome) -> u32
 }
 
 impl Gave {
-    /// Its kind in C.
+    /// The kind of what was given, by `enum serf_agent_kind` of `include/serf_agent.h`.
     fn kind(&self) -> u32
         ensures { result ≡ kind_of self.now }
     {
@@ -66,7 +66,7 @@ impl Gave {
         }
     }
 
-    /// Why a packet was ignored, in C.
+    /// The number of why a packet was ignored, 0 where none was.
     fn reason(&self) -> u32
         ensures { result ≡ reason_of self.now }
     {
@@ -76,7 +76,7 @@ impl Gave {
         }
     }
 
-    /// The type of a foreign message.
+    /// The type byte of a foreign message, 0 where none came.
     fn foreign(&self) -> u8
         ensures { result ≡ foreign_of self.now }
     {
@@ -111,7 +111,7 @@ impl Gave {
 }
 
 impl Session {
-    /// What the last call gave.
+    /// Fills `gave` with what the last call gave.
     pub(crate) fn read_gave(&self, gave: &mut GaveHead)
         ensures { gave.new
             ≡ record {
@@ -139,7 +139,7 @@ impl Session {
         };
     }
 
-    /// The bytes that the host's file lacks.
+    /// Fills `bytes` with how many bytes the host's file lacks, and `to` with as many of them as fit.
     pub(crate) fn read_lacking(&self, bytes: &mut BytesHead, to: &mut [u8])
         ensures head { bytes.new
             ≡ record {
@@ -156,7 +156,7 @@ impl Session {
         copy_into(to, lacking);
     }
 
-    /// An event that the last call handed out.
+    /// Fills `event` and the texts with the event `index`, from 0 on, that the last call handed out.
     pub(crate) fn read_event(
         &self,
         index: usize,
@@ -182,7 +182,7 @@ impl Session {
         Code::Done
     }
 
-    /// The packet that the last call gave to send.
+    /// Reads the packet that the last call gave to send: its length, and as much of it as fits.
     pub(crate) fn read_packet(&self, len: &mut usize, to: &mut [u8]) -> Code
         ensures reads { ReadsAs (is_ready self.now) (packet_in self.now.gave)
             (λ p. (len.new ≡ length p) × (to.new ≡ copied p to.old)) result }
@@ -198,7 +198,7 @@ impl Session {
         Code::Done
     }
 
-    /// The ack that the last call gave to send.
+    /// Reads the ack that the last call gave to send: its length, and as much of it as fits.
     pub(crate) fn read_ack(&self, len: &mut usize, to: &mut [u8]) -> Code
         ensures reads { ReadsAs (is_ready self.now) (ack_in self.now.gave)
             (λ p. (len.new ≡ length p) × (to.new ≡ copied p to.old)) result }
@@ -214,7 +214,7 @@ impl Session {
         Code::Done
     }
 
-    /// The agent's clocks.
+    /// Fills `clocks` with the agent's clocks.
     pub(crate) fn read_clocks(&self, clocks: &mut ClocksHead) -> Code
         ensures reads { ReadsAs (is_ready self.now) (Some (clocks_head self.now.agent.concrete))
             (λ head. clocks.new ≡ head) result }
@@ -246,7 +246,7 @@ fn head_of_event(out: &EventOut) -> EventHead
     }
 }
 
-/// The length of a packet, and as much of it as fits.
+/// Sets `len` to the length of a packet, and copies as much of it to `to` as fits.
 fn read_bytes(packet: &Bytes, len: &mut usize, to: &mut [u8])
     ensures len { len.new ≡ length packet.now }
     ensures copied { to.new ≡ copied packet.now to.old }

@@ -111,6 +111,7 @@ impl Session {
         if !self.is_ready() {
             return Err(Code::Unwritten);
         }
+        // (it has all of it: `written` says just that from here on)
         self.note_written();
         match self.settle() {
             Ok(()) => Ok(()),

@@ -65,6 +65,7 @@ fn lent_members(packet: &[u8]) -> Option<LentMembers<'_>>
     }
 }
 
+/// Appends the head of a member.
 fn put_head(out: &mut Vec<MemberHead>, head: MemberHead) -> Result<(), AllocError>
     ensures { OnOk result (out.new.items ≡ out.old.items ++ head ∷ []) }
 {
@@ -72,6 +73,7 @@ fn put_head(out: &mut Vec<MemberHead>, head: MemberHead) -> Result<(), AllocErro
     Ok(())
 }
 
+/// Appends the heads of the members that have a status time.
 fn put_status_heads(out: &mut Vec<MemberHead>, status: StatusTimes) -> Result<(), AllocError>
     ensures { OnOk result (out.new.items ≡ out.old.items
         ++ map status_head (status_left status.entry)) }
@@ -89,6 +91,7 @@ fn put_status_heads(out: &mut Vec<MemberHead>, status: StatusTimes) -> Result<()
     Ok(())
 }
 
+/// Appends the heads of the members that left.
 fn put_left_heads(out: &mut Vec<MemberHead>, left: Texts) -> Result<(), AllocError>
     ensures { OnOk result (out.new.items ≡ out.old.items ++ map left_head (texts_left left.entry)) }
 {
@@ -105,6 +108,7 @@ fn put_left_heads(out: &mut Vec<MemberHead>, left: Texts) -> Result<(), AllocErr
     Ok(())
 }
 
+/// Appends the names of the members that have a status time.
 fn put_status_names(out: &mut Vec<u8>, status: StatusTimes) -> Result<(), AllocError>
     ensures { OnOk result (out.new.items ≡ out.old.items
         ++ flat_map (λ p. p.0) (status_left status.entry)) }

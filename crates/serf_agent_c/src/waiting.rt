@@ -19,7 +19,7 @@ pub struct Waiting {
     ghost once: { AllPairs (λ v w. v.0 < w.0) queries.items },
 }
 
-/// Where the query of a number is, if it waits: found by a binary search, since the numbers rise.
+/// Where in `queries` the query `number` is, if it waits: found by a binary search, since the numbers rise.
 fn place_of(queries: &[(u64, HandedQuery)], number: u64) -> Option<usize>
     requires { AllPairs (λ v w. v.0 < w.0) queries.now }
     ensures { result ≡ position (λ w. w.0 == number) queries.now }
@@ -27,7 +27,7 @@ fn place_of(queries: &[(u64, HandedQuery)], number: u64) -> Option<usize>
     queries.binary_search_by_key(&number, |&(own, _)| own).ok()
 }
 
-/// Puts a query back where it was taken out.
+/// Puts a query back at `index`, where it was taken out.
 fn put_back(queries: &mut Vec<(u64, HandedQuery)>, index: usize, query: (u64, HandedQuery))
     requires { (index ≤ vec_len queries.old) × (vec_len queries.old < vec_capacity queries.old) }
     ensures { queries.new.items ≡ insert queries.old.items index query }
@@ -142,7 +142,7 @@ impl Waiting {
         }
     }
 
-    /// Takes out the queries whose deadline is before a moment. Takes no memory.
+    /// Takes out the queries whose deadline is before the moment `now`. Takes no memory.
     pub(crate) fn forget_late(&mut self, now: u64)
         ensures left { numbered self.new ≡ in_time now (numbered self.old) }
         ensures in_time { WaitsInTime now (numbered self.new) }

@@ -1,12 +1,21 @@
--- A world of one agent: private to the crate.
-use Rattle.std.specs.Prelude.{◌≡◌, ℕ, List, [], ◌∷◌}
+-- A world of one agent, which is private to the crate, and why there is none.
+use Rattle.std.specs.Prelude.{◌≡◌, ℕ, List, [], ◌∷◌, true, false}
 use Rattle.std.specs.Option.{option_to_list}
 use Rattle.serf_agent.specs.declared.config.Config.{Config}
+use Rattle.serf_agent.specs.Config.{is_sound}
 use Rattle.serf_model.specs.declared.action.Act.{Act}
 use Rattle.serf_model.specs.Alone.{AgentCall, alone, of_one_packet}
 use Rattle.serf_model.specs.Cluster.{Cluster, IdealNode, apply}
 use Rattle.serf_model.specs.Ready.{AreRepresentable}
 use Rattle.serf_world.specs.View.{IsViewed, WorldState}
+use Rattle.serf_conform.specs.declared.verdict.ConformFault.{ConformFault}
+use Rattle.serf_conform.specs.declared.verdict.ConformFault.TheVariants as faults
+
+-- why there is no roster of these settings alone: they are out of bounds, or else there is no memory for it
+abbrev pub IsLoneFault : Config → ConformFault → Type 0
+IsLoneFault config faults.NoAgent = is_sound config ≡ false
+IsLoneFault config faults.OutOfMemory = is_sound config ≡ true
+IsLoneFault config _ = ⊥
 
 -- the agent of these settings after these calls, where these packets were sent
 abbrev pub lone_cluster : Config → List AgentCall → WorldState → Cluster

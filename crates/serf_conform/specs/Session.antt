@@ -17,7 +17,7 @@ use Rattle.serf_conform.specs.declared.judging.Judgement.TheVariants as judgemen
 use Rattle.serf_conform.specs.declared.asking.Asked.{Asked}
 use Rattle.serf_conform.specs.declared.asking.Asked.TheVariants as asks
 use Rattle.serf_conform.specs.declared.look.Look.{Look}
-use Rattle.serf_conform.specs.declared.tally.Tally.{Tally}
+use Rattle.serf_conform.specs.declared.asking.Tally.{Tally}
 use Rattle.serf_conform.specs.declared.verdict.End.{End}
 use Rattle.serf_conform.specs.declared.verdict.End.TheVariants as ends
 use Rattle.serf_conform.specs.declared.verdict.Verdict.{Verdict}
@@ -54,16 +54,9 @@ looked_of serf look input = looked_in serf look (first_reply input)
 
 -- where the agent has not ended, the reader has the rest left
 abbrev pub RestIs : Asked → Option (List ℕ) → List ℕ → Type 0
-RestIs asks.Skipped new rest = new ≡ Some rest
-RestIs asks.Agrees new rest = new ≡ Some rest
-RestIs asks.OwnRule new rest = new ≡ Some rest
-RestIs asks.Unsupported new rest = new ≡ Some rest
-RestIs (asks.Differs text) new rest = new ≡ Some rest
 RestIs asks.Ended new rest = Unit {0}
-RestIs asks.Looked new rest = new ≡ Some rest
-RestIs asks.Unlooked new rest = new ≡ Some rest
-RestIs (asks.LookDiffers look text) new rest = new ≡ Some rest
 RestIs (asks.LookEnded look) new rest = Unit {0}
+RestIs _ new rest = new ≡ Some rest
 
 pub record IsAsked (s : AskedOf) (asked : Asked) (new : Option (List ℕ)) : Type 0 where
   pub asked_is : asked ≡ s.asked
@@ -176,16 +169,12 @@ abbrev pub look_unsupported : Tally → Tally
 look_unsupported n = record { calls = n.calls; looks = n.looks; unsupported = n.unsupported + 1 }
 
 abbrev pub counted : Asked → Tally → Tally
-counted asks.Skipped n = n
 counted asks.Agrees n = one_more n
-counted asks.OwnRule n = n
-counted asks.Unsupported n = n
-counted (asks.Differs text) n = n
-counted asks.Ended n = n
 counted asks.Looked n = look_agrees (one_more n)
 counted asks.Unlooked n = look_unsupported (one_more n)
 counted (asks.LookDiffers look text) n = one_more n
 counted (asks.LookEnded look) n = one_more n
+counted _ n = n
 
 -- no count is the greatest of 64 bits
 pub record HasRoom (n : Tally) : Type 0 where
@@ -206,21 +195,23 @@ no_calls = record { calls = 0; looks = 0; unsupported = 0 }
 abbrev pub verdict_at : ℕ → Tally → Option Look → End → Verdict
 verdict_at action n look end = record { calls = n.calls; looks = n.looks; unsupported_looks = n.unsupported; action = action; look = look; end = end }
 
-abbrev pub ends_at : ℕ → Tally → Option Look → End → List ℕ → List ℕ → Session
-ends_at action n look end written rest = record { verdict = verdict_at action n look end; written = written; rest = rest }
+-- the verdict where this came of a call, or None where it goes on
+abbrev pub ending_of : Asked → ℕ → Tally → Option Verdict
+ending_of asks.OwnRule action n = Some (verdict_at action n None ends.OwnRule)
+ending_of asks.Unsupported action n = Some (verdict_at action n None ends.Unsupported)
+ending_of (asks.Differs text) action n = Some (verdict_at action n None (ends.Differs text))
+ending_of asks.Ended action n = Some (verdict_at action n None ends.Ended)
+ending_of (asks.LookDiffers look text) action n = Some (verdict_at action (one_more n) (Some look) (ends.Differs text))
+ending_of (asks.LookEnded look) action n = Some (verdict_at action (one_more n) (Some look) ends.Ended)
+ending_of _ action n = None
 
 -- It goes on with what agrees, what was written, and what the agent writes from there on.
+abbrev pub after_ending : Option Verdict → Tally → List ℕ → List ℕ → (Tally → List ℕ → List ℕ → Session) → Session
+after_ending None n written rest next = next n written rest
+after_ending (Some verdict) n written rest next = record { verdict = verdict; written = written; rest = rest }
+
 abbrev pub after_asked : Asked → ℕ → Tally → List ℕ → List ℕ → (Tally → List ℕ → List ℕ → Session) → Session
-after_asked asks.Skipped action n written rest next = next (counted asks.Skipped n) written rest
-after_asked asks.Agrees action n written rest next = next (counted asks.Agrees n) written rest
-after_asked asks.OwnRule action n written rest next = ends_at action n None ends.OwnRule written rest
-after_asked asks.Unsupported action n written rest next = ends_at action n None ends.Unsupported written rest
-after_asked (asks.Differs text) action n written rest next = ends_at action n None (ends.Differs text) written rest
-after_asked asks.Ended action n written rest next = ends_at action n None ends.Ended written rest
-after_asked asks.Looked action n written rest next = next (counted asks.Looked n) written rest
-after_asked asks.Unlooked action n written rest next = next (counted asks.Unlooked n) written rest
-after_asked (asks.LookDiffers look text) action n written rest next = ends_at action (one_more n) (Some look) (ends.Differs text) written rest
-after_asked (asks.LookEnded look) action n written rest next = ends_at action (one_more n) (Some look) ends.Ended written rest
+after_asked asked action n written rest next = after_ending (ending_of asked action n) (counted asked n) written rest next
 
 -- the look after the last call
 abbrev pub last_of : Asked → ℕ → Tally → Look → Verdict
@@ -231,6 +222,10 @@ last_of asks.Ended action n look = verdict_at action n (Some look) ends.Ended
 last_of (asks.LookEnded other) action n look = verdict_at action n (Some look) ends.Ended
 last_of asked action n look = verdict_at action n None ends.AllAgree
 
+-- what came of a turn, behind which the look is due of the model's agent, that got these calls before it
+abbrev pub taken_at : Bool → ℕ → Config → List AgentCall → Turn → List ℕ → Taken
+taken_at serf a config made t input = taken_of serf config.keep_events a (due_of a config (made_after a t made) t) t input
+
 -- The turns that are left, from the one of this action on, where the model's agent got these calls.
 abbrev pub session_from : Bool → ℕ → Config → List AgentCall → ℕ → Tally → List ℕ → List Turn → List ℕ → Session
 session_from serf a config made action n written [] input =
@@ -238,7 +233,7 @@ session_from serf a config made action n written [] input =
     let l = looked_of serf look input in
     record { verdict = last_of l.asked action n look; written = written ++ look_line; rest = l.rest }
 session_from serf a config made action n written (t ∷ ts) input =
-    let s = taken_of serf config.keep_events a (due_of a config (made_after a t made) t) t input in
+    let s = taken_at serf a config made t input in
     after_asked s.asked action n (written ++ s.written) s.rest (λ m w rest. session_from serf a config (made_after a t made) (action + 1) m w ts rest)
 
 -- An agent is opened, which counts as action 0, and is then held against the turns of agent a; actions count from 1.
@@ -249,11 +244,8 @@ session serf a config turns input =
 
 -- where the agent has not ended, the reader has the rest left
 abbrev pub IsLeft : End → Option (List ℕ) → List ℕ → Type 0
-IsLeft ends.AllAgree new rest = new ≡ Some rest
-IsLeft ends.OwnRule new rest = new ≡ Some rest
-IsLeft ends.Unsupported new rest = new ≡ Some rest
-IsLeft (ends.Differs text) new rest = new ≡ Some rest
 IsLeft ends.Ended new rest = Unit {0}
+IsLeft _ new rest = new ≡ Some rest
 
 -- the verdict, what was written, and what the reader has left
 pub record Concludes (s : Session) (verdict : Verdict) (new held holds : Option (List ℕ)) : Type 0 where
@@ -266,16 +258,3 @@ abbrev pub IsAlong : Option (List ℕ) → Option (List ℕ) → Option (List �
 IsAlong None now held holds whole from = Unit {0}
 IsAlong (Some input) None held holds whole from = ⊥
 IsAlong (Some input) (Some rest) held holds whole from = (w : List ℕ) × Appends held holds w × (from w rest ≡ whole input)
-
--- the verdict where this came of a call, or None where it goes on
-abbrev pub ending_of : Asked → ℕ → Tally → Option Verdict
-ending_of asks.Skipped action n = None
-ending_of asks.Agrees action n = None
-ending_of asks.OwnRule action n = Some (verdict_at action n None ends.OwnRule)
-ending_of asks.Unsupported action n = Some (verdict_at action n None ends.Unsupported)
-ending_of (asks.Differs text) action n = Some (verdict_at action n None (ends.Differs text))
-ending_of asks.Ended action n = Some (verdict_at action n None ends.Ended)
-ending_of asks.Looked action n = None
-ending_of asks.Unlooked action n = None
-ending_of (asks.LookDiffers look text) action n = Some (verdict_at action (one_more n) (Some look) (ends.Differs text))
-ending_of (asks.LookEnded look) action n = Some (verdict_at action (one_more n) (Some look) ends.Ended)

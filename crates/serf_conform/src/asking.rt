@@ -9,7 +9,7 @@ ghost use Rattle.serf_conform.specs.Input.{Hears, first_reply};
 ghost use Rattle.serf_conform.specs.Look.{look_line as line_of_look};
 ghost use Rattle.serf_conform.specs.Reply.{said_in};
 ghost use Rattle.serf_conform.specs.Rules.{is_serf};
-ghost use Rattle.serf_conform.specs.Session.{IsAsked, IsTaken, Taken, asked_by, asked_of, given_of, look_agrees, look_unsupported, looked_of, one_more, taken_of, then_looked, turn_at, with_line, with_looked};
+ghost use Rattle.serf_conform.specs.Session.{IsAsked, IsTaken, Taken, asked_by, asked_of, given_of, looked_of, taken_of, then_looked, turn_at, with_line, with_looked};
 ghost use Rattle.serf_conform.specs.Wanted.{wanted_of};
 
 use crate::call::put_call;
@@ -18,13 +18,23 @@ use crate::judging::{Judgement, judge};
 use crate::look::{Look, judge_look, look_line};
 use crate::replies::wanted;
 use crate::reply::Reply;
-use crate::tally::Tally;
 use crate::verdict::{ConformFault, Rules};
 use serf_model::{Act, Action, Line, is_common_turn};
 use serf_text::write_output;
 use serf_wire::Bytes;
-use std::alloc::{AllocError, Global};
+use std::alloc::Global;
 use std::io::{Read, Write};
+
+/// How many replies agree, and how many looks had none.
+#[derive(Clone, Copy, PartialEq, Eq)]
+pub(crate) struct Tally {
+    /// How many calls agree. That the agent was opened is one.
+    pub(crate) calls: u64,
+    /// How many looks agree.
+    pub(crate) looks: u64,
+    /// How many looks are unsupported.
+    pub(crate) unsupported: u64,
+}
 
 /// What came of a turn.
 #[derive(Drop)]
@@ -47,67 +57,28 @@ pub(crate) enum Asked {
     LookEnded(Look),
 }
 
-/// The counts after a call that agrees.
-fn one_more(tally: Tally) -> Tally
-    requires { tally.calls < 2 ^ 64 - 1 }
-    ensures { result ≡ one_more tally }
-{
-    Tally {
-        calls: tally.calls + 1,
-        looks: tally.looks,
-        unsupported: tally.unsupported,
-    }
-}
-
-/// The counts after a look that agrees.
-pub(crate) fn look_agrees(tally: Tally) -> Tally
-    requires { tally.looks < 2 ^ 64 - 1 }
-    ensures { result ≡ look_agrees tally }
-{
-    Tally {
-        calls: tally.calls,
-        looks: tally.looks + 1,
-        unsupported: tally.unsupported,
-    }
-}
-
-/// The counts after a look that is unsupported.
-pub(crate) fn look_unsupported(tally: Tally) -> Tally
-    requires { tally.unsupported < 2 ^ 64 - 1 }
-    ensures { result ≡ look_unsupported tally }
-{
-    Tally {
-        calls: tally.calls,
-        looks: tally.looks,
-        unsupported: tally.unsupported + 1,
-    }
-}
-
 impl Asked {
     ghost use Rattle.std.specs.Prelude.{◌≡◌};
-    ghost use Rattle.serf_conform.specs.Session.{HasRoom, agrees, counted};
-
-    /// Whether a reply was read, and agrees.
-    fn agrees(&self) -> bool
-        ensures { result ≡ agrees self.now }
-    {
-        matches!(self, Asked::Agrees)
-    }
+    ghost use Rattle.serf_conform.specs.Session.{HasRoom, counted};
 
     /// The counts after it.
     pub(crate) fn counted(&self, tally: Tally) -> Tally
         requires { HasRoom tally }
         ensures { result ≡ counted self.now tally }
     {
+        let calls = tally.calls + 1;
+        let more = Tally { calls, ..tally };
         match self {
-            Asked::Agrees | Asked::LookDiffers(..) | Asked::LookEnded(_) => one_more(tally),
-            Asked::Looked => look_agrees(one_more(tally)),
-            Asked::Unlooked => look_unsupported(one_more(tally)),
-            Asked::Skipped
-            | Asked::OwnRule
-            | Asked::Unsupported
-            | Asked::Differs(_)
-            | Asked::Ended => tally,
+            Asked::Agrees | Asked::LookDiffers(..) | Asked::LookEnded(_) => more,
+            Asked::Looked => Tally {
+                looks: tally.looks + 1,
+                ..more
+            },
+            Asked::Unlooked => Tally {
+                unsupported: tally.unsupported + 1,
+                ..more
+            },
+            _ => tally,
         }
     }
 }
@@ -126,6 +97,7 @@ fn heard<R: Read>(alloc: Global, reader: &mut R) -> Result<Option<Vec<u8>>, Conf
     }
 }
 
+/// What came of asking about a line, by a judgement; where the other agent differs, with its text.
 fn asked_by(judgement: Judgement, text: Vec<u8>) -> Asked
     ensures { result ≡ asked_by judgement text.items }
 {
@@ -137,7 +109,7 @@ fn asked_by(judgement: Judgement, text: Vec<u8>) -> Asked
 }
 
 /// Writes a call, reads its reply, and judges it.
-pub(crate) fn ask<R: Read, W: Write>(
+fn ask<R: Read, W: Write>(
     alloc: Global,
     reader: &mut R,
     writer: &mut W,
@@ -156,10 +128,8 @@ pub(crate) fn ask<R: Read, W: Write>(
     let Some(text) = heard(alloc, reader)? else {
         return Ok(Asked::Ended);
     };
-    match judge(alloc, given, wanted, &text) {
-        Ok(judgement) => Ok(asked_by(judgement, text)),
-        Err(_) => Err(ConformFault::OutOfMemory),
-    }
+    let judgement = judge(alloc, given, wanted, &text)?;
+    Ok(asked_by(judgement, text))
 }
 
 /// Writes `look`, reads its reply, and judges it.
@@ -181,10 +151,8 @@ pub(crate) fn ask_look<R: Read, W: Write>(
     let Some(text) = heard(alloc, reader)? else {
         return Ok(Asked::Ended);
     };
-    match judge_look(alloc, rules, look, &text) {
-        Ok(judgement) => Ok(asked_by(judgement, text)),
-        Err(_) => Err(ConformFault::OutOfMemory),
-    }
+    let judgement = judge_look(alloc, rules, look, &text)?;
+    Ok(asked_by(judgement, text))
 }
 
 /// A call that agrees, with what came of the look after it.
@@ -217,11 +185,31 @@ pub(crate) fn then_look<R: Read, W: Write>(
     let Some(look) = due else {
         return Ok(asked);
     };
-    if !asked.agrees() {
+    if !matches!(asked, Asked::Agrees) {
         return Ok(asked);
     }
     let looked = ask_look(alloc, reader, writer, rules, &look)?;
     Ok(with_looked(look, looked))
+}
+
+/// Writes a call, reads its reply and judges it, and then looks at the agent where that is due.
+pub(crate) fn ask_and_look<R: Read, W: Write>(
+    alloc: Global,
+    reader: &mut R,
+    writer: &mut W,
+    rules: Rules,
+    due: Option<Look>,
+    line: &[u8],
+    given: &[u8],
+    wanted: &Reply,
+) -> Result<Asked, ConformFault>
+    ensures { IfOk result (λ came. IfSome (R.remaining reader.old) (λ input. IsTaken
+        (then_looked (is_serf rules) due
+        (with_line line.now (asked_of given.now (said_in wanted.now) input)))
+        came (R.remaining reader.new) (W.contents writer.old) (W.contents writer.new))) }
+{
+    let asked = ask(alloc, reader, writer, line, given, wanted)?;
+    then_look(alloc, reader, writer, rules, due, asked)
 }
 
 /// Whether an action is one of this agent. Takes no memory.
@@ -248,41 +236,9 @@ pub fn given_packet<'a>(action: &Action, sent: &'a [Bytes]) -> Option<&'a [u8]>
     }
 }
 
-fn call_text(alloc: Global, action: &Action, given: &[u8]) -> Result<Vec<u8>, AllocError>
-    ensures { IfOk result (λ text. text.items ≡ call_line action.now given.now) }
-{
-    let mut out = Vec::new(alloc);
-    put_call(&mut out, action, given)?;
-    Ok(out)
-}
-
-/// Makes a call of an agent, which is given this packet, and judges its reply against the action's line.
+/// Makes a call of an agent, which is given this packet, judges its reply against the action's line, and then looks at
+/// the agent where that is due.
 fn make_call<R: Read, W: Write>(
-    alloc: Global,
-    reader: &mut R,
-    writer: &mut W,
-    action: &Action,
-    line: &Line,
-    given: &[u8],
-    packets: &[Bytes],
-) -> Result<Asked, ConformFault>
-    ensures written { OnOk result
-        (Appends (W.contents writer.old) (W.contents writer.new) (call_line action.now given.now)) }
-    ensures asked { IfOk result (λ asked. IfSome (R.remaining reader.old) (λ input.
-        IsAsked (asked_of given.now (wanted_of line.now given.now packets.now) input) asked
-        (R.remaining reader.new))) }
-{
-    let Ok(text) = call_text(alloc, action, given) else {
-        return Err(ConformFault::OutOfMemory);
-    };
-    let Ok(reply) = wanted(alloc, line, given, packets) else {
-        return Err(ConformFault::OutOfMemory);
-    };
-    ask(alloc, reader, writer, &text, given, &reply)
-}
-
-/// Makes a call of an agent, which is given this packet, judges its reply, and then looks at the agent where that is due.
-fn call_and_look<R: Read, W: Write>(
     alloc: Global,
     reader: &mut R,
     writer: &mut W,
@@ -298,52 +254,16 @@ fn call_and_look<R: Read, W: Write>(
         (asked_of given.now (wanted_of line.now given.now packets.now) input)))
         came (R.remaining reader.new) (W.contents writer.old) (W.contents writer.new))) }
 {
-    let asked = make_call(alloc, reader, writer, action, line, given, packets)?;
-    then_look(alloc, reader, writer, rules, due, asked)
+    let mut text = Vec::new(alloc);
+    put_call(&mut text, action, given)?;
+    let reply = wanted(alloc, line, given, packets)?;
+    ask_and_look(alloc, reader, writer, rules, due, &text, given, &reply)
 }
 
 /// Makes the call of a turn, where it is one of this agent that rests on these rules, judges its reply, and then looks at
-/// the agent where that is due. `keeps` says whether the agent keeps its events over a restart. Before the turn these
-/// packets were sent, and by it those.
+/// the agent where that is due. `keeps` says whether the agent keeps its events over a restart. So many of all packets
+/// were sent before the turn; `OtherTrace` where there are fewer.
 pub(crate) fn take_turn<R: Read, W: Write>(
-    alloc: Global,
-    reader: &mut R,
-    writer: &mut W,
-    rules: Rules,
-    keeps: bool,
-    agent: u64,
-    due: Option<Look>,
-    action: &Action,
-    line: &Line,
-    before: &[Bytes],
-    packets: &[Bytes],
-) -> Result<Asked, ConformFault>
-    ensures { IfOk result (λ asked.
-        IfSome (R.remaining reader.old) (λ input. IsTaken (taken_of (is_serf rules) keeps agent due
-        (record {
-          action = action.now;
-          line = line.now;
-          given = packet_given before.now action.now;
-          packets = packets.now;
-        })
-        input) asked (R.remaining reader.new) (W.contents writer.old) (W.contents writer.new))) }
-{
-    if !is_of(action, agent) {
-        return Ok(Asked::Skipped);
-    }
-    let Some(given) = given_packet(action, before) else {
-        return Ok(Asked::Skipped);
-    };
-    if rules.is_serf() && !is_common_turn(keeps, action, line) {
-        return Ok(Asked::OwnRule);
-    }
-    call_and_look(
-        alloc, reader, writer, rules, due, action, line, given, packets,
-    )
-}
-
-/// The same, of the turn whose packets follow so many of all that were sent; `OtherTrace` where there are fewer.
-pub(crate) fn next_turn<R: Read, W: Write>(
     alloc: Global,
     reader: &mut R,
     writer: &mut W,
@@ -365,9 +285,18 @@ pub(crate) fn next_turn<R: Read, W: Write>(
     if count > sent.len() || own > sent.len() - count {
         return Err(ConformFault::OtherTrace);
     }
+    if !is_of(action, agent) {
+        return Ok(Asked::Skipped);
+    }
     let before = &sent[..count];
+    let Some(given) = given_packet(action, before) else {
+        return Ok(Asked::Skipped);
+    };
+    if rules.is_serf() && !is_common_turn(keeps, action, line) {
+        return Ok(Asked::OwnRule);
+    }
     let packets = &sent[count..count + own];
-    take_turn(
-        alloc, reader, writer, rules, keeps, agent, due, action, line, before, packets,
+    make_call(
+        alloc, reader, writer, rules, due, action, line, given, packets,
     )
 }

@@ -16,7 +16,6 @@ mod reply;
 mod reply_line;
 mod reply_text;
 mod session;
-mod tally;
 mod verdict;
 
 pub use asking::{given_packet, is_of};
@@ -24,6 +23,7 @@ pub use call::{put_call, put_open};
 pub use input::{MAX_REPLY_BYTES, ReadFault, read_reply_text};
 pub use judging::{Judgement, judge};
 pub use laws::projection;
+pub use lone::lone_roster;
 pub use look::{Look, is_looked_behind, judge_look, look_line, look_reply};
 pub use meaning::{line_means, reply_means};
 pub use replies::{opening, wanted};

@@ -1,9 +1,10 @@
 //! The model's agent, which gets the calls of the agent that is held, and nothing else.
 
-ghost use Rattle.std.specs.Prelude.{◌≡◌, ◌++◌, ◌∷◌, List, [], IfOk, OnOk, Some, slice_get};
+ghost use Rattle.std.specs.Prelude.{◌≡◌, ◌++◌, ◌∷◌, List, [], true, IfErr, IfOk, OnOk, Some, slice_get};
 ghost use Rattle.serf_agent.specs.declared.config.Config.{Config};
+ghost use Rattle.serf_agent.specs.Config.{is_sound};
 ghost use Rattle.serf_model.specs.Alone.{AgentCall};
-ghost use Rattle.serf_conform.specs.Lone.{DoesAs, IsLone};
+ghost use Rattle.serf_conform.specs.Lone.{DoesAs, IsLone, IsLoneFault};
 ghost use Rattle.serf_conform.specs.Look.{is_looked_behind as looked_behind, look_after};
 ghost use Rattle.serf_conform.specs.Session.{due_if, due_of, made_after, turn_at};
 
@@ -13,20 +14,26 @@ use crate::verdict::ConformFault;
 use serf_agent::Config;
 use serf_model::{Act, Action, Answer, Line};
 use serf_wire::Bytes;
-use serf_world::{Roster, RosterFault, World};
+use serf_world::{Roster, World};
 use std::alloc::Global;
 
-fn lone_roster(alloc: Global, config: &Config) -> Result<Roster, ConformFault>
-    ensures { IfOk result (λ roster. roster ≡ config.now ∷ []) }
+/// The roster of an agent of these settings alone. It is `NoAgent` exactly where they are out of bounds, and `OutOfMemory`
+/// only where they are within them and there is no memory for the roster. There is no other fault.
+pub fn lone_roster(alloc: Global, config: &Config) -> Result<Roster, ConformFault>
+    ensures alone { IfOk result (λ roster. roster ≡ config.now ∷ []) }
+    ensures sound { OnOk result (is_sound config.now ≡ true) }
+    ensures fault { IfErr result (IsLoneFault config.now) }
 {
+    if !config.is_sound() {
+        return Err(ConformFault::NoAgent);
+    }
     let Ok(copy) = config.try_clone(alloc) else {
         return Err(ConformFault::OutOfMemory);
     };
     let mut roster = Roster::new(alloc);
     match roster.add(alloc, copy) {
         Ok(()) => Ok(roster),
-        Err(RosterFault::OutOfMemory) => Err(ConformFault::OutOfMemory),
-        Err(_) => Err(ConformFault::NoAgent),
+        Err(_) => Err(ConformFault::OutOfMemory),
     }
 }
 
@@ -34,11 +41,7 @@ fn lone_roster(alloc: Global, config: &Config) -> Result<Roster, ConformFault>
 pub(crate) fn open_lone(alloc: Global, config: &Config) -> Result<World, ConformFault>
     ensures { IfOk result (λ world. IsLone config.now [] world) }
 {
-    let roster = lone_roster(alloc, config)?;
-    match World::new(alloc, roster) {
-        Ok(world) => Ok(world),
-        Err(_) => Err(ConformFault::OutOfMemory),
-    }
+    Ok(World::new(alloc, lone_roster(alloc, config)?)?)
 }
 
 /// The agent acts, by an act that does what this call does.
@@ -47,10 +50,8 @@ fn act_lone(alloc: Global, world: &mut World, act: Act) -> Result<(), ConformFau
         → IsLone config made world.old → DoesAs world.old.sent act call
         → OnOk result (IsLone config (made ++ call ∷ []) world.new) }
 {
-    match world.step(alloc, &Action::Of { agent: 0, act }) {
-        Ok(_) => Ok(()),
-        Err(_) => Err(ConformFault::OutOfMemory),
-    }
+    world.step(alloc, &Action::Of { agent: 0, act })?;
+    Ok(())
 }
 
 /// A packet is sent that the agent did not make, and its number is given.
@@ -61,13 +62,9 @@ fn send_lone(alloc: Global, world: &mut World, given: &[u8]) -> Result<u64, Conf
         → IfOk result (λ number. slice_get world.new.sent number ≡ Some given.now) }
 {
     let number = world.sent().len() as u64;
-    let Ok(bytes) = Bytes::copy_of(alloc, given) else {
-        return Err(ConformFault::OutOfMemory);
-    };
-    match world.step(alloc, &Action::Inject { bytes }) {
-        Ok(_) => Ok(number),
-        Err(_) => Err(ConformFault::OutOfMemory),
-    }
+    let bytes = Bytes::copy_of(alloc, given)?;
+    world.step(alloc, &Action::Inject { bytes })?;
+    Ok(number)
 }
 
 /// The agent makes a call, which gives it this packet.
@@ -83,19 +80,10 @@ fn call_lone(alloc: Global, world: &mut World, act: &Act, given: &[u8]) -> Resul
         }
         Act::Merge { join, .. } => {
             let packet = send_lone(alloc, world, given)?;
-            act_lone(
-                alloc,
-                world,
-                Act::Merge {
-                    packet,
-                    join: *join,
-                },
-            )
+            let join = *join;
+            act_lone(alloc, world, Act::Merge { packet, join })
         }
-        _ => match act.try_clone(alloc) {
-            Ok(copy) => act_lone(alloc, world, copy),
-            Err(_) => Err(ConformFault::OutOfMemory),
-        },
+        _ => act_lone(alloc, world, act.try_clone(alloc)?),
     }
 }
 
@@ -107,9 +95,7 @@ pub(crate) fn look_at(alloc: Global, world: &World) -> Result<Look, ConformFault
     let Some(agent) = world.agent(0) else {
         return Err(ConformFault::NoAgent);
     };
-    let Ok(kept) = Bytes::copy_of(alloc, agent.sink().durable()) else {
-        return Err(ConformFault::OutOfMemory);
-    };
+    let kept = Bytes::copy_of(alloc, agent.sink().durable())?;
     Ok(Look {
         member_clock: agent.member_time(),
         event_clock: agent.event_time(),
@@ -125,12 +111,10 @@ fn due_look(alloc: Global, world: &World, answer: Answer) -> Result<Option<Look>
     ensures { (config : Config) (made : List AgentCall) → IsLone config made world.now
         → IfOk result (λ due. due ≡ due_if (looked_behind answer) (look_after config made)) }
 {
-    if is_looked_behind(answer) {
-        let look = look_at(alloc, world)?;
-        Ok(Some(look))
-    } else {
-        Ok(None)
+    if !is_looked_behind(answer) {
+        return Ok(None);
     }
+    Ok(Some(look_at(alloc, world)?))
 }
 
 /// The agent makes the call of a turn, where it is one of the agent of this number, and the look is given that is due

@@ -3,7 +3,7 @@
 ghost use Rattle.std.specs.Prelude.{◌≡◌, ◌++◌, ◌∷◌, [], IfOk, OnOk};
 ghost use Rattle.std.specs.Option.{option_copied};
 ghost use Rattle.serf_conform.specs.CallText.{number_word};
-ghost use Rattle.serf_conform.specs.Look.{is_looked_behind as looked_behind, kept_alike, kept_in, look_answer, look_judged, look_line as line_of_look, look_means, look_said, only_kept, same_clocks};
+ghost use Rattle.serf_conform.specs.Look.{is_looked_behind as looked_behind, kept_alike, look_answer, look_judged, look_line as line_of_look, look_means, look_said, only_kept, same_clocks};
 ghost use Rattle.serf_conform.specs.Reply.{reply_of, said_in};
 ghost use Rattle.serf_conform.specs.Rules.{is_serf};
 
@@ -43,32 +43,23 @@ pub fn look_line() -> &'static [u8]
 pub fn is_looked_behind(answer: Answer) -> bool
     ensures { result ≡ looked_behind answer }
 {
-    match answer {
-        Answer::Refused(_) => true,
-        Answer::Restarted { .. } => true,
-        Answer::Compacted => true,
-        _ => false,
-    }
+    matches!(
+        answer,
+        Answer::Refused(_) | Answer::Restarted { .. } | Answer::Compacted
+    )
 }
 
-/// Appends the answer that is wanted.
+/// The answer that is wanted.
 #[tactic(auto, unfolding(crate::specs::Look::look_answer))]
-fn put_look_answer(out: &mut Vec<u8>, look: &Look) -> Result<(), AllocError>
-    ensures { OnOk result (out.new.items ≡ out.old.items ++ look_answer look.now) }
-{
-    out.extend_from_slice(b"looked")?;
-    put_number_word(out, look.member_clock)?;
-    put_number_word(out, look.event_clock)?;
-    put_number_word(out, look.query_clock)?;
-    put_number_word(out, look.event_minimum)?;
-    put_number_word(out, look.query_minimum)
-}
-
 fn answer_of(alloc: Global, look: &Look) -> Result<Vec<u8>, AllocError>
     ensures { IfOk result (λ answer. answer.items ≡ look_answer look.now) }
 {
-    let mut out = Vec::new(alloc);
-    put_look_answer(&mut out, look)?;
+    let mut out = Vec::from_slice(alloc, b"looked")?;
+    put_number_word(&mut out, look.member_clock)?;
+    put_number_word(&mut out, look.event_clock)?;
+    put_number_word(&mut out, look.query_clock)?;
+    put_number_word(&mut out, look.event_minimum)?;
+    put_number_word(&mut out, look.query_minimum)?;
     Ok(out)
 }
 
@@ -76,14 +67,11 @@ fn answer_of(alloc: Global, look: &Look) -> Result<Vec<u8>, AllocError>
 pub fn look_reply(alloc: Global, look: &Look) -> Result<Reply, AllocError>
     ensures { IfOk result (λ reply. said_in reply ≡ look_said look.now) }
 {
-    let answer = answer_of(alloc, look)?;
+    let answer = Bytes::from_vec(answer_of(alloc, look)?);
     let kept = Bytes::copy_of(alloc, look.kept.as_slice())?;
     let mut lines = Vec::new(alloc);
     lines.push(ReplyLine::Kept(kept))?;
-    Ok(Reply {
-        answer: Bytes::from_vec(answer),
-        lines,
-    })
+    Ok(Reply { answer, lines })
 }
 
 /// Whether the same clocks are read in two texts.
@@ -108,30 +96,13 @@ fn is_kept_alike(rules: Rules, wanted: &[u8], got: &[u8]) -> bool
     }
 }
 
-/// The text of a line that says what is kept.
-fn kept_in(line: &ReplyLine) -> Option<&[u8]>
-    ensures { option_copied result ≡ kept_in line.now }
-{
-    match line {
-        ReplyLine::Kept(text) => Some(text.as_slice()),
-        ReplyLine::Sent(_) => None,
-        ReplyLine::Event { .. } => None,
-        ReplyLine::Handed { .. } => None,
-        ReplyLine::CountedAck { .. } => None,
-        ReplyLine::CountedResponse { .. } => None,
-    }
-}
-
-/// The text of a reply's only line.
+/// The text of a reply's only line, where it says what is kept.
 fn only_kept(lines: &[ReplyLine]) -> Option<&[u8]>
     ensures { option_copied result ≡ only_kept lines.now }
 {
     match lines {
-        [] => None,
-        [line, rest @ ..] => match rest {
-            [] => kept_in(line),
-            [_, ..] => None,
-        },
+        [ReplyLine::Kept(text)] => Some(text.as_slice()),
+        _ => None,
     }
 }
 

@@ -2,14 +2,14 @@
 
 ghost use Rattle.std.specs.Prelude.{◌≡◌, ◌++◌, IfOk, OnOk};
 ghost use Rattle.std.specs.List.{flat_map};
-ghost use Rattle.std.specs.Option.{option_copied, option_map};
+ghost use Rattle.std.specs.Option.{option_map};
 ghost use Rattle.std.specs.Str.{bytes_eq};
 ghost use Rattle.serf_wire.specs.Decoded.{decoded};
 ghost use Rattle.serf_wire.specs.Lists.{slot_of_view, slots_left, status_left, texts_left};
 ghost use Rattle.serf_wire.specs.Message.{message_of};
 ghost use Rattle.serf_conform.specs.Reply.{said_in};
 ghost use Rattle.serf_conform.specs.ReplyText.{line_text as text_of};
-ghost use Rattle.serf_conform.specs.Meaning.{are_same, held_lines, line_means as means, lines_mean, meaning_of, meaning_text, packet_means, reply_means as replies_mean, sent_in, spell_same, state_lines};
+ghost use Rattle.serf_conform.specs.Meaning.{are_same, held_lines, line_means as means, lines_mean, meaning_of, meaning_text, packet_means, reply_means as replies_mean, spell_same, state_lines};
 
 use crate::reply::Reply;
 use crate::reply_line::ReplyLine;
@@ -24,11 +24,11 @@ fn put_held(out: &mut Vec<u8>, slot: &SlotView) -> Result<(), AllocError>
 {
     match slot {
         SlotView::Empty => Ok(()),
-        SlotView::Single(..) => put_slot(out, 0, slot),
-        SlotView::Held(..) => put_slot(out, 0, slot),
+        _ => put_slot(out, 0, slot),
     }
 }
 
+/// Appends the lines of what slots hold.
 fn put_held_slots(out: &mut Vec<u8>, slots: SlotViews) -> Result<(), AllocError>
     ensures { OnOk result (out.new.items ≡ out.old.items
         ++ flat_map held_lines (slots_left slots.entry)) }
@@ -58,10 +58,7 @@ fn put_meaning(out: &mut Vec<u8>, message: &Message) -> Result<(), AllocError>
 {
     match message {
         Message::PushPull(state) => put_state(out, state),
-        Message::UserEvent(_) => put_message(out, message),
-        Message::Query(_) => put_message(out, message),
-        Message::QueryResponse(_) => put_message(out, message),
-        Message::Foreign(_) => put_message(out, message),
+        _ => put_message(out, message),
     }
 }
 
@@ -80,6 +77,7 @@ fn meaning(alloc: Global, packet: &[u8]) -> Result<Option<Vec<u8>>, AllocError>
     }
 }
 
+/// Whether two texts are the same bytes.
 fn is_equal(one: &[u8], other: &[u8]) -> bool
     ensures { result ≡ bytes_eq one.now other.now }
 {
@@ -114,20 +112,7 @@ fn is_wanted_packet(
     spell_one(alloc, wanted, got)
 }
 
-/// The packet of a line that says that one was sent.
-fn sent_packet(line: &ReplyLine) -> Option<&[u8]>
-    ensures { option_copied result ≡ sent_in line.now }
-{
-    match line {
-        ReplyLine::Sent(packet) => Some(packet.as_slice()),
-        ReplyLine::Event { .. } => None,
-        ReplyLine::Handed { .. } => None,
-        ReplyLine::CountedAck { .. } => None,
-        ReplyLine::CountedResponse { .. } => None,
-        ReplyLine::Kept(_) => None,
-    }
-}
-
+/// The text of a line of a reply.
 fn line_text(alloc: Global, line: &ReplyLine) -> Result<Vec<u8>, AllocError>
     ensures { IfOk result (λ text. text.items ≡ text_of line.now) }
 {
@@ -149,12 +134,14 @@ pub fn line_means(
 ) -> Result<bool, AllocError>
     ensures { IfOk result (λ b. b ≡ means given.now wanted.now got.now) }
 {
-    match sent_packet(wanted) {
-        Some(packet) => match sent_packet(got) {
-            Some(other) => is_wanted_packet(alloc, given, packet, other),
-            None => Ok(false),
+    match wanted {
+        ReplyLine::Sent(packet) => match got {
+            ReplyLine::Sent(other) => {
+                is_wanted_packet(alloc, given, packet.as_slice(), other.as_slice())
+            }
+            _ => Ok(false),
         },
-        None => {
+        _ => {
             let wanted = line_text(alloc, wanted)?;
             let got = line_text(alloc, got)?;
             Ok(is_equal(&wanted, &got))

@@ -5,6 +5,7 @@ ghost use Rattle.serf_conform.specs.CallText.{flag_word, hex_word, moment_words,
 use serf_text::{flag, put_hex, put_number};
 use std::alloc::AllocError;
 
+/// Appends a space and a number.
 #[tactic(auto, unfolding(crate::specs::CallText::number_word))]
 pub(crate) fn put_number_word(out: &mut Vec<u8>, n: u64) -> Result<(), AllocError>
     ensures { OnOk result (out.new.items ≡ out.old.items ++ number_word n) }
@@ -13,6 +14,7 @@ pub(crate) fn put_number_word(out: &mut Vec<u8>, n: u64) -> Result<(), AllocErro
     put_number(out, n)
 }
 
+/// Appends a space and bytes in hex.
 #[tactic(auto, unfolding(crate::specs::CallText::hex_word))]
 pub(crate) fn put_hex_word(out: &mut Vec<u8>, bytes: &[u8]) -> Result<(), AllocError>
     ensures { OnOk result (out.new.items ≡ out.old.items ++ hex_word bytes.now) }
@@ -21,6 +23,7 @@ pub(crate) fn put_hex_word(out: &mut Vec<u8>, bytes: &[u8]) -> Result<(), AllocE
     put_hex(out, bytes)
 }
 
+/// Appends a space, and 1 for true or 0 for false.
 #[tactic(auto, unfolding(crate::specs::CallText::flag_word))]
 pub(crate) fn put_flag_word(out: &mut Vec<u8>, value: bool) -> Result<(), AllocError>
     ensures { OnOk result (out.new.items ≡ out.old.items ++ flag_word value) }

@@ -1,11 +1,10 @@
 //! What is wanted of a reply.
 
-ghost use Rattle.std.specs.Prelude.{◌≡◌, ◌++◌, ◌∷◌, [], IfOk, OnOk, map};
+ghost use Rattle.std.specs.Prelude.{◌≡◌, ◌++◌, IfOk, OnOk, map};
 ghost use Rattle.std.specs.Option.{option_to_list};
 ghost use Rattle.serf_wire.specs.Decoded.{decoded};
 ghost use Rattle.serf_conform.specs.declared.reply_line.ReplyLine.TheVariants.{Sent};
 ghost use Rattle.serf_conform.specs.Reply.{said_in};
-ghost use Rattle.serf_schedule.specs.Show.{answer_text};
 ghost use Rattle.serf_conform.specs.Wanted.{ack_of, counted_lines, event_said, handed_said, opening as opening_of, response_of, wanted_lines, wanted_of};
 
 use crate::reply::Reply;
@@ -15,30 +14,16 @@ use serf_schedule::put_answer;
 use serf_wire::{Bytes, Message, decode};
 use std::alloc::{AllocError, Global};
 
-fn add(lines: &mut Vec<ReplyLine>, line: ReplyLine) -> Result<(), AllocError>
-    ensures { OnOk result (lines.new.items ≡ lines.old.items ++ line ∷ []) }
-{
-    match lines.push(line) {
-        Ok(()) => Ok(()),
-        Err(_) => Err(AllocError),
-    }
-}
-
 /// Adds the ack that a packet is.
 fn add_ack(alloc: Global, lines: &mut Vec<ReplyLine>, given: &[u8]) -> Result<(), AllocError>
     ensures { OnOk result (lines.new.items ≡ lines.old.items ++ ack_of (decoded given.now)) }
 {
     match decode(given) {
         Ok(Message::QueryResponse(answer)) => {
+            let (time, id) = (answer.time, u64::from(answer.id));
             let from = Bytes::copy_of(alloc, answer.from)?;
-            add(
-                lines,
-                ReplyLine::CountedAck {
-                    time: answer.time,
-                    id: u64::from(answer.id),
-                    from,
-                },
-            )
+            lines.push(ReplyLine::CountedAck { time, id, from })?;
+            Ok(())
         }
         _ => Ok(()),
     }
@@ -50,23 +35,22 @@ fn add_response(alloc: Global, lines: &mut Vec<ReplyLine>, given: &[u8]) -> Resu
 {
     match decode(given) {
         Ok(Message::QueryResponse(answer)) => {
+            let (time, id) = (answer.time, u64::from(answer.id));
             let from = Bytes::copy_of(alloc, answer.from)?;
             let payload = Bytes::copy_of(alloc, answer.payload)?;
-            add(
-                lines,
-                ReplyLine::CountedResponse {
-                    time: answer.time,
-                    id: u64::from(answer.id),
-                    from,
-                    payload,
-                },
-            )
+            lines.push(ReplyLine::CountedResponse {
+                time,
+                id,
+                from,
+                payload,
+            })?;
+            Ok(())
         }
         _ => Ok(()),
     }
 }
 
-/// Adds what was counted, where this is the answer.
+/// Adds the line of the ack or the response that an answer counted; `given` is its packet.
 fn add_counted(
     alloc: Global,
     lines: &mut Vec<ReplyLine>,
@@ -82,16 +66,18 @@ fn add_counted(
     }
 }
 
+/// Adds a line for each packet that was sent.
 fn add_sent(alloc: Global, lines: &mut Vec<ReplyLine>, packets: &[Bytes]) -> Result<(), AllocError>
     ensures { OnOk result (lines.new.items ≡ lines.old.items ++ map (λ p. Sent p) packets.now) }
 {
     for packet in packets {
         let packet = Bytes::copy_of(alloc, packet.as_slice())?;
-        add(lines, ReplyLine::Sent(packet))?;
+        lines.push(ReplyLine::Sent(packet))?;
     }
     Ok(())
 }
 
+/// The line of an event that was handed out.
 fn event_line(alloc: Global, event: &EventLine) -> Result<ReplyLine, AllocError>
     ensures { IfOk result (λ line. line ≡ event_said event.now) }
 {
@@ -105,6 +91,7 @@ fn event_line(alloc: Global, event: &EventLine) -> Result<ReplyLine, AllocError>
     })
 }
 
+/// Adds a line for each event that was handed out.
 fn add_events(
     alloc: Global,
     lines: &mut Vec<ReplyLine>,
@@ -113,12 +100,12 @@ fn add_events(
     ensures { OnOk result (lines.new.items ≡ lines.old.items ++ map event_said events.now) }
 {
     for event in events {
-        let line = event_line(alloc, event)?;
-        add(lines, line)?;
+        lines.push(event_line(alloc, event)?)?;
     }
     Ok(())
 }
 
+/// The line of a query that was handed out.
 fn handed_line(alloc: Global, query: &HandedLine) -> Result<ReplyLine, AllocError>
     ensures { IfOk result (λ line. line ≡ handed_said query.now) }
 {
@@ -133,6 +120,7 @@ fn handed_line(alloc: Global, query: &HandedLine) -> Result<ReplyLine, AllocErro
     })
 }
 
+/// Adds the line of the query that was handed out, if one was.
 fn add_handed(
     alloc: Global,
     lines: &mut Vec<ReplyLine>,
@@ -143,19 +131,11 @@ fn add_handed(
 {
     match handed {
         Some(query) => {
-            let line = handed_line(alloc, query.get())?;
-            add(lines, line)
+            lines.push(handed_line(alloc, query.get())?)?;
+            Ok(())
         }
         None => Ok(()),
     }
-}
-
-fn answer_words(alloc: Global, answer: Answer) -> Result<Bytes, AllocError>
-    ensures { IfOk result (λ words. words ≡ answer_text answer) }
-{
-    let mut out = Vec::new(alloc);
-    put_answer(&mut out, answer)?;
-    Ok(Bytes::from_vec(out))
 }
 
 /// What the reference replies to a call, by the action's line and the packets that it sent. The call was given this
@@ -171,12 +151,14 @@ pub fn wanted(
 ) -> Result<Reply, AllocError>
     ensures { IfOk result (λ reply. said_in reply ≡ wanted_of line.now given.now packets.now) }
 {
-    let answer = answer_words(alloc, line.answer)?;
+    let mut answer = Vec::new(alloc);
+    put_answer(&mut answer, line.answer)?;
     let mut lines = Vec::new(alloc);
     add_counted(alloc, &mut lines, line.answer, given)?;
     add_sent(alloc, &mut lines, packets)?;
     add_events(alloc, &mut lines, line.events.as_slice())?;
     add_handed(alloc, &mut lines, &line.handed)?;
+    let answer = Bytes::from_vec(answer);
     Ok(Reply { answer, lines })
 }
 
@@ -186,8 +168,6 @@ pub fn opening(alloc: Global) -> Result<Reply, AllocError>
     ensures { IfOk result (λ reply. said_in reply ≡ opening_of) }
 {
     let answer = Bytes::copy_of(alloc, b"opened 1 1 1")?;
-    Ok(Reply {
-        answer,
-        lines: Vec::new(alloc),
-    })
+    let lines = Vec::new(alloc);
+    Ok(Reply { answer, lines })
 }

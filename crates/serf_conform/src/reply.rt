@@ -1,6 +1,6 @@
 //! A whole reply.
 
-ghost use Rattle.std.specs.Prelude.{◌≡◌, ◌==◌, [], Ok};
+ghost use Rattle.std.specs.Prelude.{◌≡◌, ◌==◌, []};
 ghost use Rattle.std.specs.List.{slice_split};
 ghost use Rattle.serf_text.specs.Gives.{Gives};
 ghost use Rattle.serf_conform.specs.Reply.{Reads, ReadsLines, after_line, after_lines, reply_of};
@@ -39,10 +39,7 @@ fn add_line(alloc: Global, lines: &mut Vec<ReplyLine>, line: &[u8]) -> Result<()
         return Ok(());
     }
     let said = read_reply_line(alloc, line)?;
-    match lines.push(said) {
-        Ok(()) => Ok(()),
-        Err(_) => Err(LineFault::OutOfMemory),
-    }
+    lines.push(said).map_err(|_| LineFault::OutOfMemory)
 }
 
 /// What the lines of a text say, of which the first is the second of its reply.
@@ -50,37 +47,22 @@ fn read_lines(alloc: Global, text: &[u8]) -> Result<Vec<ReplyLine>, ReplyFault>
     ensures { ReadsLines result (after_lines 2 [] (slice_split (λ b. b == 10) text.now)) }
 {
     let mut lines = Vec::new(alloc);
-    let mut number: u64 = 2;
+    let mut line: u64 = 2;
     let mut rest = text;
     'lines: loop {
-        let (line, more) = cut(rest, b'\n');
-        match add_line(alloc, &mut lines, line) {
+        let (words, more) = cut(rest, b'\n');
+        match add_line(alloc, &mut lines, words) {
             Ok(()) => {}
-            Err(LineFault::Bad(cause)) => {
-                return Err(ReplyFault::BadLine {
-                    line: number,
-                    cause,
-                });
-            }
+            Err(LineFault::Bad(cause)) => return Err(ReplyFault::BadLine { line, cause }),
             Err(LineFault::OutOfMemory) => return Err(ReplyFault::OutOfMemory),
         }
         match more {
             Some(next) => {
                 rest = next;
-                number += 1;
+                line += 1;
             }
             None => return Ok(lines),
         }
-    }
-}
-
-/// A reply of this answer and these lines.
-fn reply_with(alloc: Global, answer: &[u8], lines: Vec<ReplyLine>) -> Result<Reply, ReplyFault>
-    ensures { Reads result (Ok (record { answer = answer.now; lines = lines.items })) }
-{
-    match Bytes::copy_of(alloc, answer) {
-        Ok(answer) => Ok(Reply { answer, lines }),
-        Err(_) => Err(ReplyFault::OutOfMemory),
     }
 }
 
@@ -94,16 +76,15 @@ pub fn read_reply(alloc: Global, text: &[u8]) -> Result<Reply, ReplyFault>
 {
     let (answer, more) = cut(text, b'\n');
     if answer.is_empty() {
-        return Err(ReplyFault::BadLine {
-            line: 1,
-            cause: Cause::UnknownWord,
-        });
+        let (line, cause) = (1, Cause::UnknownWord);
+        return Err(ReplyFault::BadLine { line, cause });
     }
-    match more {
-        Some(rest) => {
-            let lines = read_lines(alloc, rest)?;
-            reply_with(alloc, answer, lines)
-        }
-        None => reply_with(alloc, answer, Vec::new(alloc)),
+    let lines = match more {
+        Some(rest) => read_lines(alloc, rest)?,
+        None => Vec::new(alloc),
+    };
+    match Bytes::copy_of(alloc, answer) {
+        Ok(answer) => Ok(Reply { answer, lines }),
+        Err(_) => Err(ReplyFault::OutOfMemory),
     }
 }

@@ -3,7 +3,7 @@
 ghost use Rattle.std.specs.Prelude.{◌≡◌, ◌==◌, ◌≤◌, length, map};
 ghost use Rattle.serf_text.specs.Gives.{Gives};
 ghost use Rattle.serf_text.specs.Words.{words_of, word_at};
-ghost use Rattle.serf_conform.specs.Reply.{counted_ack_of, counted_kind, counted_response_of, counted_words, count_of, event_of, handed_of, kept_of, kind_of, line_of, of_kind, sent_of};
+ghost use Rattle.serf_conform.specs.Reply.{counted_ack_of, counted_kind, counted_response_of, counted_words, count_of, event_of, handed_of, kind_of, line_of, of_kind};
 
 use serf_text::{
     Cause, LineFault, bytes_at, choice_at, is_word, number_at, number_from_to, take_words, word_at,
@@ -115,14 +115,7 @@ impl LineKind {
     }
 }
 
-#[tactic(auto, unfolding(crate::specs::Reply::sent_of))]
-fn sent(alloc: Global, words: &[&[u8]]) -> Result<ReplyLine, LineFault>
-    ensures { Gives (λ l. l) result (sent_of (map (λ w. w.now) words.now)) }
-{
-    let packet = bytes_at(alloc, words, 2)?;
-    Ok(ReplyLine::Sent(packet))
-}
-
+/// The event that the words of a reply say.
 #[tactic(auto, unfolding(crate::specs::Reply::event_of))]
 fn event(alloc: Global, words: &[&[u8]]) -> Result<ReplyLine, LineFault>
     ensures { Gives (λ l. l) result (event_of (map (λ w. w.now) words.now)) }
@@ -139,6 +132,7 @@ fn event(alloc: Global, words: &[&[u8]]) -> Result<ReplyLine, LineFault>
     })
 }
 
+/// The query that the words of a reply say.
 #[tactic(auto, unfolding(crate::specs::Reply::handed_of))]
 fn handed(alloc: Global, words: &[&[u8]]) -> Result<ReplyLine, LineFault>
     ensures { Gives (λ l. l) result (handed_of (map (λ w. w.now) words.now)) }
@@ -157,6 +151,7 @@ fn handed(alloc: Global, words: &[&[u8]]) -> Result<ReplyLine, LineFault>
     })
 }
 
+/// The ack that the words of a reply say.
 #[tactic(auto, unfolding(crate::specs::Reply::counted_ack_of))]
 fn counted_ack(alloc: Global, words: &[&[u8]]) -> Result<ReplyLine, LineFault>
     ensures { Gives (λ l. l) result (counted_ack_of (map (λ w. w.now) words.now)) }
@@ -167,6 +162,7 @@ fn counted_ack(alloc: Global, words: &[&[u8]]) -> Result<ReplyLine, LineFault>
     Ok(ReplyLine::CountedAck { time, id, from })
 }
 
+/// The response that the words of a reply say.
 #[tactic(auto, unfolding(crate::specs::Reply::counted_response_of))]
 fn counted_response(alloc: Global, words: &[&[u8]]) -> Result<ReplyLine, LineFault>
     ensures { Gives (λ l. l) result (counted_response_of (map (λ w. w.now) words.now)) }
@@ -183,25 +179,18 @@ fn counted_response(alloc: Global, words: &[&[u8]]) -> Result<ReplyLine, LineFau
     })
 }
 
-#[tactic(auto, unfolding(crate::specs::Reply::kept_of))]
-fn kept(alloc: Global, words: &[&[u8]]) -> Result<ReplyLine, LineFault>
-    ensures { Gives (λ l. l) result (kept_of (map (λ w. w.now) words.now)) }
-{
-    let text = bytes_at(alloc, words, 2)?;
-    Ok(ReplyLine::Kept(text))
-}
-
 /// What a line of a kind says, which has as many words as that needs.
+#[tactic(auto, unfolding(crate::specs::Reply::sent_of, crate::specs::Reply::kept_of))]
 fn line_of_kind(alloc: Global, kind: LineKind, words: &[&[u8]]) -> Result<ReplyLine, LineFault>
     ensures { Gives (λ l. l) result (of_kind kind (map (λ w. w.now) words.now)) }
 {
     match kind {
-        LineKind::Sent => sent(alloc, words),
+        LineKind::Sent => Ok(ReplyLine::Sent(bytes_at(alloc, words, 2)?)),
         LineKind::Event => event(alloc, words),
         LineKind::Handed => handed(alloc, words),
         LineKind::CountedAck => counted_ack(alloc, words),
         LineKind::CountedResponse => counted_response(alloc, words),
-        LineKind::Kept => kept(alloc, words),
+        LineKind::Kept => Ok(ReplyLine::Kept(bytes_at(alloc, words, 2)?)),
     }
 }
 

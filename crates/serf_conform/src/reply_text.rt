@@ -1,5 +1,5 @@
 //! The text of a reply's lines.
-ghost use Rattle.std.specs.Prelude.{◌≡◌, ◌++◌, OnOk, codes};
+ghost use Rattle.std.specs.Prelude.{◌≡◌, ◌++◌, OnOk, codes, if◌then◌else◌};
 ghost use Rattle.serf_conform.specs.CallText.{moment_words, number_word};
 ghost use Rattle.serf_conform.specs.ReplyText.{counted_ack_name, counted_response_name, line_text};
 
@@ -7,23 +7,24 @@ use crate::put::{put_flag_word, put_hex_word, put_moment_words, put_number_word,
 use crate::reply_line::ReplyLine;
 use std::alloc::AllocError;
 
-/// The kind, the time and the ID of an ack that was counted.
-#[tactic(auto, unfolding(crate::specs::ReplyText::counted_ack_name))]
-fn put_counted_ack(out: &mut Vec<u8>, time: u64, id: u64) -> Result<(), AllocError>
-    ensures { OnOk result (out.new.items ≡ out.old.items ++ counted_ack_name
-        ++ moment_words time id) }
+/// What a line of an ack that was counted, or of a response, begins with.
+#[tactic(auto, unfolding(crate::specs::ReplyText::counted_ack_name, crate::specs::ReplyText::counted_response_name))]
+fn counted_name(is_ack: bool) -> &'static [u8]
+    ensures { result.now ≡ (if is_ack then counted_ack_name else counted_response_name) }
 {
-    out.extend_from_slice(b"counted ack")?;
-    put_moment_words(out, time, id)
+    if is_ack {
+        b"counted ack"
+    } else {
+        b"counted response"
+    }
 }
 
-/// The kind, the time and the ID of a response that was counted.
-#[tactic(auto, unfolding(crate::specs::ReplyText::counted_response_name))]
-fn put_counted_response(out: &mut Vec<u8>, time: u64, id: u64) -> Result<(), AllocError>
-    ensures { OnOk result (out.new.items ≡ out.old.items ++ counted_response_name
-        ++ moment_words time id) }
+/// The kind, the time and the ID of an ack or a response that was counted.
+fn put_counted(out: &mut Vec<u8>, is_ack: bool, time: u64, id: u64) -> Result<(), AllocError>
+    ensures { OnOk result (out.new.items ≡ out.old.items
+        ++ (if is_ack then counted_ack_name else counted_response_name) ++ moment_words time id) }
 {
-    out.extend_from_slice(b"counted response")?;
+    out.extend_from_slice(counted_name(is_ack))?;
     put_moment_words(out, time, id)
 }
 
@@ -70,7 +71,7 @@ pub fn put_reply_line(out: &mut Vec<u8>, line: &ReplyLine) -> Result<(), AllocEr
             put_texts_words(out, name.as_slice(), payload.as_slice())
         }
         ReplyLine::CountedAck { time, id, from } => {
-            put_counted_ack(out, *time, *id)?;
+            put_counted(out, true, *time, *id)?;
             put_hex_word(out, from.as_slice())
         }
         ReplyLine::CountedResponse {
@@ -79,7 +80,7 @@ pub fn put_reply_line(out: &mut Vec<u8>, line: &ReplyLine) -> Result<(), AllocEr
             from,
             payload,
         } => {
-            put_counted_response(out, *time, *id)?;
+            put_counted(out, false, *time, *id)?;
             put_texts_words(out, from.as_slice(), payload.as_slice())
         }
         ReplyLine::Kept(text) => {

@@ -11,12 +11,11 @@ ghost use Rattle.serf_conform.specs.Rules.{is_serf};
 ghost use Rattle.serf_conform.specs.Session.{Concludes, HasRoom, IsAsked, IsFew, IsTaken, asked_of, ending_of, last_of, opened_of, session, session_from, verdict_at};
 ghost use Rattle.serf_conform.specs.Wanted.{opening as opening_of};
 
-use crate::asking::{Asked, ask, ask_look, look_agrees, look_unsupported, next_turn, then_look};
+use crate::asking::{Asked, Tally, ask_and_look, ask_look, take_turn};
 use crate::call::put_open;
 use crate::lone::{follow_turn, look_at, open_lone};
 use crate::look::Look;
 use crate::replies::opening;
-use crate::tally::Tally;
 use crate::verdict::{ConformFault, End, Rules, Verdict};
 use serf_agent::Config;
 use serf_model::{Action, Line, Trace};
@@ -25,33 +24,13 @@ use serf_world::World;
 use std::alloc::{AllocError, Global};
 use std::io::{Read, Write};
 
+/// The text of the call that opens an agent with these settings.
 fn open_text(alloc: Global, config: &Config) -> Result<Vec<u8>, AllocError>
     ensures { IfOk result (λ text. text.items ≡ open_line config.now []) }
 {
     let mut out = Vec::new(alloc);
     put_open(&mut out, config, &[])?;
     Ok(out)
-}
-
-/// Opens an agent of these settings on an empty snapshot.
-fn ask_open<R: Read, W: Write>(
-    alloc: Global,
-    reader: &mut R,
-    writer: &mut W,
-    config: &Config,
-) -> Result<Asked, ConformFault>
-    ensures written { OnOk result
-        (Appends (W.contents writer.old) (W.contents writer.new) (open_line config.now [])) }
-    ensures asked { IfOk result (λ asked. IfSome (R.remaining reader.old) (λ input.
-        IsAsked (asked_of [] opening_of input) asked (R.remaining reader.new))) }
-{
-    let Ok(text) = open_text(alloc, config) else {
-        return Err(ConformFault::OutOfMemory);
-    };
-    let Ok(reply) = opening(alloc) else {
-        return Err(ConformFault::OutOfMemory);
-    };
-    ask(alloc, reader, writer, &text, &[], &reply)
 }
 
 /// Opens an agent of these settings on an empty snapshot, and looks at it. The model's agent has done nothing.
@@ -69,8 +48,9 @@ fn open<R: Read, W: Write>(
         (W.contents writer.old) (W.contents writer.new))) }
 {
     let look = look_at(alloc, lone)?;
-    let asked = ask_open(alloc, reader, writer, config)?;
-    then_look(alloc, reader, writer, rules, Some(look), asked)
+    let text = open_text(alloc, config)?;
+    let reply = opening(alloc)?;
+    ask_and_look(alloc, reader, writer, rules, Some(look), &text, &[], &reply)
 }
 
 /// A verdict at an action, with the look that was wanted, where it ended at one.
@@ -111,10 +91,19 @@ fn last_ending(looked: Asked, action: u64, tally: Tally, look: Look) -> Verdict
     ensures { result ≡ last_of looked action tally look }
 {
     match looked {
-        Asked::Agrees => verdict_at(action, look_agrees(tally), None, End::AllAgree),
-        Asked::Unsupported => verdict_at(action, look_unsupported(tally), None, End::AllAgree),
+        Asked::Agrees => {
+            let looks = tally.looks + 1;
+            verdict_at(action, Tally { looks, ..tally }, None, End::AllAgree)
+        }
+        Asked::Unsupported => {
+            let more = Tally {
+                unsupported: tally.unsupported + 1,
+                ..tally
+            };
+            verdict_at(action, more, None, End::AllAgree)
+        }
         Asked::Differs(text) => verdict_at(action, tally, Some(look), End::Differs(text)),
-        Asked::Ended | Asked::LookEnded(_) => { verdict_at(action, tally, Some(look), End::Ended) }
+        Asked::Ended | Asked::LookEnded(_) => verdict_at(action, tally, Some(look), End::Ended),
         _ => verdict_at(action, tally, None, End::AllAgree),
     }
 }
@@ -163,6 +152,7 @@ fn hold_on<R: Read, W: Write>(
         (is_serf rules) agent config.now [] 1 tally w (turns_from 0 sent.now actions.now lines.now)
         input) verdict (R.remaining reader.new) held (W.contents writer.new))) }
 {
+    let keeps = config.keep_events;
     let mut actions = actions;
     let mut lines = lines;
     let mut number: u64 = 1;
@@ -175,18 +165,8 @@ fn hold_on<R: Read, W: Write>(
                 [] => return Err(ConformFault::OtherTrace),
                 [line, lines_left @ ..] => {
                     let due = follow_turn(alloc, lone, agent, action, line, sent, count)?;
-                    let asked = next_turn(
-                        alloc,
-                        reader,
-                        writer,
-                        rules,
-                        config.keep_events,
-                        agent,
-                        due,
-                        action,
-                        line,
-                        sent,
-                        count,
+                    let asked = take_turn(
+                        alloc, reader, writer, rules, keeps, agent, due, action, line, sent, count,
                     )?;
                     let more = asked.counted(tally);
                     if let Some(verdict) = ending(asked, number, tally) {
@@ -242,17 +222,8 @@ pub fn hold<R: Read, W: Write>(
     if let Some(verdict) = ending(asked, 0, none) {
         return Ok(verdict);
     }
+    let (lines, sent) = (trace.lines.as_slice(), trace.sent.as_slice());
     hold_on(
-        alloc,
-        reader,
-        writer,
-        rules,
-        agent,
-        config,
-        &mut lone,
-        tally,
-        actions,
-        trace.lines.as_slice(),
-        trace.sent.as_slice(),
+        alloc, reader, writer, rules, agent, config, &mut lone, tally, actions, lines, sent,
     )
 }

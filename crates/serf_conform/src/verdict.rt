@@ -2,6 +2,7 @@
 
 use crate::look::Look;
 use serf_wire::Bytes;
+use std::alloc::AllocError;
 use thiserror::Error;
 
 /// Which rules are asked for.
@@ -21,10 +22,7 @@ impl Rules {
     pub fn is_serf(self) -> bool
         ensures { result ≡ is_serf self }
     {
-        match self {
-            Rules::Serf => true,
-            Rules::Own => false,
-        }
+        matches!(self, Rules::Serf)
     }
 }
 
@@ -79,4 +77,15 @@ pub enum ConformFault {
     ReplyTooLong,
     #[error("out of memory")]
     OutOfMemory,
+}
+
+impl From<AllocError> for ConformFault {
+    ghost use Rattle.std.specs.Prelude.{◌≡◌};
+    ghost use Rattle.serf_conform.specs.declared.verdict.ConformFault.TheVariants.{OutOfMemory};
+
+    ghost from_gives = { λ _ e. e ≡ OutOfMemory };
+
+    fn from(_error: AllocError) -> ConformFault {
+        ConformFault::OutOfMemory
+    }
 }

@@ -3,3 +3,4 @@ pub mod ClockLemmas
 pub mod CodedLemmas
 pub mod HeadLemmas
 pub mod RowLaws
+pub mod FilledLemmas

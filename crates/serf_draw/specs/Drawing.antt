@@ -14,8 +14,8 @@ use Rattle.serf_model.specs.Cluster.{Cluster, Stepped, start, step}
 use Rattle.serf_model.specs.Trace.{actor_of, packet_given}
 use Rattle.serf_schedule.specs.Line.{Parsed}
 use Rattle.serf_text.specs.Gives.{BadLine}
-use Rattle.serf_draw.specs.declared.fault.DrawFault.{DrawFault}
-use Rattle.serf_draw.specs.declared.fault.DrawFault.TheVariants as faults
+use Rattle.serf_draw.specs.declared.drawing.DrawFault.{DrawFault}
+use Rattle.serf_draw.specs.declared.drawing.DrawFault.TheVariants as faults
 use Rattle.serf_draw.specs.declared.picture.Arrow.{Arrow}
 use Rattle.serf_draw.specs.declared.picture.Arrow.TheVariants.{NoPacket, Unsent, From}
 use Rattle.serf_draw.specs.declared.asked.Asked.{Asked}

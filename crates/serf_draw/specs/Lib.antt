@@ -6,3 +6,4 @@ pub mod Drawing
 pub mod Svg
 pub mod Mermaid
 pub mod Rows
+pub mod Filled

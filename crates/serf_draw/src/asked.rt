@@ -1,18 +1,18 @@
 //! Which part of a run is drawn.
 
-ghost use Rattle.std.specs.Prelude.{◌≡◌, ◌==◌, ◌&&◌, ◌||◌, ◌++◌, ◌∷◌, [], IfOk, OnOk, filter};
+ghost use Rattle.std.specs.Prelude.{◌≡◌, ◌==◌, ◌&&◌, ◌||◌, IfOk, filter};
 ghost use Rattle.std.specs.List.{list_any};
 ghost use Rattle.std.specs.Option.{option_copied};
 ghost use Rattle.serf_model.specs.Trace.{actor_of};
-ghost use Rattle.serf_draw.specs.Asked.{act_names, action_names, hands_out, has_name, is_chosen, is_kept, is_taken as is_taken_answer, missing_agent, named, names, packet_brings, shows};
+ghost use Rattle.serf_draw.specs.Asked.{act_names, hands_out, has_name, is_chosen, is_kept, is_taken as is_taken_answer, missing_agent, named, names, packet_brings, shows};
 
 use serf_model::{Act, Action, Answer, EventLine, EventLines, Line};
 use serf_wire::{Bytes, Message, decode};
 use std::alloc::{AllocError, Global};
 
 /// Which part of a run is drawn: the actions from one number to another; of them those of some agents, or of all where
-/// none is named; of them those that were neither ignored nor refused nor injected, where `taken` asks for that; and of them those
-/// that fire, inject, deliver or hand out an event of a name, where one is given.
+/// none is named; of them those that were neither ignored nor refused nor injected, where `taken` asks for that; and of
+/// them those that fire, inject, deliver or hand out an event of a name, where one is given.
 #[derive(Drop)]
 pub struct Asked {
     pub agents: Vec<u64>,
@@ -33,12 +33,10 @@ fn is_among(numbers: &[u64], number: u64) -> bool
 fn is_taken(answer: Answer) -> bool
     ensures { result ≡ is_taken_answer answer }
 {
-    match answer {
-        Answer::Ignored(_) => false,
-        Answer::Refused(_) => false,
-        Answer::Injected => false,
-        _ => true,
-    }
+    !matches!(
+        answer,
+        Answer::Ignored(_) | Answer::Refused(_) | Answer::Injected
+    )
 }
 
 /// Whether a packet is an event of this name.
@@ -51,6 +49,7 @@ fn is_event_of(name: &[u8], packet: &[u8]) -> bool
     }
 }
 
+/// Whether an act is of events of this name.
 fn act_is_of(name: &[u8], act: &Act, given: Option<&[u8]>) -> bool
     ensures { result ≡ act_names name.now act.now (option_copied given.entry) }
 {
@@ -61,16 +60,6 @@ fn act_is_of(name: &[u8], act: &Act, given: Option<&[u8]>) -> bool
             None => false,
         },
         _ => false,
-    }
-}
-
-/// Whether an action fires, injects or delivers an event of this name, where this packet is given.
-fn action_is_of(name: &[u8], action: &Action, given: Option<&[u8]>) -> bool
-    ensures { result ≡ action_names name.now action.now (option_copied given.entry) }
-{
-    match action {
-        Action::Inject { bytes } => is_event_of(name, bytes.as_slice()),
-        Action::Of { act, .. } => act_is_of(name, act, given),
     }
 }
 
@@ -85,18 +74,7 @@ fn is_named(name: &[u8], event: &EventLine) -> bool
 fn any_named(name: &[u8], events: &[EventLine]) -> bool
     ensures { result ≡ list_any (has_name name.now) events.now }
 {
-    events.iter().any(|event| event.name.as_slice() == name)
-}
-
-/// Adds an event, where it has this name.
-fn add_named(events: &mut Vec<EventLine>, name: &[u8], event: EventLine) -> Result<(), AllocError>
-    ensures { OnOk result (events.new.items ≡ events.old.items
-        ++ filter (has_name name.now) (event ∷ [])) }
-{
-    if is_named(name, &event) {
-        events.push(event)?;
-    }
-    Ok(())
+    events.iter().any(|event| is_named(name, event))
 }
 
 /// Those of these events that have this name.
@@ -107,11 +85,10 @@ fn those_named(
 ) -> Result<Vec<EventLine>, AllocError>
     ensures { IfOk result (λ those. those.items ≡ filter (has_name name.now) events.items) }
 {
-    let mut those = Vec::new(alloc);
-    for event in events {
-        add_named(&mut those, name, event)?;
-    }
-    Ok(those)
+    events
+        .into_iter()
+        .filter(|event| is_named(name, event))
+        .collect(alloc)
 }
 
 impl Asked {
@@ -156,13 +133,17 @@ impl Asked {
         }
     }
 
-    /// Whether an action fires, injects or delivers an event that is asked for, where this packet is given. Takes no memory.
+    /// Whether an action fires, injects or delivers an event that is asked for, where this packet is given. Takes no
+    /// memory.
     pub(crate) fn names(&self, action: &Action, given: Option<&[u8]>) -> bool
         ensures { result ≡ names self.now.event action.now (option_copied given.entry) }
     {
-        match &self.event {
-            Some(name) => action_is_of(name.as_slice(), action, given),
-            None => true,
+        let Some(name) = &self.event else {
+            return true;
+        };
+        match action {
+            Action::Inject { bytes } => is_event_of(name.as_slice(), bytes.as_slice()),
+            Action::Of { act, .. } => act_is_of(name.as_slice(), act, given),
         }
     }
 
@@ -176,9 +157,8 @@ impl Asked {
         }
     }
 
-    /// Whether an action is drawn of which this came, where it is known whether it names an event that is asked for, and the
-    /// times of the events that it passed over.
-    /// Takes no memory.
+    /// Whether an action is drawn of which this came, where it is known whether it names an event that is asked for, and
+    /// the times of the events that it passed over. Takes no memory.
     pub(crate) fn draws(
         &self,
         number: u64,

@@ -6,33 +6,37 @@ ghost use Rattle.serf_draw.specs.Asked.{is_chosen};
 ghost use Rattle.serf_draw.specs.Drawing.{Draws, IsPicture, lost_in, shown_lanes};
 
 use crate::asked::Asked;
-use crate::fault::DrawFault;
 use crate::picture::{Lane, Packet, Picture, Sender};
 use crate::rows::Rows;
 use serf_agent::Config;
 use serf_schedule::{Schedule, ScheduleFault, Watch, Watched, parse_schedule, tell_schedule};
+use serf_text::Cause;
 use serf_wire::Bytes;
 use std::alloc::{AllocError, Global};
+use thiserror::Error;
 
-/// Adds who sent a packet, where nobody got it and the sender's action is drawn.
-fn add_lost(lost: &mut Vec<Sender>, packet: Packet) -> Result<(), AllocError>
-    ensures { OnOk result (lost.new.items ≡ lost.old.items ++ lost_in (packet ∷ [])) }
-{
-    if !packet.is_given && packet.is_shown {
-        lost.push(packet.sender)?;
-    }
-    Ok(())
+/// Why there is no picture of a text.
+#[derive(Clone, Copy, Debug, Drop, Error, PartialEq, Eq)]
+pub enum DrawFault {
+    /// The first line, counted from 1, that is not sound, and what is wrong with it.
+    #[error("line {line} of the schedule is bad: {cause}")]
+    BadLine { line: u64, cause: Cause },
+    /// The first agent that is named and that the schedule doesn't have, and how many it has, which are numbered from 0.
+    #[error("the schedule has no agent {agent}: it has {count}")]
+    NoAgent { agent: u64, count: u64 },
+    #[error("out of memory")]
+    OutOfMemory,
 }
 
-/// Who sent what nobody got, of these packets.
+/// Who sent what nobody got, of these packets, by actions that are drawn.
 fn lost_of(alloc: Global, packets: &[Packet]) -> Result<Vec<Sender>, AllocError>
     ensures { IfOk result (λ lost. lost.items ≡ lost_in packets.now) }
 {
-    let mut lost = Vec::new(alloc);
-    for packet in packets {
-        add_lost(&mut lost, *packet)?;
-    }
-    Ok(lost)
+    packets
+        .iter()
+        .filter(|packet| !packet.is_given && packet.is_shown)
+        .map(|packet| packet.sender)
+        .collect(alloc)
 }
 
 /// Adds a lane, where it is asked for.

@@ -2,9 +2,9 @@
 
 ghost use Rattle.std.specs.Prelude.{◌≡◌, ◌++◌, ℕ, List, OnOk, true};
 ghost use Rattle.serf_draw.specs.Escape.{escape, escaped_byte, is_safe};
-ghost use Rattle.serf_draw.specs.Svg.{text_element};
 ghost use Rattle.std.specs.List.{list_all};
 
+use crate::filled::put_each;
 use std::alloc::AllocError;
 
 /// Appends a byte: `&`, `<`, `>` and the two quotes as their entities, and one that is no printable ASCII as the replacement
@@ -35,24 +35,7 @@ fn put_escaped_byte(out: &mut Vec<u8>, byte: u8) -> Result<(), AllocError>
 pub fn put_escaped(out: &mut Vec<u8>, text: &[u8]) -> Result<(), AllocError>
     ensures { OnOk result (out.new.items ≡ out.old.items ++ escape text.now) }
 {
-    for byte in text {
-        put_escaped_byte(out, *byte)?;
-    }
-    Ok(())
-}
-
-/// Appends the end of an element whose start is given: a text of any bytes, escaped, and the end tag.
-#[tactic(auto, unfolding(crate::specs::Svg::text_element))]
-pub(crate) fn put_text_element(
-    out: &mut Vec<u8>,
-    opening: &[u8],
-    text: &[u8],
-) -> Result<(), AllocError>
-    ensures { OnOk result (out.new.items ≡ out.old.items ++ text_element opening.now text.now) }
-{
-    out.extend_from_slice(opening)?;
-    put_escaped(out, text)?;
-    out.extend_from_slice(b"</text>\n")
+    put_each(out, text, |out, byte| put_escaped_byte(out, *byte))
 }
 
 /// What is escaped has only bytes that leave no place: no `<`, no `>`, no quote, nothing but printable ASCII. A `&` in it

@@ -3,9 +3,10 @@
 ghost use Rattle.std.specs.Prelude.{◌≡◌, ◌++◌, IfOk, Ok, OnOk};
 ghost use Rattle.std.specs.Option.{option_copied};
 ghost use Rattle.serf_wire.specs.Message.{message_of};
-ghost use Rattle.serf_draw.specs.Label.{act_words, action_words, at_time, clock_words, count_words, cut_to, event_behind, event_words, first_two, given_words, joined as joined_words, label_of, message_words, outcome_words, packet_words, short, texts};
+ghost use Rattle.serf_draw.specs.Label.{act_words, action_words, clock_words, count_words, cut_to, event_behind, first_two, joined as joined_words, label_of, message_words, outcome_words, packet_words, short};
 ghost use Rattle.serf_draw.specs.Svg.{label_columns as columns_of_labels, longest as longest_of};
 
+use crate::filled::{Part, put_filled};
 use crate::merges::{put_came, put_passed_over};
 use crate::picture::Row;
 use serf_model::{Act, Action, Answer, EventLine};
@@ -36,6 +37,7 @@ pub(crate) fn put_short(out: &mut Vec<u8>, text: &[u8]) -> Result<(), AllocError
     out.extend_from_slice(b")")
 }
 
+/// A name, or the front of it where it is long.
 pub(crate) fn short_name(alloc: Global, name: &[u8]) -> Result<Vec<u8>, AllocError>
     ensures { IfOk result (λ text. text.items ≡ short name.now) }
 {
@@ -44,53 +46,30 @@ pub(crate) fn short_name(alloc: Global, name: &[u8]) -> Result<Vec<u8>, AllocErr
     Ok(text)
 }
 
-#[tactic(auto, unfolding(crate::specs::Label::texts))]
-fn put_texts(out: &mut Vec<u8>, name: &[u8], payload: &[u8]) -> Result<(), AllocError>
-    ensures { OnOk result (out.new.items ≡ out.old.items ++ texts name.now payload.now) }
-{
-    put_short(out, name)?;
-    out.extend_from_slice(b" ")?;
-    put_short(out, payload)?;
-    out.extend_from_slice(b" ")
-}
-
-#[tactic(auto, unfolding(crate::specs::Label::at_time))]
-fn put_time(out: &mut Vec<u8>, time: u64) -> Result<(), AllocError>
-    ensures { OnOk result (out.new.items ≡ out.old.items ++ at_time time) }
-{
-    out.extend_from_slice(b"@")?;
-    put_number(out, time)?;
-    out.extend_from_slice(b" ")
-}
-
 /// Appends what a message says.
+#[tactic(auto, unfolding(crate::specs::Label::texts, crate::specs::Label::at_time))]
 fn put_message_words(out: &mut Vec<u8>, message: &Message, length: usize) -> Result<(), AllocError>
     ensures { OnOk result (out.new.items ≡ out.old.items
         ++ message_words length (Ok (message_of message.now))) }
 {
     match message {
         Message::UserEvent(event) => {
-            put_texts(out, event.name, event.payload)?;
-            put_time(out, event.time.get())
+            let (name, payload) = (Part::Short(event.name), Part::Short(event.payload));
+            let time = Part::Number(event.time.get());
+            put_filled(out, b"~ ~ @~ ", &[name, payload, time])
         }
         Message::Query(query) => {
-            out.extend_from_slice(b"query ")?;
-            put_texts(out, query.name, query.payload)?;
-            put_time(out, query.time.get())
+            let (name, payload) = (Part::Short(query.name), Part::Short(query.payload));
+            let time = Part::Number(query.time.get());
+            put_filled(out, b"query ~ ~ @~ ", &[name, payload, time])
         }
         Message::QueryResponse(answer) => {
-            out.extend_from_slice(b"answer ")?;
-            put_time(out, answer.time)
+            put_filled(out, b"answer @~ ", &[Part::Number(answer.time)])
         }
         Message::PushPull(state) => {
-            out.extend_from_slice(b"state ")?;
-            put_time(out, state.event_clock)
+            put_filled(out, b"state @~ ", &[Part::Number(state.event_clock)])
         }
-        Message::Foreign(kind) => {
-            out.extend_from_slice(b"type ")?;
-            put_number(out, u64::from(*kind))?;
-            out.extend_from_slice(b" ")
-        }
+        Message::Foreign(kind) => { put_filled(out, b"type ~ ", &[Part::Number(u64::from(*kind))]) }
     }
 }
 
@@ -100,36 +79,30 @@ fn put_packet_words(out: &mut Vec<u8>, packet: &[u8]) -> Result<(), AllocError>
 {
     match decode(packet) {
         Ok(message) => put_message_words(out, &message, packet.len()),
-        Err(_) => {
-            put_number(out, packet.len() as u64)?;
-            out.extend_from_slice(b" bytes ")
-        }
-    }
-}
-
-fn put_given_words(out: &mut Vec<u8>, given: Option<&[u8]>) -> Result<(), AllocError>
-    ensures { OnOk result (out.new.items ≡ out.old.items
-        ++ given_words (option_copied given.entry)) }
-{
-    match given {
-        Some(packet) => put_packet_words(out, packet),
-        None => Ok(()),
+        Err(_) => put_filled(out, b"~ bytes ", &[Part::Number(packet.len() as u64)]),
     }
 }
 
 /// Appends what an agent does, where this packet is given.
+#[tactic(auto, unfolding(crate::specs::Label::texts))]
 fn put_act_words(out: &mut Vec<u8>, act: &Act, given: Option<&[u8]>) -> Result<(), AllocError>
     ensures { OnOk result (out.new.items ≡ out.old.items
         ++ act_words act.now (option_copied given.entry)) }
 {
     match act {
-        Act::Fire { name, payload, .. } => put_texts(out, name.as_slice(), payload.as_slice()),
-        Act::Query(query) => {
-            let query = query.get();
-            out.extend_from_slice(b"query ")?;
-            put_texts(out, query.name.as_slice(), query.payload.as_slice())
+        Act::Fire { name, payload, .. } => {
+            let (name, payload) = (name.as_slice(), payload.as_slice());
+            put_filled(out, b"~ ~ ", &[Part::Short(name), Part::Short(payload)])
         }
-        Act::Deliver { .. } | Act::Merge { .. } => put_given_words(out, given),
+        Act::Query(query) => {
+            let (name, payload) = (query.get().name.as_slice(), query.get().payload.as_slice());
+            let (name, payload) = (Part::Short(name), Part::Short(payload));
+            put_filled(out, b"query ~ ~ ", &[name, payload])
+        }
+        Act::Deliver { .. } | Act::Merge { .. } => match given {
+            Some(packet) => put_packet_words(out, packet),
+            None => Ok(()),
+        },
         _ => Ok(()),
     }
 }
@@ -163,32 +136,26 @@ pub(crate) fn first_words(
     Ok(out)
 }
 
-/// Appends an event that a merge handed out.
-#[tactic(auto, unfolding(crate::specs::Label::event_words))]
-fn put_event(out: &mut Vec<u8>, event: &EventLine) -> Result<(), AllocError>
-    ensures { OnOk result (out.new.items ≡ out.old.items ++ event_words event.now) }
-{
-    put_texts(out, event.name.as_slice(), event.payload.as_slice())?;
-    out.extend_from_slice(b"@")?;
-    put_number(out, event.time.get())
-}
-
-/// Appends an event after these bytes, where there is one.
-fn put_event_behind(
+/// Appends an event that a merge handed out after these bytes, where there is one.
+#[tactic(auto, unfolding(crate::specs::Label::event_words, crate::specs::Label::texts))]
+fn put_event_behind<'a>(
     out: &mut Vec<u8>,
-    sign: &[u8],
-    event: Option<&EventLine>,
+    sign: &'a [u8],
+    event: Option<&'a EventLine>,
 ) -> Result<(), AllocError>
     ensures { OnOk result (out.new.items ≡ out.old.items
         ++ event_behind sign.now (option_copied event.entry)) }
 {
-    match event {
-        Some(event) => {
-            out.extend_from_slice(sign)?;
-            put_event(out, event)
-        }
-        None => Ok(()),
-    }
+    let Some(event) = event else {
+        return Ok(());
+    };
+    let parts = [
+        Part::Text(sign),
+        Part::Short(event.name.as_slice()),
+        Part::Short(event.payload.as_slice()),
+        Part::Number(event.time.get()),
+    ];
+    put_filled(out, b"~~ ~ @~", &parts)
 }
 
 /// Appends the first two of these events, after a colon and a comma.
@@ -206,8 +173,7 @@ fn put_count(out: &mut Vec<u8>, count: usize) -> Result<(), AllocError>
     if count == 0 {
         return Ok(());
     }
-    out.extend_from_slice(b", +")?;
-    put_number(out, count as u64)
+    put_filled(out, b", +~", &[Part::Number(count as u64)])
 }
 
 /// Appends an agent's event clock.
@@ -215,10 +181,7 @@ fn put_clock(out: &mut Vec<u8>, clock: Option<u64>) -> Result<(), AllocError>
     ensures { OnOk result (out.new.items ≡ out.old.items ++ clock_words clock) }
 {
     match clock {
-        Some(clock) => {
-            out.extend_from_slice(b", clock ")?;
-            put_number(out, clock)
-        }
+        Some(clock) => put_filled(out, b", clock ~", &[Part::Number(clock)]),
         None => Ok(()),
     }
 }
@@ -246,8 +209,8 @@ fn joined(front: Vec<u8>, end: &[u8]) -> Result<Bytes, AllocError>
     Ok(Bytes::from_vec(text))
 }
 
-/// Appends what came of an action, of an agent that takes events from this time on, where a merge handed out these events or
-/// passed over those of these times.
+/// Appends what came of an action, of an agent that takes events from this time on, where a merge handed out these events
+/// or passed over those of these times.
 #[tactic(auto, unfolding(crate::specs::Label::outcome_words))]
 fn put_outcome(
     out: &mut Vec<u8>,
@@ -291,14 +254,10 @@ pub(crate) fn label(
 pub(crate) fn longest(rows: &[Row]) -> usize
     ensures { result ≡ longest_of rows.now }
 {
-    let mut longest: usize = 0;
-    for row in rows {
+    rows.iter().fold(0, |longest, row| {
         let length = row.label.as_slice().len();
-        if longest < length {
-            longest = length;
-        }
-    }
-    longest
+        if longest < length { length } else { longest }
+    })
 }
 
 /// How many columns labels take, of which the longest has so many bytes.

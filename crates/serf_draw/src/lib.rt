@@ -3,23 +3,22 @@
 #![tactic(auto)]
 
 mod asked;
-mod clock;
 mod drawing;
 mod escape;
-mod fault;
+mod filled;
 mod label;
 mod merges;
 mod mermaid;
 mod picture;
+mod places;
 mod row;
 mod rows;
 mod style;
 mod svg;
 
 pub use asked::Asked;
-pub use drawing::draw_picture;
+pub use drawing::{DrawFault, draw_picture};
 pub use escape::{escape_laws, put_escaped};
-pub use fault::DrawFault;
 pub use mermaid::{coded_laws, mermaid_text};
 pub use picture::{Arrow, Lane, Packet, Picture, Row, Sender, Tone};
 pub use svg::svg_text;

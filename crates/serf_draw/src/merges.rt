@@ -4,11 +4,11 @@ ghost use Rattle.std.specs.Prelude.{◌≡◌, ◌++◌, ◌∷◌, [], IfOk, On
 ghost use Rattle.std.specs.List.{flat_map, list_any};
 ghost use Rattle.std.specs.Option.{option_copied};
 ghost use Rattle.serf_wire.specs.Lists.{events_left, slot_of_view, slots_left};
-ghost use Rattle.serf_draw.specs.Merges.{below_least, below_words, came_words, nothing_of, passed_over as passed_over_by, passed_words, slot_times, slots_times, times_brought as brought_by, times_given};
+ghost use Rattle.serf_draw.specs.Merges.{below_words, came_words, passed_over as passed_over_by, passed_words, slot_times, slots_times, times_brought as brought_by, times_given};
 
+use crate::filled::{Part, put_filled};
 use serf_model::{Act, Action, Answer, EventLine};
 use serf_schedule::put_answer;
-use serf_text::put_number;
 use serf_wire::{EventViews, Message, SlotView, SlotViews, decode};
 use std::alloc::{AllocError, Global};
 
@@ -38,6 +38,7 @@ fn add_slot_times(times: &mut Vec<u64>, slot: &SlotView) -> Result<(), AllocErro
     }
 }
 
+/// The times of what slots hold.
 fn times_of(alloc: Global, slots: SlotViews) -> Result<Vec<u64>, AllocError>
     ensures { IfOk result (λ times. times.items ≡ slots_times (slots_left slots.entry)) }
 {
@@ -48,6 +49,7 @@ fn times_of(alloc: Global, slots: SlotViews) -> Result<Vec<u64>, AllocError>
     Ok(times)
 }
 
+/// The times of the events that a state's packet brings; none of another packet.
 fn times_in(alloc: Global, given: Option<&[u8]>) -> Result<Vec<u64>, AllocError>
     ensures { IfOk result (λ times. times.items ≡ times_given (option_copied given.entry)) }
 {
@@ -83,7 +85,7 @@ pub(crate) fn passed_over<'a>(answer: Answer, events: &[EventLine], times: &'a [
     ensures { result.now ≡ passed_over_by answer events.now times.now }
 {
     match answer {
-        Answer::Merged => { if events.is_empty() { times } else { &[] } }
+        Answer::Merged if events.is_empty() => times,
         _ => &[],
     }
 }
@@ -95,35 +97,18 @@ fn is_any_from(times: &[u64], least: u64) -> bool
     times.iter().any(|time| least <= *time)
 }
 
-/// Appends this least time, where all these are below it.
-#[tactic(auto, unfolding(crate::specs::Merges::below_least))]
-fn put_below_least(out: &mut Vec<u8>, times: &[u64], least: u64) -> Result<(), AllocError>
-    ensures { OnOk result (out.new.items ≡ out.old.items ++ below_least times.now least) }
-{
-    if is_any_from(times, least) {
-        return Ok(());
-    }
-    out.extend_from_slice(b", below ")?;
-    put_number(out, least)
-}
-
 /// Appends the least time that an agent takes, where all these are below it.
+#[tactic(auto, unfolding(crate::specs::Merges::below_least))]
 fn put_below(out: &mut Vec<u8>, times: &[u64], least: Option<u64>) -> Result<(), AllocError>
     ensures { OnOk result (out.new.items ≡ out.old.items ++ below_words times.now least) }
 {
-    match least {
-        Some(least) => put_below_least(out, times, least),
-        None => Ok(()),
+    let Some(least) = least else {
+        return Ok(());
+    };
+    if is_any_from(times, least) {
+        return Ok(());
     }
-}
-
-/// Appends that nothing of so many events was handed out.
-#[tactic(auto, unfolding(crate::specs::Merges::nothing_of))]
-fn put_nothing_of(out: &mut Vec<u8>, count: usize) -> Result<(), AllocError>
-    ensures { OnOk result (out.new.items ≡ out.old.items ++ nothing_of count) }
-{
-    out.extend_from_slice(b": nothing of ")?;
-    put_number(out, count as u64)
+    put_filled(out, b", below ~", &[Part::Number(least)])
 }
 
 /// Appends how many events a merge brought that handed out none, and why, where that is one reason for all.
@@ -137,7 +122,7 @@ pub(crate) fn put_passed_over(
     if times.is_empty() {
         return Ok(());
     }
-    put_nothing_of(out, times.len())?;
+    put_filled(out, b": nothing of ~", &[Part::Number(times.len() as u64)])?;
     put_below(out, times, least)
 }
 
@@ -152,8 +137,7 @@ pub(crate) fn put_came(
     match answer {
         Answer::Restarted { .. } => match least {
             Some(least) => {
-                out.extend_from_slice(b"started again: events from ")?;
-                put_number(out, least)
+                put_filled(out, b"started again: events from ~", &[Part::Number(least)])
             }
             None => put_answer(out, answer),
         },

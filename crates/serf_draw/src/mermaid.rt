@@ -2,11 +2,12 @@
 
 ghost use Rattle.std.specs.Prelude.{◌≡◌, ◌++◌, ◌==◌, ℕ, List, IfOk, OnOk, true};
 ghost use Rattle.std.specs.List.{flat_map, list_all, list_any};
-ghost use Rattle.serf_draw.specs.Mermaid.{arrow_word as word_of, coded, coded_byte, is_coded, is_plain as is_plain_byte, mermaid_of, message_line, note_line, participant, participant_line, row_line, words_of};
+ghost use Rattle.serf_draw.specs.Mermaid.{arrow_word as word_of, coded, coded_byte, is_coded, is_plain as is_plain_byte, mermaid_of, message_line, note_line, participant, participant_line, row_line};
 
+use crate::filled::{Part, put_each, put_filled};
 use crate::label::short_name;
 use crate::picture::{Arrow, Lane, Picture, Row, Tone};
-use crate::svg::put_between;
+use serf_text::put_number;
 use std::alloc::{AllocError, Global};
 
 /// A letter, a digit, a space, a full stop, an `@` or a `_`.
@@ -23,6 +24,7 @@ fn is_plain(byte: u8) -> bool
 }
 
 /// Appends a byte: a plain one as it is, and any other as an entity code.
+#[tactic(auto, unfolding(crate::specs::Svg::between))]
 fn put_coded_byte(out: &mut Vec<u8>, byte: u8) -> Result<(), AllocError>
     ensures { OnOk result (out.new.items ≡ out.old.items ++ coded_byte byte) }
 {
@@ -30,23 +32,23 @@ fn put_coded_byte(out: &mut Vec<u8>, byte: u8) -> Result<(), AllocError>
         out.push(byte)?;
         Ok(())
     } else if 32 <= byte && byte <= 126 {
-        put_between(out, b"#", u64::from(byte), b";")
+        out.extend_from_slice(b"#")?;
+        put_number(out, u64::from(byte))?;
+        out.extend_from_slice(b";")
     } else {
         out.extend_from_slice(b"#65533;")
     }
 }
 
-fn put_coded(out: &mut Vec<u8>, text: &[u8]) -> Result<(), AllocError>
+/// Appends a text as Mermaid takes it.
+pub(crate) fn put_coded(out: &mut Vec<u8>, text: &[u8]) -> Result<(), AllocError>
     ensures { OnOk result (out.new.items ≡ out.old.items ++ coded text.now) }
 {
-    for byte in text {
-        put_coded_byte(out, *byte)?;
-    }
-    Ok(())
+    put_each(out, text, |out, byte| put_coded_byte(out, *byte))
 }
 
-/// A coded text has letters, digits, spaces, full stops, `@`, `_`, `#` and `;` alone: no line break, no `%`, no `:` and no
-/// `-`. A `#` or a `;` in it is an entity code's, by the definition. Does nothing.
+/// A coded text has letters, digits, spaces, full stops, `@`, `_`, `#` and `;` alone: no line break, no `%`, no `:` and
+/// no `-`. A `#` or a `;` in it is an entity code's, by the definition. Does nothing.
 #[tactic(auto, using(crate::proofs::CodedLemmas::all_coded))]
 pub fn coded_laws()
     ensures coded { (text : List ℕ) → list_all is_coded (coded text) ≡ true }
@@ -59,13 +61,20 @@ fn has_lane(lanes: &[Lane], agent: u64) -> bool
     lanes.iter().any(|lane| lane.agent == agent)
 }
 
-fn put_participant(out: &mut Vec<u8>, lanes: &[Lane], agent: Option<u64>) -> Result<(), AllocError>
+/// Appends the name of an agent's lane.
+#[tactic(auto, unfolding(crate::specs::Svg::between))]
+pub(crate) fn put_participant(
+    out: &mut Vec<u8>,
+    lanes: &[Lane],
+    agent: Option<u64>,
+) -> Result<(), AllocError>
     ensures { OnOk result (out.new.items ≡ out.old.items ++ participant lanes.now agent) }
 {
     match agent {
         Some(agent) => {
             if has_lane(lanes, agent) {
-                put_between(out, b"a", agent, b"")
+                out.extend_from_slice(b"a")?;
+                put_number(out, agent)
             } else {
                 out.extend_from_slice(b"outside")
             }
@@ -74,35 +83,18 @@ fn put_participant(out: &mut Vec<u8>, lanes: &[Lane], agent: Option<u64>) -> Res
     }
 }
 
-#[tactic(auto, unfolding(crate::specs::Mermaid::participant_line))]
+/// Appends the line that names a lane.
+#[tactic(auto, unfolding(crate::specs::Mermaid::participant_line, crate::specs::Svg::between))]
 fn put_participant_line(alloc: Global, out: &mut Vec<u8>, lane: &Lane) -> Result<(), AllocError>
     ensures { OnOk result (out.new.items ≡ out.old.items ++ participant_line lane.now) }
 {
-    put_between(out, b"participant a", lane.agent, b" as ")?;
-    put_between(out, b"", lane.agent, b" ")?;
+    let number = Part::Number(lane.agent);
     let name = short_name(alloc, lane.name.as_slice())?;
-    put_coded(out, &name)?;
-    out.extend_from_slice(b"\n")
+    let parts = [number, number, Part::Coded(&name)];
+    put_filled(out, b"participant a~ as ~ ~\n", &parts)
 }
 
-fn put_participants(alloc: Global, out: &mut Vec<u8>, lanes: &[Lane]) -> Result<(), AllocError>
-    ensures { OnOk result (out.new.items ≡ out.old.items ++ flat_map participant_line lanes.now) }
-{
-    for lane in lanes {
-        put_participant_line(alloc, out, lane)?;
-    }
-    Ok(())
-}
-
-#[tactic(auto, unfolding(crate::specs::Mermaid::words_of))]
-fn put_words(out: &mut Vec<u8>, row: &Row) -> Result<(), AllocError>
-    ensures { OnOk result (out.new.items ≡ out.old.items ++ words_of row.now) }
-{
-    put_between(out, b": ", row.action, b" ")?;
-    put_coded(out, row.label.as_slice())?;
-    out.extend_from_slice(b"\n")
-}
-
+/// The arrow that Mermaid draws for a tone.
 fn arrow_word(tone: Tone) -> &'static [u8]
     ensures { result.now ≡ word_of tone }
 {
@@ -113,30 +105,40 @@ fn arrow_word(tone: Tone) -> &'static [u8]
     }
 }
 
-#[tactic(auto, unfolding(crate::specs::Mermaid::message_line))]
-fn put_message(
+/// Appends an arrow and its label.
+#[tactic(auto, unfolding(crate::specs::Mermaid::message_line, crate::specs::Mermaid::words_of, crate::specs::Svg::between))]
+fn put_message<'a>(
     out: &mut Vec<u8>,
-    lanes: &[Lane],
-    row: &Row,
+    lanes: &'a [Lane],
+    row: &'a Row,
     sender: Option<u64>,
 ) -> Result<(), AllocError>
     ensures { OnOk result (out.new.items ≡ out.old.items ++ message_line lanes.now row.now sender) }
 {
-    put_participant(out, lanes, sender)?;
-    out.extend_from_slice(arrow_word(row.tone))?;
-    put_participant(out, lanes, row.agent)?;
-    put_words(out, row)
+    let parts = [
+        Part::Participant(lanes, sender),
+        Part::Text(arrow_word(row.tone)),
+        Part::Participant(lanes, row.agent),
+        Part::Number(row.action),
+        Part::Coded(row.label.as_slice()),
+    ];
+    put_filled(out, b"~~~: ~ ~\n", &parts)
 }
 
-#[tactic(auto, unfolding(crate::specs::Mermaid::note_line))]
-fn put_note(out: &mut Vec<u8>, lanes: &[Lane], row: &Row) -> Result<(), AllocError>
+/// Appends a note over a lane.
+#[tactic(auto, unfolding(crate::specs::Mermaid::note_line, crate::specs::Mermaid::words_of, crate::specs::Svg::between))]
+fn put_note<'a>(out: &mut Vec<u8>, lanes: &'a [Lane], row: &'a Row) -> Result<(), AllocError>
     ensures { OnOk result (out.new.items ≡ out.old.items ++ note_line lanes.now row.now) }
 {
-    out.extend_from_slice(b"Note over ")?;
-    put_participant(out, lanes, row.agent)?;
-    put_words(out, row)
+    let parts = [
+        Part::Participant(lanes, row.agent),
+        Part::Number(row.action),
+        Part::Coded(row.label.as_slice()),
+    ];
+    put_filled(out, b"Note over ~: ~ ~\n", &parts)
 }
 
+/// Appends what Mermaid draws of a row: a note, or a message.
 fn put_row_line(out: &mut Vec<u8>, lanes: &[Lane], row: &Row) -> Result<(), AllocError>
     ensures { OnOk result (out.new.items ≡ out.old.items ++ row_line lanes.now row.now) }
 {
@@ -145,16 +147,6 @@ fn put_row_line(out: &mut Vec<u8>, lanes: &[Lane], row: &Row) -> Result<(), Allo
         Arrow::Unsent => put_message(out, lanes, row, None),
         Arrow::From(sender) => put_message(out, lanes, row, sender.agent),
     }
-}
-
-fn put_row_lines(out: &mut Vec<u8>, lanes: &[Lane], rows: &[Row]) -> Result<(), AllocError>
-    ensures { OnOk result (out.new.items ≡ out.old.items
-        ++ flat_map (row_line lanes.now) rows.now) }
-{
-    for row in rows {
-        put_row_line(out, lanes, row)?;
-    }
-    Ok(())
 }
 
 /// A picture as the text of a sequence diagram in Mermaid's language: a participant for each lane, a message for each
@@ -168,8 +160,13 @@ pub fn mermaid_text(alloc: Global, picture: &Picture) -> Result<Vec<u8>, AllocEr
 {
     let mut out = Vec::new(alloc);
     let lanes = picture.lanes.as_slice();
+    let rows = picture.rows.as_slice();
     out.extend_from_slice(b"sequenceDiagram\n")?;
-    put_participants(alloc, &mut out, lanes)?;
-    put_row_lines(&mut out, lanes, picture.rows.as_slice())?;
+    put_each(
+        &mut out,
+        lanes,
+        |out, lane| put_participant_line(alloc, out, lane),
+    )?;
+    put_each(&mut out, rows, |out, row| put_row_line(out, lanes, row))?;
     Ok(out)
 }

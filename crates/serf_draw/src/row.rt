@@ -1,14 +1,14 @@
 //! The row of an action.
 
 ghost use Rattle.std.specs.Prelude.{◌≡◌, ◌++◌, IfOk, OnOk, false, replicate, length, slice_get};
-ghost use Rattle.serf_draw.specs.Svg.{begins_outside as arrow_begins_outside, has_outside as any_outside, is_outside as outside_of, lane_place as place_among, row_is_outside as row_outside};
 ghost use Rattle.serf_draw.specs.Drawing.{arrow_of, from_packet, given_by, merged_events as merged, packet_of, restarts, row_tone, tone_of, with_given};
 
 use crate::asked::Asked;
-use crate::picture::{Arrow, Lane, Packet, Row, Sender, Tone};
+use crate::picture::{Arrow, Packet, Sender, Tone};
 use serf_model::{Act, Action, Answer, EventLine, EventLines};
 use std::alloc::{AllocError, Global};
 
+/// The arrow of a packet, from whoever sent it.
 fn arrow_from(packets: &[Packet], packet: u64) -> Arrow
     ensures { result ≡ from_packet (slice_get packets.now packet) }
 {
@@ -41,7 +41,7 @@ fn note_given(packets: &mut Vec<Packet>, packet: u64)
     }
 }
 
-/// Notes the packet that an action gives to an agent.
+/// Marks the packet that an action gives to an agent as given.
 pub(crate) fn note_packet(packets: &mut Vec<Packet>, action: &Action)
     ensures { packets.new.items ≡ given_by packets.old.items action.now }
 {
@@ -54,6 +54,7 @@ pub(crate) fn note_packet(packets: &mut Vec<Packet>, action: &Action)
     }
 }
 
+/// The tone of an answer.
 fn tone_of_answer(answer: Answer) -> Tone
     ensures { result ≡ tone_of answer }
 {
@@ -75,13 +76,11 @@ pub(crate) fn tone(answer: Answer, passed: &[u64]) -> Tone
     }
 }
 
+/// Whether an answer is that of a restart.
 pub(crate) fn is_restart(answer: Answer) -> bool
     ensures { result ≡ restarts answer }
 {
-    match answer {
-        Answer::Restarted { .. } => true,
-        _ => false,
-    }
+    matches!(answer, Answer::Restarted { .. })
 }
 
 /// The events of these that a merge handed out, of the name that is asked for.
@@ -120,44 +119,4 @@ pub(crate) fn add_packets(
         })?;
     }
     Ok(())
-}
-
-/// Where an agent's lane stands among these.
-pub(crate) fn lane_place(lanes: &[Lane], agent: u64) -> Option<usize>
-    ensures { result ≡ place_among lanes.now agent }
-{
-    lanes.iter().position(|lane| lane.agent == agent)
-}
-
-/// Whether what an agent does is drawn left of all lanes: it has none among these, or there is no agent.
-fn is_outside(lanes: &[Lane], agent: Option<u64>) -> bool
-    ensures { result ≡ outside_of lanes.now agent }
-{
-    match agent {
-        Some(agent) => lane_place(lanes, agent).is_none(),
-        None => true,
-    }
-}
-
-fn begins_outside(lanes: &[Lane], arrow: Arrow) -> bool
-    ensures { result ≡ arrow_begins_outside lanes.now arrow }
-{
-    match arrow {
-        Arrow::NoPacket => false,
-        Arrow::Unsent => true,
-        Arrow::From(sender) => is_outside(lanes, sender.agent),
-    }
-}
-
-fn row_is_outside(lanes: &[Lane], row: &Row) -> bool
-    ensures { result ≡ row_outside lanes.now row.now }
-{
-    is_outside(lanes, row.agent) || begins_outside(lanes, row.arrow)
-}
-
-/// Whether a row, or the begin of its arrow, is left of all lanes.
-pub(crate) fn has_outside(lanes: &[Lane], rows: &[Row]) -> bool
-    ensures { result ≡ any_outside lanes.now rows.now }
-{
-    rows.iter().any(|row| row_is_outside(lanes, row))
 }

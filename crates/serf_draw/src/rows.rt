@@ -4,11 +4,10 @@ ghost use Rattle.std.specs.Prelude.{◌≡◌, ◌++◌, ◌∷◌, ◌+◌, [],
 ghost use Rattle.serf_agent.specs.declared.config.Config.{Config};
 ghost use Rattle.serf_model.specs.Cluster.{Cluster, step};
 ghost use Rattle.serf_world.specs.View.{IsViewed, TakesStep};
-ghost use Rattle.serf_draw.specs.Drawing.{Drawing, IsDrawn, drawn, row_with, shown_row};
+ghost use Rattle.serf_draw.specs.Drawing.{Drawing, IsDrawn, changed, clock_in, drawn, least_in, row_with, shown_row};
 ghost use Rattle.serf_draw.specs.Rows.{IsFound, draws};
 
 use crate::asked::Asked;
-use crate::clock::{changed_clock, event_clock, event_minimum};
 use crate::label::{first_words, label};
 use crate::merges::{passed_over, times_brought};
 use crate::picture::{Arrow, Packet, Row, Sender};
@@ -17,7 +16,31 @@ use serf_model::{Action, Line};
 use serf_world::{Turns, World};
 use std::alloc::{AllocError, Global};
 
-/// The row of an action that began with these words, from its line, where what it sends has this sender.
+/// The event clock of an agent of a cluster.
+#[tactic(auto, using(crate::proofs::ClockLemmas::clock_viewed))]
+fn event_clock(world: &World, agent: Option<u64>) -> Option<u64>
+    ensures { (c : Cluster) → IsViewed c world.now → result ≡ clock_in c agent }
+{
+    Some(world.agent(agent?)?.event_time())
+}
+
+/// The least time of an event that an agent of a cluster takes.
+#[tactic(auto, using(crate::proofs::ClockLemmas::least_viewed))]
+fn event_minimum(world: &World, agent: Option<u64>) -> Option<u64>
+    ensures { (c : Cluster) → IsViewed c world.now → result ≡ least_in c agent }
+{
+    Some(world.agent(agent?)?.event_minimum())
+}
+
+/// The clock afterwards, where it is another one.
+fn changed_clock(before: Option<u64>, now: Option<u64>) -> Option<u64>
+    ensures { result ≡ changed before now }
+{
+    let (before, now) = (before?, now?);
+    if before == now { None } else { Some(now) }
+}
+
+/// The row of an action, from its line: its label begins with `words`, and what it sends is from `sender`.
 fn row(
     alloc: Global,
     asked: &Asked,

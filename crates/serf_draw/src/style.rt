@@ -38,3 +38,13 @@ pub const LEGEND: &[u8] =
 <path class='x' d='M1620 0H1640M1640-11L1662 11M1640 11L1662-11'/><text class='n' x='1690' y='25'>given to nobody</text>
 <path class='b' d='M2430-25H2530M2430 25H2530'/><text class='n' x='2560' y='25'>opened again</text></g>
 ";
+
+/// A row: its action's number, its dot, and its label.
+pub const ROW: &[u8] = b"<text class='n' x='-680' y='~75'>~</text>
+<g class='~' transform='translate(~)'>~<text class='~' x='~' y='~75'>~</text>
+";
+
+/// A small cross right of where a packet was sent.
+pub const CROSS: &[u8] =
+    b"<path class='x' transform='translate(~)' d='M14 0H27M27-11L49 11M27 11L49-11'/>
+";

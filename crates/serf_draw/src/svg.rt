@@ -2,19 +2,16 @@
 
 ghost use Rattle.std.specs.Prelude.{◌≡◌, ◌++◌, ◌+◌, ◌-◌, IfOk, OnOk};
 ghost use Rattle.std.specs.List.{flat_map};
-ghost use Rattle.serf_draw.specs.Svg.{agent_thousands, arrow_line, arrow_of_text, arrow_text, back_text, between, class_text, columns as columns_of, cross_text, dot_text, frame_text, front_text, guide_text, head_text, heads_text, label_place, label_text, lane_line, lanes_text, legend_text, line_above as above, line_of, mark_text, name_text, names_text, number_text, outside_text, place_text, placed_text, row_text, size_text, svg_of, thousands, tone_word as word_of, view_text};
+ghost use Rattle.serf_draw.specs.Svg.{arrow_line, arrow_text, back_text, columns as columns_of, cross_text, frame_text, front_text, guide_text, head_text, heads_text, lane_line, lanes_text, legend_text, mark_text, name_text, names_text, outside_text, row_text, size_text, svg_of, tone_word as word_of, view_text};
 
-use crate::escape::put_text_element;
+use crate::filled::{Part, put_each, put_filled};
 use crate::label::{label_columns, longest, short_name};
 use crate::picture::{Arrow, Lane, Picture, Row, Sender, Tone};
-use crate::row::{has_outside, lane_place};
-use crate::style::{LEGEND, OPENING, STYLE};
-use serf_text::put_number;
+use crate::places::{NAMED_ROWS, has_outside, line, line_above};
+use crate::style::{CROSS, LEGEND, OPENING, ROW, STYLE};
 use std::alloc::{AllocError, Global};
 
-/// How many rows stand between two lines with the names of the lanes.
-const NAMED_ROWS: u64 = 40;
-
+/// The class of a tone in the SVG.
 fn tone_word(tone: Tone) -> &'static [u8]
     ensures { result.now ≡ word_of tone }
 {
@@ -25,113 +22,8 @@ fn tone_word(tone: Tone) -> &'static [u8]
     }
 }
 
-/// Appends a number between two texts.
-#[tactic(auto, unfolding(crate::specs::Svg::between))]
-pub(crate) fn put_between(
-    out: &mut Vec<u8>,
-    before: &[u8],
-    n: u64,
-    behind: &[u8],
-) -> Result<(), AllocError>
-    ensures { OnOk result (out.new.items ≡ out.old.items ++ between before.now n behind.now) }
-{
-    out.extend_from_slice(before)?;
-    put_number(out, n)?;
-    out.extend_from_slice(behind)
-}
-
-/// Appends a tone's class between two texts.
-#[tactic(auto, unfolding(crate::specs::Svg::class_text))]
-fn put_class(out: &mut Vec<u8>, before: &[u8], tone: Tone, behind: &[u8]) -> Result<(), AllocError>
-    ensures { OnOk result (out.new.items ≡ out.old.items ++ class_text before.now tone behind.now) }
-{
-    out.extend_from_slice(before)?;
-    out.extend_from_slice(tone_word(tone))?;
-    out.extend_from_slice(behind)
-}
-
-/// The line above a row that has so many above it: each 40 of them have one more line, with the names of the lanes.
-fn line_above(rows: u64) -> u64
-    ensures { result ≡ above rows }
-{
-    rows.saturating_add(rows / NAMED_ROWS)
-}
-
-/// The line of a row that has so many above it.
-fn line(rows: u64) -> u64
-    ensures { result ≡ line_of rows }
-{
-    line_above(rows).saturating_add(1)
-}
-
-fn put_thousands(out: &mut Vec<u8>, place: Option<usize>) -> Result<(), AllocError>
-    ensures { OnOk result (out.new.items ≡ out.old.items ++ thousands place) }
-{
-    match place {
-        Some(place) => put_number(out, place as u64),
-        None => out.extend_from_slice(b"-"),
-    }
-}
-
-fn put_agent_thousands(
-    out: &mut Vec<u8>,
-    lanes: &[Lane],
-    agent: Option<u64>,
-) -> Result<(), AllocError>
-    ensures { OnOk result (out.new.items ≡ out.old.items ++ agent_thousands lanes.now agent) }
-{
-    match agent {
-        Some(agent) => put_thousands(out, lane_place(lanes, agent)),
-        None => out.extend_from_slice(b"-"),
-    }
-}
-
-/// Appends the middle of an agent's lane on the line below so many rows.
-#[tactic(auto, unfolding(crate::specs::Svg::place_text))]
-fn put_place(
-    out: &mut Vec<u8>,
-    lanes: &[Lane],
-    agent: Option<u64>,
-    rows: u64,
-) -> Result<(), AllocError>
-    ensures { OnOk result (out.new.items ≡ out.old.items ++ place_text lanes.now agent rows) }
-{
-    put_agent_thousands(out, lanes, agent)?;
-    out.extend_from_slice(b"500 ")?;
-    put_number(out, line(rows))?;
-    out.extend_from_slice(b"50")
-}
-
-/// Appends a place between two texts.
-#[tactic(auto, unfolding(crate::specs::Svg::placed_text))]
-fn put_placed(
-    out: &mut Vec<u8>,
-    before: &[u8],
-    lanes: &[Lane],
-    agent: Option<u64>,
-    rows: u64,
-    behind: &[u8],
-) -> Result<(), AllocError>
-    ensures { OnOk result (out.new.items ≡ out.old.items
-        ++ placed_text before.now lanes.now agent rows behind.now) }
-{
-    out.extend_from_slice(before)?;
-    put_place(out, lanes, agent, rows)?;
-    out.extend_from_slice(behind)
-}
-
-/// Appends where all labels begin.
-fn put_label_place(out: &mut Vec<u8>, lanes: &[Lane]) -> Result<(), AllocError>
-    ensures { OnOk result (out.new.items ≡ out.old.items ++ label_place lanes.now) }
-{
-    if lanes.is_empty() {
-        return out.extend_from_slice(b"-240");
-    }
-    put_between(out, b"", (lanes.len() as u64).saturating_sub(1), b"760")
-}
-
 /// Appends a lane's name on a line.
-#[tactic(auto, unfolding(crate::specs::Svg::name_text))]
+#[tactic(auto, using(crate::proofs::FilledLemmas::name_filled), unfolding(crate::specs::Svg::name_text))]
 fn put_name(
     alloc: Global,
     out: &mut Vec<u8>,
@@ -142,9 +34,12 @@ fn put_name(
     ensures { OnOk result (out.new.items ≡ out.old.items ++ name_text line place lane.now) }
 {
     let name = short_name(alloc, lane.name.as_slice())?;
-    put_between(out, b"<text class='h' x='", place, b"500' y='")?;
-    put_between(out, b"", line, b"65'>")?;
-    put_text_element(out, b"", &name)
+    let parts = [
+        Part::Number(place),
+        Part::Number(line),
+        Part::Escaped(&name),
+    ];
+    put_filled(out, b"<text class='h' x='~500' y='~65'>~</text>\n", &parts)
 }
 
 /// Appends the names of all lanes on a line.
@@ -160,19 +55,19 @@ fn put_names(alloc: Global, out: &mut Vec<u8>, line: u64, lanes: &[Lane]) -> Res
 }
 
 /// Appends the name of the place left of all lanes on a line, where something is there.
+#[tactic(auto, unfolding(crate::specs::Svg::between))]
 fn put_outside(out: &mut Vec<u8>, outside: bool, line: u64) -> Result<(), AllocError>
     ensures { OnOk result (out.new.items ≡ out.old.items ++ outside_text outside line) }
 {
-    if outside {
-        put_between(
-            out,
-            b"<text class='h' x='-500' y='",
-            line,
-            b"65'>outside</text>\n",
-        )
-    } else {
-        Ok(())
+    if !outside {
+        return Ok(());
     }
+    let parts = [Part::Number(line)];
+    put_filled(
+        out,
+        b"<text class='h' x='-500' y='~65'>outside</text>\n",
+        &parts,
+    )
 }
 
 /// Appends all names on a line.
@@ -207,12 +102,13 @@ fn put_heads(
     Ok(())
 }
 
-#[tactic(auto, unfolding(crate::specs::Svg::lane_line))]
+/// Appends the upright line of a lane.
+#[tactic(auto, using(crate::proofs::FilledLemmas::lane_filled))]
 fn put_lane_line(out: &mut Vec<u8>, last: u64, place: u64) -> Result<(), AllocError>
     ensures { OnOk result (out.new.items ≡ out.old.items ++ lane_line last place) }
 {
-    put_between(out, b"<path class='l' d='M", place, b"500 90V")?;
-    put_between(out, b"", last, b"99'/>\n")
+    let parts = [Part::Number(place), Part::Number(last)];
+    put_filled(out, b"<path class='l' d='M~500 90V~99'/>\n", &parts)
 }
 
 /// Appends the lanes' lines, down to the end of a line.
@@ -228,34 +124,19 @@ fn put_lanes(out: &mut Vec<u8>, last: u64, lanes: &[Lane]) -> Result<(), AllocEr
 }
 
 /// Appends a thin line from where a row's agent acts to the label.
-#[tactic(auto, unfolding(crate::specs::Svg::guide_text))]
+#[tactic(auto, unfolding(crate::specs::Svg::guide_text, crate::specs::Svg::placed_text))]
 fn put_guide(out: &mut Vec<u8>, lanes: &[Lane], row: &Row) -> Result<(), AllocError>
     ensures { OnOk result (out.new.items ≡ out.old.items ++ guide_text lanes.now row.now) }
 {
-    put_placed(
-        out,
-        b"<path class='w' d='M",
-        lanes,
-        row.agent,
-        row.above,
-        b"H",
-    )?;
-    put_label_place(out, lanes)?;
-    out.extend_from_slice(b"'/>\n")
-}
-
-fn put_guides(out: &mut Vec<u8>, lanes: &[Lane], rows: &[Row]) -> Result<(), AllocError>
-    ensures { OnOk result (out.new.items ≡ out.old.items
-        ++ flat_map (guide_text lanes.now) rows.now) }
-{
-    for row in rows {
-        put_guide(out, lanes, row)?;
-    }
-    Ok(())
+    let parts = [
+        Part::Place(lanes, row.agent, row.above),
+        Part::LabelPlace(lanes),
+    ];
+    put_filled(out, b"<path class='w' d='M~H~'/>\n", &parts)
 }
 
 /// Appends an arrow from an agent's lane, below so many rows, to where the row's agent acts.
-#[tactic(auto, unfolding(crate::specs::Svg::arrow_line))]
+#[tactic(auto, unfolding(crate::specs::Svg::arrow_line, crate::specs::Svg::class_text))]
 fn put_arrow_line(
     out: &mut Vec<u8>,
     lanes: &[Lane],
@@ -266,13 +147,15 @@ fn put_arrow_line(
     ensures { OnOk result (out.new.items ≡ out.old.items
         ++ arrow_line lanes.now row.now agent rows) }
 {
-    put_class(out, b"<path class='", row.tone, b"' d='M")?;
-    put_place(out, lanes, agent, rows)?;
-    out.extend_from_slice(b"L")?;
-    put_place(out, lanes, row.agent, row.above)?;
-    out.extend_from_slice(b"'/>\n")
+    let parts = [
+        Part::Text(tone_word(row.tone)),
+        Part::Place(lanes, agent, rows),
+        Part::Place(lanes, row.agent, row.above),
+    ];
+    put_filled(out, b"<path class='~' d='M~L~'/>\n", &parts)
 }
 
+/// Appends a row's arrow.
 fn put_arrow(out: &mut Vec<u8>, lanes: &[Lane], row: &Row) -> Result<(), AllocError>
     ensures { OnOk result (out.new.items ≡ out.old.items ++ arrow_text lanes.now row.now) }
 {
@@ -283,103 +166,44 @@ fn put_arrow(out: &mut Vec<u8>, lanes: &[Lane], row: &Row) -> Result<(), AllocEr
     }
 }
 
-fn put_arrows(out: &mut Vec<u8>, lanes: &[Lane], rows: &[Row]) -> Result<(), AllocError>
-    ensures { OnOk result (out.new.items ≡ out.old.items
-        ++ flat_map (arrow_text lanes.now) rows.now) }
-{
-    for row in rows {
-        put_arrow(out, lanes, row)?;
-    }
-    Ok(())
-}
-
-#[tactic(auto, unfolding(crate::specs::Svg::cross_text))]
+/// Appends a small cross where a packet was sent that nobody got.
+#[tactic(auto, unfolding(crate::specs::Svg::cross_text, crate::specs::Svg::placed_text))]
 fn put_cross(out: &mut Vec<u8>, lanes: &[Lane], sender: Sender) -> Result<(), AllocError>
     ensures { OnOk result (out.new.items ≡ out.old.items ++ cross_text lanes.now sender) }
 {
-    put_placed(
-        out,
-        b"<path class='x' transform='translate(",
-        lanes,
-        sender.agent,
-        sender.above,
-        b")' d='M14 0H27M27-11L49 11M27 11L49-11'/>\n",
-    )
+    let parts = [Part::Place(lanes, sender.agent, sender.above)];
+    put_filled(out, CROSS, &parts)
 }
 
-fn put_crosses(out: &mut Vec<u8>, lanes: &[Lane], lost: &[Sender]) -> Result<(), AllocError>
-    ensures { OnOk result (out.new.items ≡ out.old.items
-        ++ flat_map (cross_text lanes.now) lost.now) }
-{
-    for sender in lost {
-        put_cross(out, lanes, *sender)?;
-    }
-    Ok(())
-}
-
-#[tactic(auto, unfolding(crate::specs::Svg::number_text))]
-fn put_row_number(out: &mut Vec<u8>, line: u64, action: u64) -> Result<(), AllocError>
-    ensures { OnOk result (out.new.items ≡ out.old.items ++ number_text line action) }
-{
-    put_between(out, b"<text class='n' x='-680' y='", line, b"75'>")?;
-    put_between(out, b"", action, b"</text>\n")
-}
-
-#[tactic(auto, unfolding(crate::specs::Svg::dot_text))]
-fn put_dot(out: &mut Vec<u8>, lanes: &[Lane], row: &Row) -> Result<(), AllocError>
-    ensures { OnOk result (out.new.items ≡ out.old.items ++ dot_text lanes.now row.now) }
-{
-    put_class(out, b"<g class='", row.tone, b"'")?;
-    put_placed(
-        out,
-        b" transform='translate(",
-        lanes,
-        row.agent,
-        row.above,
-        b")'>",
-    )
-}
-
-#[tactic(auto, unfolding(crate::specs::Svg::label_text))]
-fn put_label(out: &mut Vec<u8>, lanes: &[Lane], row: &Row) -> Result<(), AllocError>
-    ensures { OnOk result (out.new.items ≡ out.old.items ++ label_text lanes.now row.now) }
-{
-    put_class(out, b"<text class='", row.tone, b"' x='")?;
-    put_label_place(out, lanes)?;
-    put_between(out, b"' y='", line(row.above), b"75'>")?;
-    put_text_element(out, b"", row.label.as_slice())
-}
-
-fn put_mark(out: &mut Vec<u8>, restarts: bool) -> Result<(), AllocError>
-    ensures { OnOk result (out.new.items ≡ out.old.items ++ mark_text restarts) }
+/// What stands in a row's dot: it, and the lane's break where the agent was opened again.
+fn mark(restarts: bool) -> &'static [u8]
+    ensures { result.now ≡ mark_text restarts }
 {
     if restarts {
-        out.extend_from_slice(
-            b"<path class='g' d='M0-45V45'/><path class='b' d='M-50-45H50M-50 45H50'/><circle r='14'/></g>\n",
-        )
+        b"<path class='g' d='M0-45V45'/><path class='b' d='M-50-45H50M-50 45H50'/><circle r='14'/></g>\n"
     } else {
-        out.extend_from_slice(b"<circle r='14'/></g>\n")
+        b"<circle r='14'/></g>\n"
     }
 }
 
-#[tactic(auto, unfolding(crate::specs::Svg::row_text))]
-fn put_row(out: &mut Vec<u8>, lanes: &[Lane], row: &Row) -> Result<(), AllocError>
+/// Appends a row: its action's number, its dot, and its label.
+fn put_row<'a>(out: &mut Vec<u8>, lanes: &'a [Lane], row: &'a Row) -> Result<(), AllocError>
     ensures { OnOk result (out.new.items ≡ out.old.items ++ row_text lanes.now row.now) }
 {
-    put_row_number(out, line(row.above), row.action)?;
-    put_dot(out, lanes, row)?;
-    put_mark(out, row.restarts)?;
-    put_label(out, lanes, row)
-}
-
-fn put_rows(out: &mut Vec<u8>, lanes: &[Lane], rows: &[Row]) -> Result<(), AllocError>
-    ensures { OnOk result (out.new.items ≡ out.old.items
-        ++ flat_map (row_text lanes.now) rows.now) }
-{
-    for row in rows {
-        put_row(out, lanes, row)?;
-    }
-    Ok(())
+    let tone = Part::Text(tone_word(row.tone));
+    let line = Part::Number(line(row.above));
+    let parts = [
+        line,
+        Part::Number(row.action),
+        tone,
+        Part::Place(lanes, row.agent, row.above),
+        Part::Text(mark(row.restarts)),
+        tone,
+        Part::LabelPlace(lanes),
+        line,
+        Part::Escaped(row.label.as_slice()),
+    ];
+    put_filled(out, ROW, &parts)
 }
 
 /// How many columns there are: one for each lane, and those of the labels.
@@ -390,37 +214,34 @@ fn columns(lanes: &[Lane], rows: &[Row]) -> u64
     if columns > 3 { columns } else { 3 }
 }
 
-#[tactic(auto, unfolding(crate::specs::Svg::view_text))]
-fn put_view(out: &mut Vec<u8>, columns: u64, lines: u64) -> Result<(), AllocError>
-    ensures { OnOk result (out.new.items ≡ out.old.items ++ view_text columns lines) }
-{
-    put_between(out, b"", columns, b"700 ")?;
-    put_between(out, b"", lines, b"99'")
-}
-
-#[tactic(auto, unfolding(crate::specs::Svg::size_text))]
+/// Appends how wide and how high what is shown is, of so many columns and lines.
+#[tactic(auto, using(crate::proofs::FilledLemmas::size_filled))]
 fn put_size(out: &mut Vec<u8>, columns: u64, lines: u64) -> Result<(), AllocError>
-    ensures { OnOk result (out.new.items ≡ out.old.items ++ size_text columns lines) }
+    ensures { OnOk result (out.new.items ≡ out.old.items
+        ++ (view_text columns lines ++ size_text columns lines)) }
 {
-    put_between(out, b" width='", columns, b"7pc' height='")?;
-    put_between(out, b"", lines, b".99pc'>\n")
+    let (columns, lines) = (Part::Number(columns), Part::Number(lines));
+    let parts = [columns, lines, columns, lines];
+    put_filled(out, b"~700 ~99' width='~7pc' height='~.99pc'>\n", &parts)
 }
 
+/// Appends the start of the file, up to the paper.
 #[tactic(auto, unfolding(crate::specs::Svg::frame_text))]
 fn put_frame(out: &mut Vec<u8>, columns: u64, lines: u64) -> Result<(), AllocError>
     ensures { OnOk result (out.new.items ≡ out.old.items ++ frame_text columns lines) }
 {
     out.extend_from_slice(OPENING)?;
-    put_view(out, columns, lines)?;
     put_size(out, columns, lines)?;
     out.extend_from_slice(STYLE)
 }
 
 /// Appends what the signs mean, on a line of its own.
+#[tactic(auto, unfolding(crate::specs::Svg::between))]
 fn put_legend(out: &mut Vec<u8>, line: u64) -> Result<(), AllocError>
     ensures { OnOk result (out.new.items ≡ out.old.items ++ legend_text line) }
 {
-    put_between(out, b"<g transform='translate(-680 ", line, b"50)'>")?;
+    let parts = [Part::Number(line)];
+    put_filled(out, b"<g transform='translate(-680 ~50)'>", &parts)?;
     out.extend_from_slice(LEGEND)
 }
 
@@ -437,7 +258,7 @@ fn put_back(
     let count = rows.len() as u64;
     put_lanes(out, line_above(count), lanes)?;
     put_heads(alloc, out, has_outside(lanes, rows), count, lanes)?;
-    put_guides(out, lanes, rows)
+    put_each(out, rows, |out, row| put_guide(out, lanes, row))
 }
 
 /// Appends the arrows, the crosses and the rows.
@@ -451,17 +272,17 @@ fn put_front(
     ensures { OnOk result (out.new.items ≡ out.old.items
         ++ front_text lanes.now rows.now lost.now) }
 {
-    put_arrows(out, lanes, rows)?;
-    put_crosses(out, lanes, lost)?;
-    put_rows(out, lanes, rows)
+    put_each(out, rows, |out, row| put_arrow(out, lanes, row))?;
+    put_each(out, lost, |out, sender| put_cross(out, lanes, *sender))?;
+    put_each(out, rows, |out, row| put_row(out, lanes, row))
 }
 
 /// A picture as the text of one SVG file: no script, no font to fetch, in light and dark by the reader's preference.
 ///
-/// Each row has one label, right of all lanes, so that no label cuts an arrow; and each packet that is given has one arrow,
-/// from where it was sent. A packet that nobody got ends in a small cross. The lanes' names stand above all rows, and
-/// again between each 40 of them, with `outside` over what is left of all lanes, where something is; a legend stands below. Names and labels are escaped. It is an `AllocError` only where there is no
-/// memory for the text.
+/// Each row has one label, right of all lanes, so that no label cuts an arrow; and each packet that is given has one
+/// arrow, from where it was sent. A packet that nobody got ends in a small cross. The lanes' names stand above all rows,
+/// and again between each 40 of them, with `outside` over what is left of all lanes, where something is; a legend stands
+/// below. Names and labels are escaped. It is an `AllocError` only where there is no memory for the text.
 #[tactic(auto, unfolding(crate::specs::Svg::svg_of))]
 pub fn svg_text(alloc: Global, picture: &Picture) -> Result<Vec<u8>, AllocError>
     ensures { IfOk result (λ text. text.items ≡ svg_of picture.now) }

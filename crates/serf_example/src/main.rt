@@ -92,7 +92,7 @@ fn deliver<R: Files<File = File> + Print + AllocGlobal>(
     name: &str,
     packet: &Bytes,
 ) -> Result<()> {
-    let outcome = agent.receive(rt.alloc(), 0, packet.as_slice())?;
+    let outcome = agent.receive(rt.alloc(), 0, packet.as_slice(), false)?;
     tell(rt, name, packet, &outcome)
 }
 
@@ -139,7 +139,8 @@ fn answer<R: Files<File = File> + AllocGlobal>(
     beta: &mut OnFile<'_, R>,
     packet: &Bytes,
 ) -> Result<(Bytes, Bytes)> {
-    let Outcome::Query { handed, ack, .. } = beta.receive(rt.alloc(), 0, packet.as_slice())? else {
+    let Outcome::Query { handed, ack, .. } = beta.receive(rt.alloc(), 0, packet.as_slice(), false)?
+    else {
         bail!("beta isn't asked");
     };
     let Some(ack) = ack else {

@@ -1,62 +1,117 @@
 -- What is told of events, one part of them after another.
-use Rattle.std.proofs.Common.{◌≡◌, ◌<◌, ℕ, codes, decimal, length, length-append, arith, List, [], ◌∷◌, ◌++◌, Option, Some, None, refl, sym, ap, subst, ◌∙◌, append_assoc, append-nil}
+use Rattle.std.proofs.Common.{◌≡◌, ◌<◌, ℕ, codes, decimal, length, length-append, arith, List, [], ◌∷◌, ◌++◌, Option, Some, None, true, refl, sym, ap, subst, ◌∙◌, append_assoc, append-nil}
 use Rattle.serf_wire.specs.declared.texts.EventBody.{EventBody}
 use Rattle.serf_window.specs.Window.{TimedEntry}
 use Rattle.serf_agent.specs.Ideal.{IdealAgent}
 use Rattle.serf_agent.specs.States.{after_event}
+use Rattle.serf_agent.specs.View.{ConcreteState}
+use Rattle.serf_agent.specs.declared.config.Config.{Config}
 use Rattle.serf_explain.specs.declared.judge.Judge.{Judge}
+use Rattle.serf_explain.specs.declared.left.Takes.{Takes}
+use Rattle.serf_explain.specs.declared.merging.Merging.{Merging}
 use Rattle.std.specs.List.{flat_map}
 use Rattle.serf_agent.specs.declared.outcome.Reason.{Reason}
+use Rattle.serf_agent.specs.declared.outcome.Reason.TheVariants.{Seen}
 use Rattle.serf_agent.specs.Events.{admission}
 use Rattle.serf_model.specs.declared.action.Action.{Action}
+use Rattle.serf_model.specs.declared.line.Line.{Line}
 use Rattle.serf_model.specs.Cluster.{Cluster}
 use Rattle.serf_explain.specs.Because.{AddsSuch, because_line, byte_text}
-use Rattle.serf_explain.specs.Carried.{AreCarried, AreOfState, TellsMerge, TellsMerged, after_events, carried_words, raised_least, raised_reasons}
-use Rattle.serf_explain.specs.Judging.{AddsCarried, AddsLines, AddsState, HasJudged, IsJudging, TellsText, merged_of}
+use Rattle.serf_explain.specs.Carried.{AreCarried, AreOfState, IsCarried, IsSeenIn, Known, Placed, TellsMerge, TellsMerged, after_events, carried_words, entered_since, placed, raised_least, raised_reasons}
+use Rattle.serf_explain.specs.HandOuts.{IsNamed, Note, handed_words, notes_from}
+use Rattle.serf_explain.specs.Judging.{AddsJudged, AddsLines, AddsState, HasJudged, IsHandedIn, IsJudging, IsMerging, TellsText, detail_words, judge_takes, judged_detail, merged_of}
+use Rattle.serf_explain.specs.Leaving.{left_words}
+use Rattle.serf_explain.specs.Left.{IsEventLeft, IsLeft, is_left, texts_told}
+use Rattle.serf_explain.proofs.JudgeLaws.{same-config}
+use Rattle.serf_explain.proofs.LeftLaws.{left-is}
+use Rattle.serf_explain.proofs.NoteLaws.{is-seen-in}
 use Rattle.serf_explain.proofs.ReasonLaws.{lines-append}
 
-carried-append : (xs ys : List (TimedEntry EventBody)) (j : IdealAgent) (before behind : List (List ℕ)) → AreCarried xs j before → AreCarried ys (after_events xs j) behind → AreCarried (xs ++ ys) j (before ++ behind)
-carried-append [] ys j before behind h k = subst (λ (rs : List (List ℕ)). AreCarried ys j (rs ++ behind)) (sym h) k
-carried-append (x ∷ xs) ys j before behind h k =
-    (h.0, h.1 ++ behind, ap (λ (rs : List (List ℕ)). rs ++ behind) h.2, h.3, carried-append xs ys (after_event j x) h.1 behind h.4 k)
+carried-append : (k : Known) (xs ys : List Placed) (j : IdealAgent) (front behind : List (List ℕ)) → AreCarried k xs j front → AreCarried k ys (after_events xs j) behind → AreCarried k (xs ++ ys) j (front ++ behind)
+carried-append k [] ys j front behind h more = subst (λ (rs : List (List ℕ)). AreCarried k ys j (rs ++ behind)) (sym h) more
+carried-append k (x ∷ xs) ys j front behind h more =
+    (h.0, h.1 ++ behind, ap (λ (rs : List (List ℕ)). rs ++ behind) h.2, h.3, carried-append k xs ys (after_event j x.entry) h.1 behind h.4 more)
 
-after-append : (xs ys : List (TimedEntry EventBody)) (j : IdealAgent) → after_events (xs ++ ys) j ≡ after_events ys (after_events xs j)
+after-append : (xs ys : List Placed) (j : IdealAgent) → after_events (xs ++ ys) j ≡ after_events ys (after_events xs j)
 after-append [] ys j = refl
-after-append (x ∷ xs) ys j = after-append xs ys (after_event j x)
+after-append (x ∷ xs) ys j = after-append xs ys (after_event j x.entry)
 
-pub judged-start : (n : ℕ) (i j : IdealAgent) (all : List (TimedEntry EventBody)) (text : List ℕ) (judge : Judge) → IsJudging i j judge → HasJudged n i j all all text text judge
-judged-start n i j all text judge h = record {
+pub judged-start : (k : Known) (n : ℕ) (i j : IdealAgent) (all : List Placed) (text : List ℕ) (judge : Judge) → IsJudging i j judge → HasJudged k n i j all all text text judge
+judged-start k n i j all text judge h = record {
   done = [];
   split = refl;
   lines = record { added = []; new_is = sym (append-nil text); carried = refl };
   judging = h;
 }
 
--- a reason was made, and its line added
-pub adds-carried : (n slot time : ℕ) (what : EventBody) (verdict : Option Reason) (detail empty reason said old new : List ℕ) → empty ≡ [] → reason ≡ empty ++ carried_words slot time what verdict detail → said ≡ reason
-    → new ≡ old ++ because_line n said → AddsCarried n slot time what verdict old new
-adds-carried n slot time what verdict detail empty reason said old new none made same is = record {
-  detail = detail;
-  added = is ∙ ap (λ (t : List ℕ). old ++ because_line n t) (same ∙ made ∙ ap (λ (t : List ℕ). t ++ carried_words slot time what verdict detail) none);
-}
+-- of one that is left the agent's numbers are said
+left-detail : (name : List ℕ) (takes : Takes) (handed : Option ℕ) (time : ℕ) (what : EventBody) (r : Reason) → (r ≡ Seen → ⊥) → detail_words name takes handed time what (Some r) ≡ left_words takes (codes "event") time (texts_told what) r
+left-detail name takes handed time what Seen other = absurd (other refl)
+left-detail name takes handed time what _ other = refl
+
+pub detail-is : (name : List ℕ) (takes made : Takes) (handed : Option ℕ) (time : ℕ) (what : EventBody) (r : Reason) (verdict : Option Reason) (bytes : ℕ) (old new : List ℕ) → verdict ≡ Some r → (r ≡ Seen → ⊥) → made ≡ takes → bytes ≡ texts_told what
+    → new ≡ old ++ left_words made (codes "event") time bytes r → new ≡ old ++ detail_words name takes handed time what verdict
+detail-is name takes made handed time what r verdict bytes old new is other same count h =
+    h
+    ∙ (λ q. old ++ left_words (same q) (codes "event") time (count q) r)
+    ∙ ap (λ (t : List ℕ). old ++ t) (sym (left-detail name takes handed time what r other))
+    ∙ ap (λ (v : Option Reason). old ++ detail_words name takes handed time what v) (sym is)
+
+left-of : (k : Known) (i j : IdealAgent) (e : TimedEntry EventBody) (merging : Merging) (judge : Judge) (handed : Option ℕ) → IsMerging k i merging → IsJudging i (after_event j e) judge
+    → (r : Reason) → is_left r ≡ true → IsEventLeft (after_event j e) k.before e.time e.key r (judged_detail merging judge handed e.time e.key (Some r))
+left-of k i j e merging judge handed m h r some =
+    let x : IdealAgent = after_event j e in
+    let bytes : ℕ = texts_told e.key in
+    let name : List ℕ = codes "event" in
+    let own : Config = merging.agent.now.concrete.config in
+    let config : own ≡ x.config = ap (λ (s : ConcreteState). s.config) m.agent_is ∙ sym h.config_same in
+    let detail : List ℕ = judged_detail merging judge handed e.time e.key (Some r) in
+    let words : IsLeft name judge.minimum judge.clock own.event_buffer own.per_time (m.earlier ++ m.least ∷ []) e.time bytes r detail =
+    subst (λ (t : List ℕ). IsLeft name judge.minimum judge.clock own.event_buffer own.per_time (m.earlier ++ m.least ∷ []) e.time bytes r t) (sym (left-detail own.name (judge_takes merging judge) handed e.time e.key r (λ q. let no : is_left Seen ≡ true = ap is_left (sym q) ∙ some in cc no)))
+    (left-is merging.least judge.minimum judge.clock own.event_buffer own.per_time merging.number name m.earlier m.least e.time bytes m.mark m.number r) in
+    subst (λ (y : ℕ). IsLeft name y x.events.clock x.config.event_buffer x.config.per_time k.before e.time bytes r detail) (sym h.minimum_is)
+    (subst (λ (y : ℕ). IsLeft name judge.minimum y x.config.event_buffer x.config.per_time k.before e.time bytes r detail) (sym h.clock_is)
+    (subst (λ (c : Config). IsLeft name judge.minimum judge.clock c.event_buffer c.per_time k.before e.time bytes r detail) config
+    (subst (λ (bs : List ℕ). IsLeft name judge.minimum judge.clock own.event_buffer own.per_time bs e.time bytes r detail) (sym m.before_are) words)))
+
+-- and of one that was seen which action handed it out
+seen-of : (k : Known) (i j : IdealAgent) (e : TimedEntry EventBody) (merging : Merging) (judge : Judge) (handed : Option ℕ) → IsMerging k i merging → IsJudging i (after_event j e) judge → j.config ≡ (after_event j e).config
+    → IsHandedIn i j merging e handed → IsSeenIn k j e (judged_detail merging judge handed e.time e.key (Some Seen))
+seen-of k i j e merging judge handed m h same named =
+    let config : merging.agent.now.concrete.config ≡ j.config = ap (λ (s : ConcreteState). s.config) m.agent_is ∙ sym h.config_same ∙ sym same in
+    let notes : IsNamed (notes_from 1 k.lines) merging.number merging.agent_number e.time e.key (entered_since k.entered j e) handed =
+    subst (λ (n : ℕ). IsNamed (notes_from 1 k.lines) merging.number merging.agent_number e.time e.key (entered_since n j e) handed) (sym m.entered)
+    (subst (λ (ns : List Note). IsNamed ns merging.number merging.agent_number e.time e.key (entered_since (length i.events.history) j e) handed) m.notes named) in
+    subst (λ (c : Config). IsSeenIn k j e (handed_words c.name e.time e.key handed)) (sym config)
+    (is-seen-in merging.agent_number e.time e.key k j merging.number handed (sym m.agent) m.count notes)
 
 -- a line tells of an event
-pub carried-line : (n slot : ℕ) (e : TimedEntry EventBody) (verdict : Option Reason) (i : IdealAgent) (old new : List ℕ) → AddsCarried n slot e.time e.key verdict old new → verdict ≡ admission i e.time e.key → AddsLines n (e ∷ []) i old new
-carried-line n slot e verdict i old new h is =
-    let reason : List ℕ = carried_words slot e.time e.key verdict h.detail in
+pub carried-line : (k : Known) (slot : ℕ) (e : TimedEntry EventBody) (verdict : Option Reason) (i j : IdealAgent) (merging : Merging) (judge : Judge) (old new : List ℕ) → IsMerging k i merging → IsJudging i (after_event j e) judge
+    → verdict ≡ admission j e.time e.key → AddsJudged merging judge i j slot e verdict old new → AddsLines k merging.number (placed slot (e ∷ [])) j old new
+carried-line k slot e verdict i j merging judge old new m judging is h =
+    let p : Placed = record { slot = slot; entry = e } in
+    let detail : Option Reason → List ℕ = λ v. judged_detail merging judge h.handed e.time e.key v in
+    let reason : List ℕ = carried_words slot e.time e.key verdict (detail verdict) in
+    let own : IsCarried k j p verdict reason = record {
+      detail = detail verdict;
+      words = refl;
+      new = λ q. ap detail q;
+      seen = λ q. subst (λ (v : Option Reason). IsSeenIn k j e (detail v)) (sym q) (seen-of k i j e merging judge h.handed m judging (sym (same-config j e)) (h.named q));
+      left = λ r q some. subst (λ (v : Option Reason). IsEventLeft (after_event j e) k.before e.time e.key r (detail v)) (sym q) (left-of k i j e merging judge h.handed m judging r some);
+    } in
     record {
       added = reason ∷ [];
-      new_is = h.added ∙ ap (λ t. old ++ t) (sym (append-nil (because_line n reason)));
-      carried = (reason, [], refl, record { slot = slot; detail = h.detail; words = ap (λ (v : Option Reason). carried_words slot e.time e.key v h.detail) is }, refl);
+      new_is = h.added ∙ ap (λ t. old ++ t) (sym (append-nil (because_line merging.number reason)));
+      carried = (reason, [], refl, subst (λ (v : Option Reason). IsCarried k j p v reason) is own, refl);
     }
 
 -- all that there is was judged, one event
-pub judged-one : (n : ℕ) (i j : IdealAgent) (e : TimedEntry EventBody) (old new : List ℕ) (judge : Judge) → AddsLines n (e ∷ []) j old new → IsJudging i (after_event j e) judge → HasJudged n i j (e ∷ []) [] old new judge
-judged-one n i j e old new judge lines judging = record { done = e ∷ []; split = refl; lines = lines; judging = judging }
+pub judged-one : (k : Known) (n : ℕ) (i j : IdealAgent) (p : Placed) (old new : List ℕ) (judge : Judge) → AddsLines k n (p ∷ []) j old new → IsJudging i (after_event j p.entry) judge → HasJudged k n i j (p ∷ []) [] old new judge
+judged-one k n i j p old new judge lines judging = record { done = p ∷ []; split = refl; lines = lines; judging = judging }
 
-pub judged-more : (n : ℕ) (i j : IdealAgent) (all part left : List (TimedEntry EventBody)) (old mid new : List ℕ) (judge next : Judge) (h : HasJudged n i j all (part ++ left) old mid judge)
-    → AddsLines n part (after_events h.done j) mid new → IsJudging i (after_events part (after_events h.done j)) next → HasJudged n i j all left old new next
-judged-more n i j all part left old mid new judge next h adds judging = record {
+pub judged-more : (k : Known) (n : ℕ) (i j : IdealAgent) (all part left : List Placed) (old mid new : List ℕ) (judge next : Judge) (h : HasJudged k n i j all (part ++ left) old mid judge)
+    → AddsLines k n part (after_events h.done j) mid new → IsJudging i (after_events part (after_events h.done j)) next → HasJudged k n i j all left old new next
+judged-more k n i j all part left old mid new judge next h adds judging = record {
   done = h.done ++ part;
   split = append_assoc h.done part left ∙ h.split;
   lines = record {
@@ -64,23 +119,23 @@ judged-more n i j all part left old mid new judge next h adds judging = record {
     new_is = adds.new_is ∙ ap (λ (t : List ℕ). t ++ flat_map (because_line n) adds.added) h.lines.new_is
         ∙ append_assoc old (flat_map (because_line n) h.lines.added) (flat_map (because_line n) adds.added)
         ∙ ap (λ (t : List ℕ). old ++ t) (sym (lines-append n h.lines.added adds.added));
-    carried = carried-append h.done part j h.lines.added adds.added h.lines.carried adds.carried;
+    carried = carried-append k h.done part j h.lines.added adds.added h.lines.carried adds.carried;
   };
   judging = subst (λ (k : IdealAgent). IsJudging i k next) (sym (after-append h.done part j)) judging;
 }
 
-pub judged-lines : (n : ℕ) (i j : IdealAgent) (all : List (TimedEntry EventBody)) (old new : List ℕ) (judge : Judge) → HasJudged n i j all [] old new judge → AddsLines n all j old new
-judged-lines n i j all old new judge h = subst (λ es. AddsLines n es j old new) (sym (append-nil h.done) ∙ h.split) h.lines
+pub judged-lines : (k : Known) (n : ℕ) (i j : IdealAgent) (all : List Placed) (old new : List ℕ) (judge : Judge) → HasJudged k n i j all [] old new judge → AddsLines k n all j old new
+judged-lines k n i j all old new judge h = subst (λ es. AddsLines k n es j old new) (sym (append-nil h.done) ∙ h.split) h.lines
 
-pub judged-agent : (n : ℕ) (i j : IdealAgent) (all : List (TimedEntry EventBody)) (old new : List ℕ) (judge : Judge) → HasJudged n i j all [] old new judge → IsJudging i (after_events all j) judge
-judged-agent n i j all old new judge h = subst (λ es. IsJudging i (after_events es j) judge) (sym (append-nil h.done) ∙ h.split) h.judging
+pub judged-agent : (k : Known) (n : ℕ) (i j : IdealAgent) (all : List Placed) (old new : List ℕ) (judge : Judge) → HasJudged k n i j all [] old new judge → IsJudging i (after_events all j) judge
+judged-agent k n i j all old new judge h = subst (λ es. IsJudging i (after_events es j) judge) (sym (append-nil h.done) ∙ h.split) h.judging
 
 -- all of a merge was judged, and this is the least time that it raises, if it does
-pub adds_state : (n : ℕ) (i j : IdealAgent) (all : List (TimedEntry EventBody)) (old new : List ℕ) (judge : Judge) (raised : Option ℕ) → HasJudged n i j all [] old new judge
-    → ((k : IdealAgent) → IsJudging i k judge → raised ≡ raised_least i k) → AddsState n all i j raised old new
-adds_state n i j all old new judge raised h is = record {
-  lines = judged-lines n i j all old new judge h;
-  raises = is (after_events all j) (judged-agent n i j all old new judge h);
+pub adds_state : (k : Known) (n : ℕ) (i j : IdealAgent) (all : List Placed) (old new : List ℕ) (judge : Judge) (raised : Option ℕ) → HasJudged k n i j all [] old new judge
+    → ((m : IdealAgent) → IsJudging i m judge → raised ≡ raised_least i m) → AddsState k n all i j raised old new
+adds_state k n i j all old new judge raised h is = record {
+  lines = judged-lines k n i j all old new judge h;
+  raises = is (after_events all j) (judged-agent k n i j all old new judge h);
 }
 
 -- what is told of a merge, where this is told of its events, and it raises this least time
@@ -92,14 +147,14 @@ some-merged None [] = omega arith
 some-merged None (r ∷ rs) = omega arith
 some-merged (Some least) carried = omega arith
 
-told-events : (carried : List (List ℕ)) (es : List (TimedEntry EventBody)) (i : IdealAgent) → AreCarried es i carried → AreOfState es i (merged_of carried)
-told-events [] [] i h = refl
-told-events [] (e ∷ es) i h = absurd (cc (h.2))
-told-events (r ∷ rs) [] i h = absurd (cc (h))
-told-events (r ∷ rs) (e ∷ es) i h = h
+told-events : (k : Known) (carried : List (List ℕ)) (ps : List Placed) (i : IdealAgent) → AreCarried k ps i carried → AreOfState k ps i (merged_of carried)
+told-events k [] [] i h = refl
+told-events k [] (p ∷ ps) i h = absurd (cc (h.2))
+told-events k (r ∷ rs) [] i h = absurd (cc (h))
+told-events k (r ∷ rs) (p ∷ ps) i h = h
 
 pub told-merged : (raised : Option ℕ) (carried : List (List ℕ)) → TellsMerged raised carried (whole_of raised carried)
-told-merged raised carried = λ es before i h. (merged_of carried, ap (λ (o : Option ℕ). whole_of o carried) h.0, told-events carried es i h.1)
+told-merged raised carried = λ k ps old i h. (merged_of carried, ap (λ (o : Option ℕ). whole_of o carried) h.0, told-events k carried ps i h.1)
 
 -- no line is empty
 some-line : (n : ℕ) (reason : List ℕ) → 0 < length (because_line n reason)
@@ -131,5 +186,5 @@ adds_merged n raised carried a mid b first second = record {
 }
 
 -- where nothing is merged, nothing is told
-pub tells-none : (n : ℕ) (c : Cluster) (action : Action) (raised : Option ℕ) (text : List ℕ) → text ≡ [] → TellsMerge c action raised [] → TellsText n c action raised text
-tells-none n c action raised text empty h = record { carried = []; text_is = empty; tells = h }
+pub tells-none : (n : ℕ) (lines : List Line) (before : List Cluster) (c : Cluster) (action : Action) (raised : Option ℕ) (text : List ℕ) → text ≡ [] → TellsMerge lines before c action raised [] → TellsText n lines before c action raised text
+tells-none n lines before c action raised text empty h = record { carried = []; text_is = empty; tells = h }

@@ -1,10 +1,11 @@
 -- The verdict on an event of a merge, from that before the merge and that on what entered in it.
-use Rattle.std.proofs.Common.{◌≡◌, ℕ, ◌+◌, ◌-◌, ◌<◌, ◌≤◌, ◌==◌, ◌&&◌, ◌||◌, inl, inr, nat_lt, nat_le, cond, Bool, true, false, List, [], ◌∷◌, ◌++◌, length, map, Option, Some, None, refl, sym, ap, subst, ◌∙◌, append_assoc, arith, All}
-use Rattle.std.proofs.lemmas.Bool.{cases_Bool, eq-eqb, ltb-false}
+use Rattle.std.proofs.Common.{◌≡◌, ℕ, ◌+◌, ◌-◌, ◌<◌, ◌≤◌, ◌==◌, ◌&&◌, ◌||◌, inl, inr, nat_lt, nat_le, cond, Bool, true, false, List, [], ◌∷◌, ◌++◌, length, map, drop, Option, Some, None, refl, sym, ap, subst, ◌∙◌, append_assoc, arith, All}
+use Rattle.std.proofs.lemmas.Bool.{cases_Bool, eq-eqb, ltb-false, ne_eqb}
 use Rattle.std.proofs.lemmas.List.Elements.{All-cons, All-head, All-nil, All-push, All-tail, All-weaker}
 use Rattle.std.proofs.lemmas.List.{map-append}
 use Rattle.std.proofs.lemmas.List.Folds.{list_any-append}
 use Rattle.std.proofs.lemmas.Bool.Decides.{nat_tests}
+use Rattle.std.proofs.Math.Seq.{drop-append_seam}
 use Rattle.serf_lamport.specs.Clock.{observed}
 use Rattle.serf_wire.specs.declared.texts.EventBody.{EventBody}
 use Rattle.serf_window.specs.declared.verdict.Verdict.{Verdict}
@@ -25,9 +26,9 @@ use Rattle.serf_snap.specs.Notes.{Kept}
 use Rattle.serf_agent.specs.Told.{noted_with}
 use Rattle.serf_snap.specs.declared.kind.ClockKind.TheVariants as kinds
 use Rattle.serf_agent.specs.Tracks.{IsTrackSound, of_life, track_reason, was_ever_entered}
-use Rattle.serf_explain.specs.Carried.{heard}
+use Rattle.serf_explain.specs.Carried.{entered_since, heard}
 use Rattle.serf_explain.specs.declared.judge.Judge.{Judge}
-use Rattle.serf_explain.specs.Judging.{IsJudging, both_verdicts, past}
+use Rattle.serf_explain.specs.Judging.{IsJudging, both_verdicts, is_seen, past}
 
 -- the tests of a reason, and of a verdict
 abbrev chain : Bool → Bool → Bool → Bool → Option Reason
@@ -230,3 +231,52 @@ judged-new laws i j judge new t what h is clock minimum per_time enters =
       clock_up = omega (arith, clock, h.clock_up);
       minimum_up = omega (arith, minimum, h.minimum_up);
     })
+
+-- ---- what entered in the merge
+
+-- an event that comes leaves the settings as they are
+same-by : (o : Option Reason) (j : IdealAgent) (t : ℕ) (what : EventBody) → (ended j (received_as o j t what false) Kept).agent.config ≡ j.config
+same-by None j t what = refl
+same-by (Some r) j t what = refl
+
+pub same-config : (j : IdealAgent) (e : TimedEntry EventBody) → (after_event j e).config ≡ j.config
+same-config j e = same-by (admission j e.time e.key) j e.time e.key
+
+-- what was seen is at a time that is taken
+seen-chain : (large low old seen full : Bool) → cond large (Some reasons.Oversize) (chain low old seen full) ≡ Some reasons.Seen → (low ≡ false) × (old ≡ false)
+seen-chain false false false seen full h = (refl, refl)
+seen-chain false false true seen full h = absurd (cc h)
+seen-chain false true old seen full h = absurd (cc h)
+seen-chain true low old seen full h = absurd (cc h)
+
+seen-verdict : (low old was full : Bool) → low ≡ false → old ≡ false → is_seen (window_chain low old was full) ≡ was
+seen-verdict low old true full young new = rw (young, new) refl
+seen-verdict low old false true young new = rw (young, new) refl
+seen-verdict low old false false young new = rw (young, new) refl
+
+-- what is since the merge began, of one that was seen
+entered-are : (i j : IdealAgent) (judge : Judge) (e : TimedEntry EventBody) (h : IsJudging i (after_event j e) judge) → admission j e.time e.key ≡ Some reasons.Seen
+    → was_entered same_texts h.entered e.time e.key ≡ entered_since (length i.events.history) j e
+entered-are i j judge e h is =
+    let history : j.events.history ≡ i.events.history ++ map (past i.life) h.entered = sym (ap (λ (k : IdealAgent). k.events.history) (after-reason j e.time e.key reasons.Seen is)) ∙ h.history_is in
+    sym (was-past i.life e.time e.key h.entered)
+    ∙ ap (λ (ps : List (Past EventBody)). was_ever_entered same_texts ps e.time e.key) (sym (drop-append_seam i.events.history (map (past i.life) h.entered)) ∙ ap (λ (ps : List (Past EventBody)). drop (length i.events.history) ps) (sym history))
+
+-- whether it entered in the merge is what the slots of the merge say
+pub took_is : (i j : IdealAgent) (judge : Judge) (e : TimedEntry EventBody) (k : ℕ) (h : IsJudging i (after_event j e) judge) → admission j e.time e.key ≡ Some reasons.Seen
+    → is_seen (verdict_of same_texts i.config.event_buffer k h.entered judge.clock judge.minimum e.time e.key) ≡ entered_since (length i.events.history) j e
+took_is i j judge e k h is =
+    let n : ℕ = i.config.event_buffer in
+    let t : ℕ = e.time in
+    let after = after-reason j t e.key reasons.Seen is in
+    let clock : observed j.events.clock t ≡ judge.clock = sym (ap (λ (x : IdealAgent). x.events.clock) after) ∙ h.clock_is in
+    let least : j.events.minimum ≡ judge.minimum = sym (ap (λ (x : IdealAgent). x.events.minimum) after) ∙ h.minimum_is in
+    let size : j.config.event_buffer ≡ n = ap (λ (c : Config). c.event_buffer) (sym (same-config j e) ∙ h.config_same) in
+    let tests = seen-chain (nat_lt 9216 (texts_len e.key)) (nat_lt t j.events.minimum) (nat_lt (t + j.config.event_buffer) (observed j.events.clock t)) (was_ever_entered same_texts j.events.history t e.key) (nat_le j.config.per_time (count_at (of_life j.life j.events.history) t)) is in
+    seen-verdict (nat_lt t judge.minimum) (nat_lt (t + n) judge.clock) (was_entered same_texts h.entered t e.key) (nat_le k (count_at h.entered t)) (ap (λ m. nat_lt t m) (sym least) ∙ tests.0) ((λ q. nat_lt (t + sym size q) (sym clock q)) ∙ tests.1)
+    ∙ entered-are i j judge e h is
+
+pub took-late : (i j : IdealAgent) (judge : Judge) (e : TimedEntry EventBody) → IsJudging i (after_event j e) judge → admission j e.time e.key ≡ Some reasons.Seen → e.time < judge.clock
+took-late i j judge e h is =
+    let clock : observed j.events.clock e.time ≡ judge.clock = sym (ap (λ (x : IdealAgent). x.events.clock) (after-reason j e.time e.key reasons.Seen is)) ∙ h.clock_is in
+    omega (arith, clock)

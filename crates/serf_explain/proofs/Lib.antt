@@ -1,10 +1,11 @@
 pub mod ReasonLaws
+pub mod MergeLaws
+pub mod MarkLaws
+pub mod LeftLaws
 pub mod CarriedLaws
 pub mod SlotLaws
 pub mod StandingLaws
-pub mod MergeLaws
 pub mod JudgeLaws
-pub mod SeenLaws
 pub mod NoteLaws
 pub mod TextLaws
 pub mod KnownLaws

@@ -8,14 +8,16 @@ use Rattle.serf_wire.specs.Decoded.{decoded}
 use Rattle.serf_wire.specs.Message.{Message, PushPull, push_pull}
 use Rattle.serf_wire.specs.declared.fault.WireFault.{WireFault}
 use Rattle.serf_agent.specs.Sound.{IsSound}
-use Rattle.serf_agent.specs.States.{events_of}
 use Rattle.serf_agent.specs.View.{ConcreteState, view_of}
+use Rattle.serf_model.specs.declared.action.Act.{Act}
 use Rattle.serf_model.specs.declared.action.Act.TheVariants as acts
+use Rattle.serf_model.specs.declared.action.Action.{Action}
 use Rattle.serf_model.specs.declared.action.Action.TheVariants as actions
+use Rattle.serf_model.specs.declared.line.Line.{Line}
 use Rattle.serf_model.specs.Cluster.{Cluster, IdealNode}
 use Rattle.serf_model.specs.Ready.{AreRepresentable, IsRepresentable}
 use Rattle.serf_world.specs.View.{IsViewed, NodeState, WorldState, agent_at, node_of}
-use Rattle.serf_explain.specs.Carried.{IsFound, heard}
+use Rattle.serf_explain.specs.Carried.{IsFound, Known, heard, known_of, placed_from}
 use Rattle.serf_explain.specs.Judging.{AddsMerge, AddsState, TellsText}
 
 mapped : (o : Option IdealNode) → option_map (λ s. s.concrete) (option_map node_of o) ≡ option_map (λ m. view_of m.agent) o
@@ -53,8 +55,11 @@ node-of c w a s h at = by (slice_get c.nodes a) refl
 
 -- ---- what is told
 
-module _ (n : ℕ) (c : Cluster) (agent packet : ℕ) (join : Bool) (m : IdealNode) (raised : Option ℕ) (bytes new : List ℕ) (at : slice_get c.nodes agent ≡ Some m) (sent : slice_get c.sent packet ≡ Some bytes) where
-  merges : (p : PushPull) → decoded bytes ≡ Ok (push_pull p) → AddsState n (events_of p.slots) m.agent (heard p join m.agent) raised [] new → TellsText n c (actions.Of agent (acts.Merge packet join)) raised new
+module _ (n : ℕ) (lines : List Line) (before : List Cluster) (c : Cluster) (agent packet : ℕ) (join : Bool) (m : IdealNode) (raised : Option ℕ) (bytes new : List ℕ) (at : slice_get c.nodes agent ≡ Some m) (sent : slice_get c.sent packet ≡ Some bytes) where
+  abbrev known : Known
+  known = known_of agent lines before m.agent
+
+  merges : (p : PushPull) → decoded bytes ≡ Ok (push_pull p) → AddsState known n (placed_from 0 p.slots) m.agent (heard p join m.agent) raised [] new → TellsText n lines before c (actions.Of agent (acts.Merge packet join)) raised new
   merges p is adds = record {
     carried = adds.lines.added;
     text_is = adds.lines.new_is;
@@ -62,11 +67,11 @@ module _ (n : ℕ) (c : Cluster) (agent packet : ℕ) (join : Bool) (m : IdealNo
         let one : m ≡ node = cc (sym at ∙ here) in
         let packets : bytes ≡ given = cc (sym sent ∙ there) in
         let same : p ≡ q = cc (sym is ∙ ap decoded packets ∙ reads) in
-        subst (λ (x : IdealNode). IsFound raised (events_of q.slots) x.agent (heard q join x.agent) adds.lines.added) one
-        (subst (λ (r : PushPull). IsFound raised (events_of r.slots) m.agent (heard r join m.agent) adds.lines.added) same (adds.raises, adds.lines.carried));
+        subst (λ (x : IdealNode). IsFound raised (known_of agent lines before x.agent) (placed_from 0 q.slots) x.agent (heard q join x.agent) adds.lines.added) one
+        (subst (λ (r : PushPull). IsFound raised known (placed_from 0 r.slots) m.agent (heard r join m.agent) adds.lines.added) same (adds.raises, adds.lines.carried));
   }
 
-  nothing : ((p : PushPull) → decoded bytes ≡ Ok (push_pull p) → ⊥) → new ≡ [] → TellsText n c (actions.Of agent (acts.Merge packet join)) raised new
+  nothing : ((p : PushPull) → decoded bytes ≡ Ok (push_pull p) → ⊥) → new ≡ [] → TellsText n lines before c (actions.Of agent (acts.Merge packet join)) raised new
   nothing other is = record {
     carried = [];
     text_is = is;
@@ -76,10 +81,16 @@ module _ (n : ℕ) (c : Cluster) (agent packet : ℕ) (join : Bool) (m : IdealNo
   }
 
   -- the packet says a state, or something else
-  pub tells-merge : AddsMerge n m.agent join (decoded bytes) raised [] new → TellsText n c (actions.Of agent (acts.Merge packet join)) raised new
+  pub tells-merge : AddsMerge known n m.agent join (decoded bytes) raised [] new → TellsText n lines before c (actions.Of agent (acts.Merge packet join)) raised new
   tells-merge h = by (decoded bytes) refl h
     where
-      by : (r : Result Message WireFault) → decoded bytes ≡ r → AddsMerge n m.agent join r raised [] new → TellsText n c (actions.Of agent (acts.Merge packet join)) raised new
+      by : (r : Result Message WireFault) → decoded bytes ≡ r → AddsMerge known n m.agent join r raised [] new → TellsText n lines before c (actions.Of agent (acts.Merge packet join)) raised new
       by (Ok (push_pull p)) is adds = merges p is adds
       by (Ok _) is none = nothing (λ p e. let other = sym is ∙ e in cc other) none
       by (Err _) is none = nothing (λ p e. let other = sym is ∙ e in cc other) none
+
+-- of an action that merges
+pub told_of : (n : ℕ) (lines : List Line) (before : List Cluster) (c : Cluster) (action : Action) (agent : ℕ) (act : Act) (packet : ℕ) (join : Bool) (raised : Option ℕ) (text : List ℕ) → action ≡ actions.Of agent act → act ≡ acts.Merge packet join
+    → TellsText n lines before c (actions.Of agent (acts.Merge packet join)) raised text → TellsText n lines before c action raised text
+told_of n lines before c action agent act packet join raised text is merge told =
+    subst (λ (a : Action). TellsText n lines before c a raised text) (sym is) (subst (λ (x : Act). TellsText n lines before c (actions.Of agent x) raised text) (sym merge) told)

@@ -12,7 +12,9 @@ use Rattle.std.specs.Prelude.{Contains, codes, decimal, slice_get, slice_index_o
 use Rattle.serf_wire.specs.declared.texts.EventBody.{EventBody}
 use Rattle.serf_window.specs.Texts.{event_of, same_texts}
 use Rattle.serf_window.specs.Window.{TimedEntry}
+use Rattle.serf_agent.specs.Ideal.{IdealAgent}
 use Rattle.serf_agent.specs.declared.config.Config.{Config}
+use Rattle.serf_agent.specs.declared.outcome.Reason.TheVariants.{Seen}
 use Rattle.serf_model.specs.declared.action.Action.{Action}
 use Rattle.serf_model.specs.declared.line.EventLine.{EventLine}
 use Rattle.serf_model.specs.declared.line.Line.{Line}
@@ -21,8 +23,11 @@ use Rattle.serf_model.specs.Tails.{keeps}
 use Rattle.serf_model.specs.Trace.{Turn, event_in, events_to}
 use Rattle.serf_world.specs.View.{IsViewed, NodeState, WorldState, node_of}
 use Rattle.serf_explain.specs.declared.hand_outs.HandOut.{HandOut}
-use Rattle.serf_explain.specs.HandOuts.{IsKnown, NamesNote, NamesSeen, NamesText, Note, NotedAt, OfNoted, is_note, name_at, name_stored, note_in, note_of, noted_words, notes_from, notes_in}
-use Rattle.serf_explain.specs.Seen.{HandsOut, IsHanded, IsSeen, IsTailed, OfSeen, hands_out, is_hand_out, name_in, name_or_empty, seen_words}
+use Rattle.serf_explain.specs.declared.history.History.{History}
+use Rattle.serf_explain.specs.HandOuts.{IsKnown, IsNamed, IsNoted, Note, NotedAt, handed_words, is_note, name_at, name_stored, note_in, note_of, notes_from, notes_in}
+use Rattle.serf_explain.specs.Carried.{IsSeenIn, Known, entered_since}
+use Rattle.serf_explain.specs.Explained.{OfIgnored}
+use Rattle.serf_explain.specs.Seen.{HandsOut, IsHanded, IsSeen, OfSeen, hands_out, is_hand_out, name_in, name_or_empty, seen_words, tailed_words}
 use Rattle.serf_explain.specs.Words.{event_words, quoted}
 
 -- one more line
@@ -94,11 +99,15 @@ module _ (a time : ℕ) (what : EventBody) where
   any-of n [] = refl
   any-of n (e ∷ es) = ap (λ b. is_hand_out a time what e || b) (any-of n es)
 
-  words-of : (name : List ℕ) (n k : ℕ) → n ≡ 1 + k → noted_words name time what n ≡ seen_words name time what k
-  unfolding noted_words seen_words
+  words-of : (name : List ℕ) (n k : ℕ) → n ≡ 1 + k → handed_words name time what (Some n) ≡ seen_words name time what k
+  unfolding handed_words seen_words
   words-of name n k is =
       let one : n ≡ k + 1 = omega (arith, is) in
       ap (λ m. quoted name ++ codes " was handed " ++ event_words time what ++ codes " at action " ++ decimal m) one
+
+  none-of : (name : List ℕ) → handed_words name time what None ≡ tailed_words name time what
+  unfolding handed_words
+  none-of name = refl
 
   any-lines : (n : ℕ) (lines : List Line) → list_any (is_note a time what) (notes_from n lines) ≡ list_any (hands_out a time what) lines
   any-lines n [] = refl
@@ -106,28 +115,31 @@ module _ (a time : ℕ) (what : EventBody) where
       list_any-append (is_note a time what) (map (note_of n) line.events) (notes_from (n + 1) lines)
       ∙ ap₂ (λ (x y : Bool). x || y) (any-of n line.events) (any-lines (n + 1) lines)
 
-  is-handed : (lines : List Line) (name reason : List ℕ) → NamesNote (notes_from 1 lines) name a time what reason → IsHanded lines name a time what reason
-  is-handed lines name reason h =
-      let found = line-of 1 lines h.noted.place h.noted.note h.noted.at h.noted.hands in
-      record { action = found.k; hand_out = found.hands; words = h.words ∙ words-of name h.number found.k (sym h.noted.action_is ∙ found.action_is) }
+  pub is-handed : (lines : List Line) (name : List ℕ) (n : ℕ) → NotedAt (notes_from 1 lines) n a time what → IsHanded lines name a time what (handed_words name time what (Some n))
+  is-handed lines name n h =
+      let found = line-of 1 lines h.place h.note h.at h.hands in
+      record { action = found.k; hand_out = found.hands; words = words-of name n found.k (sym h.action_is ∙ found.action_is) }
 
   -- what was not handed to an agent is known by its settings
-  is-tailed : (lines : List Line) (keeps_events : Bool) (name reason : List ℕ) → (list_any (is_note a time what) (notes_from 1 lines) ≡ true) ⊎ (keeps_events ≡ true)
-      → NamesText (notes_from 1 lines) name a time what reason → IsTailed lines keeps_events name a time what reason
-  is-tailed lines keeps_events name reason known h = record {
+  is-seen : (lines : List Line) (keeps_events : Bool) (name : List ℕ) (handed : Option ℕ) → (list_any (is_note a time what) (notes_from 1 lines) ≡ true) ⊎ (keeps_events ≡ true)
+      → IsNoted (notes_from 1 lines) a time what handed → IsSeen lines keeps_events name a time what (handed_words name time what handed)
+  is-seen lines keeps_events name (Some n) known h = inl (is-handed lines name n h.right)
+  is-seen lines keeps_events name None known h = inr record {
     kept = elim known [
-      | inl there ↦ (let both : true ≡ false = sym there ∙ h.none in absurd (cc both))
+      | inl there ↦ (let both : true ≡ false = sym there ∙ h.none refl in absurd (cc both))
       | inr kept ↦ kept
     ];
-    none = sym (any-lines 1 lines) ∙ h.none;
-    words = h.words;
+    none = sym (any-lines 1 lines) ∙ h.none refl;
+    words = none-of name;
   }
 
-  is-seen : (lines : List Line) (keeps_events : Bool) (name reason : List ℕ) → (list_any (is_note a time what) (notes_from 1 lines) ≡ true) ⊎ (keeps_events ≡ true)
-      → NamesSeen (notes_from 1 lines) name a time what reason → IsSeen lines keeps_events name a time what reason
-  is-seen lines keeps_events name reason known h = elim h [
-    | inl handed ↦ inl (is-handed lines name reason handed)
-    | inr text ↦ inr (is-tailed lines keeps_events name reason known text)
+  -- and of what was seen in a merge
+  pub is-seen-in : (k : Known) (i : IdealAgent) (number : ℕ) (handed : Option ℕ) → k.agent ≡ a → number ≡ length k.lines + 1 → IsNamed (notes_from 1 k.lines) number a time what (entered_since k.entered i (record { time = time; key = what })) handed
+      → IsSeenIn k i (record { time = time; key = what }) (handed_words i.config.name time what handed)
+  is-seen-in k i number None mine count h = inr (inr (h.none refl, none-of i.config.name))
+  is-seen-in k i number (Some n) mine count h = elim h.right [
+    | inl noted ↦ inl (subst (λ (b : ℕ). IsHanded k.lines i.config.name b time what (handed_words i.config.name time what (Some n))) (sym mine) (is-handed k.lines i.config.name n noted))
+    | inr now ↦ inr (inl (now.1, words-of i.config.name n (length k.lines) (let is = now.0 in omega (arith, is, count))))
   ]
 
   -- what an agent was handed is among the notes
@@ -188,9 +200,12 @@ names-same c w a h =
     ∙ name-same (slice_get c.nodes a)
 
 -- what names an event that was handed out names a line
-pub of-seen : (configs : List Config) (lines : List Line) (c : Cluster) (w : WorldState) (action : Action) (reasons : List (List ℕ)) → IsViewed c w
-    → IsKnown configs (notes_from 1 lines) w.sent action → OfNoted (notes_from 1 lines) w action reasons → OfSeen configs lines w.sent c action reasons
-of-seen configs lines c w action reasons view known h = λ a e is.
+pub of-seen : (configs : List Config) (lines : List Line) (past : History) (n : ℕ) (c : Cluster) (w : WorldState) (action : Action) (reasons : List (List ℕ)) → IsViewed c w → notes_in past.hand_outs.outs.items ≡ notes_from 1 lines
+    → IsKnown configs (notes_from 1 lines) w.sent action → OfIgnored Seen past n w action reasons → OfSeen configs lines w.sent c action reasons
+of-seen configs lines past n c w action reasons view notes known h = λ a e is.
     let k = h a e is in
-    let named = subst (λ (name : List ℕ). NamesSeen (notes_from 1 lines) name a e.time e.key k.0) (names-same c w a view) k.2 in
-    (k.0, k.1, is-seen a e.time e.key lines (keeps (slice_get configs a)) (name_in c a) k.0 (known a e is) named)
+    let named = k.2.seen refl in
+    let noted = subst (λ (ns : List Note). IsNoted ns a e.time e.key named.0) notes named.1 in
+    let says = is-seen a e.time e.key lines (keeps (slice_get configs a)) (name_in c a) named.0 (known a e is) noted in
+    let words : handed_words (name_in c a) e.time e.key named.0 ≡ k.0 = ap (λ (name : List ℕ). handed_words name e.time e.key named.0) (sym (names-same c w a view)) ∙ sym named.2 in
+    (k.0, k.1, subst (λ (t : List ℕ). IsSeen lines (keeps (slice_get configs a)) (name_in c a) a e.time e.key t) words says)

@@ -1,15 +1,20 @@
 -- A text that grows by reasons.
-use Rattle.std.proofs.Common.{◌≡◌, ℕ, ◌<◌, List, [], ◌∷◌, ◌++◌, Option, refl, sym, ap, ◌∙◌, append_assoc, length, arith}
+use Rattle.std.proofs.Common.{◌≡◌, ℕ, ◌<◌, List, [], ◌∷◌, ◌++◌, Option, Some, Result, Ok, Err, OnOk, codes, decimal, refl, sym, ap, ◌∙◌, append_assoc, length, arith}
 use Rattle.std.specs.List.{flat_map}
 use Rattle.std.proofs.lemmas.List.{append-nil}
 use Rattle.serf_explain.specs.Because.{AddsReasons, AddsSome, because_line}
-use Rattle.serf_explain.specs.Carried.{raised_reasons}
+use Rattle.serf_explain.specs.Carried.{raised_reasons, raised_words}
 
 pub lines-append : (n : ℕ) (xs ys : List (List ℕ)) → flat_map (because_line n) (xs ++ ys) ≡ flat_map (because_line n) xs ++ flat_map (because_line n) ys
 lines-append n [] ys = refl
 lines-append n (x ∷ xs) ys =
     ap (λ t. because_line n x ++ t) (lines-append n xs ys)
     ∙ sym (append_assoc (because_line n x) (flat_map (because_line n) xs) (flat_map (because_line n) ys))
+
+-- what holds anyhow holds of a call that ended well
+pub on_ok_any : {R E P : Type 0} (r : Result R E) → P → OnOk r P
+on_ok_any (Ok x) p = p
+on_ok_any (Err e) p = tt
 
 pub adds-none : (n : ℕ) (text : List ℕ) → AddsReasons n text text
 adds-none n text = record { reasons = []; added = sym (append-nil text) }
@@ -47,3 +52,12 @@ adds-behind n a b c h k = by h.reasons h.added
 -- what is told of a least time, and reasons behind it
 pub adds_raised : (n : ℕ) (raised : Option ℕ) (a b c : List ℕ) → b ≡ a ++ flat_map (because_line n) (raised_reasons raised) → AddsSome n b c → AddsSome n a c
 adds_raised n raised a b c is some = adds-behind n a b c (record { reasons = raised_reasons raised; added = is }) some
+
+-- the line of a least time was added
+pub raised_is : (n least : ℕ) (none reason said old new : List ℕ) → none ≡ [] → reason ≡ none ++ codes "the join ignores old events: the least time rises to " ++ decimal least → said ≡ reason → new ≡ old ++ because_line n said
+    → new ≡ old ++ flat_map (because_line n) (raised_reasons (Some least))
+unfolding raised_words
+raised_is n least none reason said old new empty made same is =
+    let words : List ℕ = codes "the join ignores old events: the least time rises to " ++ decimal least in
+    let own : said ≡ words = same ∙ made ∙ ap (λ (t : List ℕ). t ++ codes "the join ignores old events: the least time rises to " ++ decimal least) empty in
+    is ∙ ap (λ (t : List ℕ). old ++ because_line n t) own ∙ ap (λ (t : List ℕ). old ++ t) (sym (append-nil (because_line n words)))

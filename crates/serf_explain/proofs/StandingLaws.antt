@@ -1,4 +1,4 @@
--- The lines of an event that was seen, and of a least time, whose bytes all stand as they are.
+-- The line of an event that was seen, whose bytes all stand as they are.
 use Rattle.std.proofs.Common.{◌≡◌, ℕ, ◌+◌, ◌%◌, ◌^◌, ◌<◌, ◌++◌, List, [], ◌∷◌, Some, codes, decimal, length, nat_le, true, refl, sym, ap, subst, ◌∙◌, append_assoc, arith}
 use Rattle.std.specs.List.{list_all}
 use Rattle.std.proofs.lemmas.Bool.Decides.{nat_tests}
@@ -8,8 +8,9 @@ use Rattle.serf_window.specs.Texts.{event_of}
 use Rattle.serf_wire.specs.declared.texts.EventBody.{EventBody}
 use Rattle.serf_agent.specs.declared.outcome.Reason.TheVariants.{Seen}
 use Rattle.serf_explain.specs.Because.{because_line, is_printable}
-use Rattle.serf_explain.specs.Carried.{carried_words, raised_words, slot_words}
-use Rattle.serf_explain.specs.Judging.{AddsCarried, seen_behind, seen_front}
+use Rattle.serf_explain.specs.Carried.{carried_words, slot_words}
+use Rattle.serf_explain.specs.HandOuts.{handed_words}
+use Rattle.serf_explain.specs.Judging.{seen_behind, seen_front}
 use Rattle.serf_explain.specs.Words.{event_words, is_plain, quoted, standing_texts, stands, whole_quoted}
 use Rattle.serf_explain.proofs.TextLaws.{and-left, and-right, plain-is_printable, plain-text, printable-text}
 
@@ -88,39 +89,22 @@ unfolding carried_words slot_words seen_front seen_behind
 line-parts n slot time action what named =
     line-law (decimal n) (codes " because ") (codes "slot ") (decimal slot) (codes " brings ") (event_words time what) (codes ": ") (codes "seen: ") named (codes " at action ") (decimal action) (codes "\n")
 
+handed-is : (agent : List ℕ) (time action : ℕ) (what : EventBody) → seen_detail (quoted agent ++ codes " was handed ") (event_words time what) action ≡ handed_words agent time what (Some action)
+unfolding handed_words
+handed-is agent time action what = refl
+
 -- a text grew by both halves of such a line
-pub adds-standing : (n slot time action : ℕ) (name payload front named words old mid new : List ℕ) → slot < 2 ^ 64 → time < 2 ^ 64 → action < 2 ^ 64 → stands name ≡ true → stands payload ≡ true
-    → front ≡ decimal n ++ codes " because slot " → list_all is_printable named ≡ true → words ≡ event_words time (event_of name payload)
-    → mid ≡ old ++ seen_front front slot words → new ≡ mid ++ seen_behind named words action → AddsCarried n slot time (event_of name payload) (Some Seen) old new
-adds-standing n slot time action name payload front named words old mid new slot_fits time_fits action_fits h k front_is named_is words_are one two =
+pub adds-standing : (n slot time action : ℕ) (agent name payload front named words old mid new : List ℕ) → slot < 2 ^ 64 → time < 2 ^ 64 → action < 2 ^ 64 → stands agent ≡ true → stands name ≡ true → stands payload ≡ true
+    → front ≡ decimal n ++ codes " because slot " → named ≡ quoted agent ++ codes " was handed " → words ≡ event_words time (event_of name payload)
+    → mid ≡ old ++ seen_front front slot words → new ≡ mid ++ seen_behind named words action → new ≡ old ++ because_line n (carried_words slot time (event_of name payload) (Some Seen) (handed_words agent time (event_of name payload) (Some action)))
+adds-standing n slot time action agent name payload front named words old mid new slot_fits time_fits action_fits plain h k front_is named_is words_are one two =
     let what : EventBody = event_of name payload in
-    let detail : List ℕ = seen_detail named (event_words time what) action in
-    let line = line-said n (carried_words slot time what (Some Seen) detail) (reason-printable slot time action what named slot_fits action_fits named_is (words-printable time name payload time_fits h k)) in
-    record {
-      detail = detail;
-      added = two
-          ∙ ap (λ (t : List ℕ). t ++ seen_behind named words action) one
-          ∙ append_assoc old (seen_front front slot words) (seen_behind named words action)
-          ∙ (λ q. old ++ (seen_front (front_is q) slot (words_are q) ++ seen_behind named (words_are q) action))
-          ∙ ap (λ (t : List ℕ). old ++ t) (line-parts n slot time action what named ∙ sym line);
-    }
-
--- ---- the line of a least time
-
-raised-printable : (least : ℕ) → least < 2 ^ 64 → printable (raised_words least)
-unfolding raised_words
-raised-printable least fits = both (codes "the join ignores old events: the least time rises to ") (decimal least) refl (number least fits)
-
-least-law : (o n b w d e : List ℕ) → o ++ n ++ b ++ w ++ d ++ e ≡ o ++ (n ++ b ++ (w ++ d) ++ e)
-least-law o n b w d e = simp append_assoc
-
--- a text grew by the parts of the line of a least time, one after another
-pub adds-least : (n least : ℕ) (a one two three new : List ℕ) → least < 2 ^ 64 → one ≡ a ++ decimal n → two ≡ one ++ codes " because "
-    → three ≡ two ++ codes "the join ignores old events: the least time rises to " ++ decimal least → new ≡ three ++ codes "\n" → new ≡ a ++ because_line n (raised_words least)
-unfolding raised_words
-adds-least n least a one two three new fits first second third last =
-    let words : List ℕ = codes "the join ignores old events: the least time rises to " in
-    last
-    ∙ ap (λ (t : List ℕ). t ++ codes "\n") (third ∙ ap (λ (t : List ℕ). t ++ words ++ decimal least) (second ∙ ap (λ (t : List ℕ). t ++ codes " because ") first))
-    ∙ least-law a (decimal n) (codes " because ") words (decimal least) (codes "\n")
-    ∙ ap (λ (t : List ℕ). a ++ t) (sym (line-said n (raised_words least) (raised-printable least fits)))
+    let said : List ℕ = quoted agent ++ codes " was handed " in
+    let detail : List ℕ = seen_detail said (event_words time what) action in
+    let line = line-said n (carried_words slot time what (Some Seen) detail) (reason-printable slot time action what said slot_fits action_fits (both (quoted agent) (codes " was handed ") (quoted-printable agent plain) refl) (words-printable time name payload time_fits h k)) in
+    two
+    ∙ ap (λ (t : List ℕ). t ++ seen_behind named words action) one
+    ∙ append_assoc old (seen_front front slot words) (seen_behind named words action)
+    ∙ (λ q. old ++ (seen_front (front_is q) slot (words_are q) ++ seen_behind (named_is q) (words_are q) action))
+    ∙ ap (λ (t : List ℕ). old ++ t) (line-parts n slot time action what said ∙ sym line)
+    ∙ ap (λ (d : List ℕ). old ++ because_line n (carried_words slot time what (Some Seen) d)) (handed-is agent time action what)

@@ -1,11 +1,10 @@
 -- The text of a run's turns with their reasons, as one action after another is done.
-use Rattle.std.proofs.Common.{◌≡◌, ℕ, ◌+◌, List, [], ◌∷◌, ◌++◌, Bool, Option, Some, None, true, false, refl, subst, sym, ap, ◌∙◌, length, length-append, append_assoc, arith}
-use Rattle.std.specs.Prelude.{slice_get, map, if◌then◌else◌}
+use Rattle.std.proofs.Common.{◌≡◌, ℕ, suc, ◌+◌, List, [], ◌∷◌, ◌++◌, Bool, Option, Some, None, Result, Ok, Err, true, false, refl, subst, sym, ap, ◌∙◌, length, length-append, append_assoc, arith}
+use Rattle.std.specs.Prelude.{OnOk, codes, slice_get, map, if◌then◌else◌}
 use Rattle.std.specs.List.{flat_map, fold}
 use Rattle.std.proofs.lemmas.List.Sums.{fold-append}
 use Rattle.std.specs.Option.{option_map}
 use Rattle.std.proofs.lemmas.List.{append-nil, length-map, map-append}
-use Rattle.std.proofs.lemmas.List.Elements.{All-nil, All-push}
 use Rattle.serf_model.specs.declared.action.Act.TheVariants as acts
 use Rattle.serf_model.specs.declared.action.Action.{Action}
 use Rattle.serf_model.specs.declared.line.Line.{Line}
@@ -16,18 +15,27 @@ use Rattle.serf_world.specs.View.{IsViewed, TakesStep, WorldState}
 use Rattle.serf_schedule.specs.Show.{action_text}
 use Rattle.serf_explain.specs.declared.range.Range.{Range}
 use Rattle.serf_explain.specs.Range.{is_shown}
-use Rattle.serf_agent.specs.States.{events_of}
+use Rattle.serf_agent.specs.declared.outcome.Reason.{Reason}
+use Rattle.serf_agent.specs.declared.outcome.Reason.TheVariants.{Seen}
+use Rattle.serf_model.specs.Tails.{keeps}
 use Rattle.serf_model.specs.declared.action.Action.TheVariants as actions
+use Rattle.serf_model.specs.declared.line.Answer.TheVariants as answers
+use Rattle.serf_explain.specs.declared.history.History.{History}
+use Rattle.serf_explain.specs.declared.marks.AllMarks.{AllMarks}
 use Rattle.serf_explain.specs.Because.{AddsSuch, because_line}
-use Rattle.serf_explain.specs.Carried.{AreMerged, OfMerge, TellsMerge, TellsMerged, heard}
-use Rattle.serf_explain.specs.Seen.{event_delivered, event_given}
-use Rattle.serf_explain.specs.HandOuts.{IsKnown, KnowsSeen, Note, OfNoted, note_of, notes_from}
+use Rattle.serf_explain.specs.Carried.{AreMerged, OfMerge, TellsMerge, TellsMerged, heard, known_of, placed_from}
+use Rattle.serf_explain.specs.Left.{IsEventLeft, events_least, first_words, is_left, numbers_in}
+use Rattle.serf_explain.specs.Leaving.{HoldMarks}
+use Rattle.serf_explain.specs.Seen.{IsSeen, OfLeftEvent, OfSeen, event_delivered, event_given, name_in}
+use Rattle.serf_explain.specs.Words.{event_words}
+use Rattle.serf_explain.specs.HandOuts.{IsKnown, KnowsSeen, Note, note_of, notes_from, notes_in}
+use Rattle.serf_explain.proofs.LeftLaws.{of-left}
 use Rattle.serf_explain.proofs.KnownLaws.{still-sent, turn-action}
 use Rattle.serf_explain.proofs.NoteLaws.{lines-push, of-seen}
 use Rattle.serf_wire.specs.declared.texts.EventBody.{EventBody}
 use Rattle.serf_window.specs.Window.{TimedEntry}
 use Rattle.serf_explain.proofs.CarriedLaws.{some-merged, told-merged, whole_of}
-use Rattle.serf_explain.specs.Explained.{AddsTurn, Explained, HasTold, IsReasoned, IsTold, NameHandOuts, NamesHandOut, TellsAll, TellsRun, cluster_behind, clusters_before, clusters_from, lines_text, turn_text, turns_text}
+use Rattle.serf_explain.specs.Explained.{AddsTurn, AreReasoned, Explained, HasTold, IsReasoned, IsTold, TellsAll, TellsRun, cluster_behind, clusters_before, clusters_from, clusters_to, lines_text, lines_told, shows, turn_text, turns_text}
 
 turns-push : (range : Range) (sent : List (List ℕ)) (n : ℕ) (es : List Explained) (e : Explained)
     → turns_text range sent n (es ++ e ∷ []) ≡ turns_text range sent n es ++ turn_text range sent (n + length es) e.turn.action e.turn.line e.reasons
@@ -41,9 +49,9 @@ turns-push range sent n (x ∷ xs) e =
     ∙ sym (append_assoc (turn_text range sent n x.turn.action x.turn.line x.reasons) (turns_text range sent (n + 1) xs) (turn_text range sent (n + length (x ∷ xs)) e.turn.action e.turn.line e.reasons))
 
 -- an action's reasons are those of what it merges
-of-merge : (c : Cluster) (action : Action) (raised : Option ℕ) (carried reasons : List (List ℕ)) → TellsMerge c action raised carried → TellsMerged raised carried reasons → OfMerge AreMerged c action reasons
-of-merge c (actions.Of agent (acts.Merge packet join)) raised carried reasons h tells = λ m bytes p at sent spells. tells (events_of p.slots) m.agent (heard p join m.agent) (h m bytes p at sent spells)
-of-merge c _ raised carried reasons h tells = tt
+of-merge : (lines : List Line) (before : List Cluster) (c : Cluster) (action : Action) (raised : Option ℕ) (carried reasons : List (List ℕ)) → TellsMerge lines before c action raised carried → TellsMerged raised carried reasons → OfMerge AreMerged lines before c action reasons
+of-merge lines before c (actions.Of agent (acts.Merge packet join)) raised carried reasons h tells = λ m bytes p at sent spells. tells (known_of agent lines before m.agent) (placed_from 0 p.slots) m.agent (heard p join m.agent) (h m bytes p at sent spells)
+of-merge lines before c _ raised carried reasons h tells = tt
 
 -- what was delivered stays it
 still-delivered : (sent more : List (List ℕ)) (action : Action) (a : ℕ) (e : TimedEntry EventBody) → event_delivered sent action ≡ Some (a, e) → event_delivered (sent ++ more) action ≡ Some (a, e)
@@ -57,50 +65,57 @@ still-delivered sent more (actions.Of agent (acts.Deliver packet now)) a e h = b
     by (Some bytes) is k = ap (λ (o : Option (List ℕ)). option_map pair (event_given o)) (still-sent sent more packet bytes is) ∙ k
 still-delivered sent more _ a e h = h
 
--- one more turn that names what it has to
-names-push : (configs : List Config) (range : Range) (lines : List Line) (es : List Explained) (e : Explained) → NameHandOuts configs range lines es → NamesHandOut configs range (lines ++ map (λ (x : Explained). x.turn.line) es) e
-    → NameHandOuts configs range lines (es ++ e ∷ [])
-names-push configs range lines [] e h k = (subst (λ (ls : List Line). NamesHandOut configs range ls e) (append-nil lines) k, tt)
-names-push configs range lines (x ∷ xs) e h k =
-    (h.0, names-push configs range (lines ++ x.turn.line ∷ []) xs e h.1 (subst (λ (ls : List Line). NamesHandOut configs range ls e) (sym (append_assoc lines (x.turn.line ∷ []) (map (λ (y : Explained). y.turn.line) xs))) k))
+-- one more turn whose reasons say what they have to
+reasoned-push : (configs : List Config) (range : Range) (done es : List Explained) (e : Explained) → AreReasoned configs range done es → IsReasoned configs range (done ++ es) e → AreReasoned configs range done (es ++ e ∷ [])
+reasoned-push configs range done [] e h k = (subst (λ (ds : List Explained). IsReasoned configs range ds e) (append-nil done) k, tt)
+reasoned-push configs range done (x ∷ xs) e h k =
+    (h.0, reasoned-push configs range (done ++ x ∷ []) xs e h.1 (subst (λ (ds : List Explained). IsReasoned configs range ds e) (sym (append_assoc done (x ∷ []) xs)) k))
 
-lines-of : (es : List Explained) → map (λ (t : Turn). t.line) (map (λ (e : Explained). e.turn) es) ≡ map (λ (e : Explained). e.turn.line) es
+lines-of : (es : List Explained) → map (λ (t : Turn). t.line) (map (λ (e : Explained). e.turn) es) ≡ lines_told es
 lines-of [] = refl
 lines-of (e ∷ es) = ap (λ (ls : List Line). e.turn.line ∷ ls) (lines-of es)
 
 -- one more turn
-pub told-after : (configs : List Config) (range : Range) (r : Run) (clusters : List Cluster) (action : Action) (new : WorldState) (line : Line) (raised : Option ℕ) (carried : List (List ℕ)) (past noted : List Note) (text added : List ℕ) (n : ℕ)
+pub told-after : (configs : List Config) (range : Range) (r : Run) (clusters : List Cluster) (action : Action) (new : WorldState) (line : Line) (raised : Option ℕ) (carried : List (List ℕ)) (past : History) (noted : List Note) (text added : List ℕ) (n : ℕ)
     → ((step r.cluster action).cluster.sent ≡ r.cluster.sent ++ (step r.cluster action).turn.packets)
     → ((more : List (List ℕ)) → action_text ((step r.cluster action).cluster.sent ++ more) n (step r.cluster action).turn.line ≡ action_text (step r.cluster action).cluster.sent n (step r.cluster action).turn.line)
-    → IsTold configs range r clusters past text → n ≡ length r.turns + 1 → TellsMerge r.cluster action raised carried → TakesStep (step r.cluster action) new line → KnowsSeen configs past new.sent action line
-    → AddsTurn (TellsAll (is_shown range n (actor_of action)) raised carried past new action line) (is_shown range n (actor_of action)) new.sent n line text added
-    → noted ≡ past ++ map (note_of n) line.events
+    → IsTold configs range r clusters (notes_in past.hand_outs.outs.items) text → HoldMarks clusters r.cluster past.marks → n ≡ length r.turns + 1 → TellsMerge (map (λ (t : Turn). t.line) r.turns) (clusters ++ r.cluster ∷ []) r.cluster action raised carried → TakesStep (step r.cluster action) new line
+    → KnowsSeen configs (notes_in past.hand_outs.outs.items) new.sent action line
+    → AddsTurn (TellsAll (is_shown range n (actor_of action)) raised carried past n new action line) (is_shown range n (actor_of action)) new.sent n line text added
+    → noted ≡ notes_in past.hand_outs.outs.items ++ map (note_of n) line.events
     → IsTold configs range (after r action) (clusters ++ r.cluster ∷ []) noted added
-told-after configs range r clusters action new line raised carried past noted text added n sends stays h count told takes known adds grows =
+told-after configs range r clusters action new line raised carried past noted text added n sends stays h hold count told takes known adds grows =
     let turn : Turn = (step r.cluster action).turn in
+    let notes : List Note = notes_in past.hand_outs.outs.items in
     let sent : List (List ℕ) = (step r.cluster action).cluster.sent in
     let one : Explained = record { before = r.cluster; turn = turn; reasons = adds.reasons } in
     let many : length h.explained ≡ length r.turns = sym (length-map h.explained (λ (e : Explained). e.turn)) ∙ ap (λ (ts : List Turn). length ts) h.whole.turns_are in
-    let reasoned : IsReasoned r.cluster turn.action turn.line adds.reasons = record {
-      some = adds.some;
-      merged = λ answers. subst (λ (a : Action). OfMerge AreMerged r.cluster a adds.reasons) (sym (turn-action r.cluster action))
-          (of-merge r.cluster action raised carried adds.reasons told (adds.such.merged (ap (λ (l : Line). l.answer) takes.line_is ∙ answers)));
-    } in
+    let acts : turn.action ≡ action = turn-action r.cluster action in
+    let says : line.answer ≡ turn.line.answer = ap (λ (l : Line). l.answer) takes.line_is in
     let lines : List Line = map (λ (t : Turn). t.line) r.turns in
-    let before : map (λ (e : Explained). e.turn.line) h.explained ≡ lines =
-    sym (lines-of h.explained) ∙ ap (λ (ts : List Turn). map (λ (t : Turn). t.line) ts) h.whole.turns_are in
-    let behind : length lines + 1 ≡ n = omega (arith, length-map r.turns (λ (t : Turn). t.line), count) in
-    let number : n ≡ 1 + length lines = omega (arith, behind) in
-    let viewed : IsViewed (cluster_behind one) new = subst (λ (b : Action). IsViewed (step r.cluster b).cluster new) (sym (turn-action r.cluster action)) takes.view in
-    let names : NamesHandOut configs range lines one = λ shown answers.
-    let says = ap (λ (l : Line). l.answer) takes.line_is ∙ answers in
-    let noted : OfNoted past new action adds.reasons = adds.such.seen (ap (λ m. is_shown range m (actor_of action)) (sym behind) ∙ ap (λ (b : Action). is_shown range (length lines + 1) (actor_of b)) (sym (turn-action r.cluster action)) ∙ shown)
-    says in
-    λ a e is.
-    of-seen configs lines (cluster_behind one) new action adds.reasons viewed (subst (λ (ns : List Note). IsKnown configs ns new.sent action) h.notes_are (known says)) (subst (λ (ns : List Note). OfNoted ns new action adds.reasons) h.notes_are noted) a e
-    (ap (λ s. event_delivered s action) (sym takes.view.sent ∙ sends)
-    ∙ still-delivered r.cluster.sent turn.packets action a e (ap (λ (b : Action). event_delivered r.cluster.sent b) (sym (turn-action r.cluster action)) ∙ is)) in
+    let before : lines_told h.explained ≡ lines = sym (lines-of h.explained) ∙ ap (λ (ts : List Turn). map (λ (t : Turn). t.line) ts) h.whole.turns_are in
+    let number : n ≡ 1 + length lines = omega (arith, length-map r.turns (λ (t : Turn). t.line), count) in
     let place : 1 + length h.explained ≡ n = omega (arith, many, count) in
+    let behind : length h.explained + 1 ≡ n = omega (arith, place) in
+    let earlier : n ≡ length clusters + 1 = omega (arith, place, sym (length-map h.explained (λ (e : Explained). e.before)) ∙ ap (λ (cs : List Cluster). length cs) h.whole.clusters_are) in
+    let viewed : IsViewed (cluster_behind one) new = subst (λ (b : Action). IsViewed (step r.cluster b).cluster new) (sym acts) takes.view in
+    let shown : shows range h.explained one ≡ true → is_shown range n (actor_of action) ≡ true =
+    λ is. ap (λ m. is_shown range m (actor_of action)) (sym behind) ∙ ap (λ (b : Action). is_shown range (length h.explained + 1) (actor_of b)) (sym acts) ∙ is in
+    let delivered : (a : ℕ) (e : TimedEntry EventBody) → event_delivered r.cluster.sent turn.action ≡ Some (a, e) → event_delivered new.sent action ≡ Some (a, e) =
+    λ a e is. ap (λ s. event_delivered s action) (sym takes.view.sent ∙ sends) ∙ still-delivered r.cluster.sent turn.packets action a e (ap (λ (b : Action). event_delivered r.cluster.sent b) (sym acts) ∙ is) in
+    let clusters-are : clusters_to h.explained one ≡ clusters ++ r.cluster ∷ [] = ap (λ (cs : List Cluster). cs ++ r.cluster ∷ []) h.whole.clusters_are in
+    let merged : turn.line.answer ≡ answers.Merged → OfMerge AreMerged (lines_told h.explained) (clusters_to h.explained one) r.cluster turn.action adds.reasons =
+    λ is. subst (λ (ls : List Line). OfMerge AreMerged ls (clusters_to h.explained one) r.cluster turn.action adds.reasons) (sym before) (subst (λ (cs : List Cluster). OfMerge AreMerged lines cs r.cluster turn.action adds.reasons) (sym clusters-are) (subst (λ (a : Action). OfMerge AreMerged lines (clusters ++ r.cluster ∷ []) r.cluster a adds.reasons) (sym acts)
+    (of-merge lines (clusters ++ r.cluster ∷ []) r.cluster action raised carried adds.reasons told (adds.such.merged (says ∙ is))))) in
+    let seen : shows range h.explained one ≡ true → turn.line.answer ≡ answers.Ignored Seen → OfSeen configs (lines_told h.explained) r.cluster.sent (cluster_behind one) turn.action adds.reasons =
+    λ some is a e to.
+    subst (λ (ls : List Line). (reason : List ℕ) × (adds.reasons ≡ reason ∷ []) × IsSeen ls (keeps (slice_get configs a)) (name_in (cluster_behind one) a) a e.time e.key reason) (sym before)
+    (of-seen configs lines past n (cluster_behind one) new action adds.reasons viewed h.notes_are (subst (λ (ns : List Note). IsKnown configs ns new.sent action) h.notes_are (known (says ∙ is)))
+    (adds.such.ignored Seen (shown some) (says ∙ is)) a e (delivered a e to)) in
+    let left : (k : Reason) → shows range h.explained one ≡ true → turn.line.answer ≡ answers.Ignored k → is_left k ≡ true → OfLeftEvent k (clusters_to h.explained one) r.cluster.sent (cluster_behind one) turn.action adds.reasons =
+    λ k is-shown is some a e m to at.
+    subst (λ (cs : List Cluster). (detail : List ℕ) × (adds.reasons ≡ (event_words e.time e.key ++ codes ": " ++ first_words k ++ detail) ∷ []) × IsEventLeft m.agent (numbers_in events_least a cs) e.time e.key k detail) (sym clusters-are)
+    (of-left k past n clusters r.cluster (cluster_behind one) new action adds.reasons hold earlier viewed some (adds.such.ignored k (shown is-shown) (says ∙ is)) a e m (delivered a e to) at) in
     record {
       notes_are = grows
           ∙ ap (λ (ns : List Note). ns ++ map (note_of n) line.events) h.notes_are
@@ -112,8 +127,7 @@ told-after configs range r clusters action new line raised carried past noted te
       whole = record {
         turns_are = map-append (λ (e : Explained). e.turn) h.explained (one ∷ []) ∙ ap (λ ts. ts ++ turn ∷ []) h.whole.turns_are;
         clusters_are = map-append (λ (e : Explained). e.before) h.explained (one ∷ []) ∙ ap (λ cs. cs ++ r.cluster ∷ []) h.whole.clusters_are;
-        reasons = All-push (λ (e : Explained). IsReasoned e.before e.turn.action e.turn.line e.reasons) h.explained one h.whole.reasons reasoned;
-        seen = names-push configs range [] h.explained one h.whole.seen (subst (λ (ls : List Line). NamesHandOut configs range ls one) (sym before) names);
+        reasons = reasoned-push configs range [] h.explained one h.whole.reasons (record { some = adds.some; merged = merged; seen = seen; left = left });
       };
       told = λ more.
           turns-push range (sent ++ more) 1 h.explained one
@@ -123,7 +137,7 @@ told-after configs range r clusters action new line raised carried past noted te
           ∙ ap (λ t. text ++ t)
           (ap (λ m. turn_text range (sent ++ more) m turn.action turn.line adds.reasons) place
           ∙ ap (λ t. if is_shown range n (actor_of turn.action) then t ++ flat_map (because_line n) adds.reasons else []) (stays more)
-          ∙ ap (λ a. turn_text range sent n a turn.line adds.reasons) (turn-action r.cluster action)
+          ∙ ap (λ a. turn_text range sent n a turn.line adds.reasons) acts
           ∙ ap (λ s. turn_text range s n action turn.line adds.reasons) takes.view.sent
           ∙ ap (λ l. turn_text range new.sent n action l adds.reasons) (sym takes.line_is))
           ∙ sym adds.added;
@@ -139,11 +153,11 @@ lines-added P sent n line a b d is h = record {
 }
 
 -- an action that isn't shown
-pub nothing-added : (raised : Option ℕ) (carried : List (List ℕ)) (past : List Note) (w : WorldState) (action : Action) (n : ℕ) (line : Line) (a : List ℕ) → AddsTurn (TellsAll false raised carried past w action line) false w.sent n line a a
+pub nothing-added : (raised : Option ℕ) (carried : List (List ℕ)) (past : History) (w : WorldState) (action : Action) (n : ℕ) (line : Line) (a : List ℕ) → AddsTurn (TellsAll false raised carried past n w action line) false w.sent n line a a
 nothing-added raised carried past w action n line a = record {
   reasons = whole_of raised carried;
   some = some-merged raised carried;
-  such = record { merged = λ answers. told-merged raised carried; seen = λ shown. absurd (cc (shown)) };
+  such = record { merged = λ answers. told-merged raised carried; ignored = λ r shown. absurd (cc (shown)) };
   added = sym (append-nil a);
 }
 
@@ -173,6 +187,29 @@ told-next range configs done action past text h =
     subst (λ (r : Run). IsTold configs range r (clusters_before configs (done ++ action ∷ [])) past text) (sym (run-push configs done action))
     (subst (λ (cs : List Cluster). IsTold configs range (after (run_of configs done) action) cs past text) (sym (clusters-from (start configs) done action)) h)
 
+pub hold-next : (configs : List Config) (done : List Action) (action : Action) (marks : AllMarks) → HoldMarks (clusters_before configs done ++ (run_of configs done).cluster ∷ []) (step (run_of configs done).cluster action).cluster marks
+    → HoldMarks (clusters_before configs (done ++ action ∷ [])) (run_of configs (done ++ action ∷ [])).cluster marks
+hold-next configs done action marks h =
+    subst (λ (r : Run). HoldMarks (clusters_before configs (done ++ action ∷ [])) r.cluster marks) (sym (run-push configs done action))
+    (subst (λ (cs : List Cluster). HoldMarks cs (step (run_of configs done).cluster action).cluster marks) (sym (clusters-from (start configs) done action)) h)
+
+lengths-from : (c : Cluster) (done : List Action) → length (clusters_from c done) ≡ length done
+lengths-from c [] = refl
+lengths-from c (x ∷ xs) = ap suc (lengths-from (step c x).cluster xs)
+
+pub clusters-length : (configs : List Config) (done : List Action) → length (clusters_before configs done) ≡ length done
+clusters-length configs done = lengths-from (start configs).cluster done
+
+pub lines-length : (configs : List Config) (done : List Action) → length (map (λ (t : Turn). t.line) (run_of configs done).turns) ≡ length done
+lines-length configs done =
+    let turns : length (run_of configs done).turns ≡ length done = omega (arith, run-length (start configs) done) in
+    length-map (run_of configs done).turns (λ (t : Turn). t.line) ∙ turns
+
+-- two things that hold of a call that ended well
+pub on-ok-both : {R E : Type 0} {P Q S : Type 0} (r : Result R E) → (P → Q → S) → OnOk r P → OnOk r Q → OnOk r S
+on-ok-both (Ok x) f p q = f p q
+on-ok-both (Err e) f p q = tt
+
 -- the number of the next action
 pub next-number : (configs : List Config) (done : List Action) (n : ℕ) → n ≡ length done + 1 → n ≡ length (run_of configs done).turns + 1
 next-number configs done n is = omega (arith, is, run-length (start configs) done)
@@ -182,7 +219,7 @@ pub told-first : (range : Range) (configs : List Config) (past : List Note) → 
 told-first range configs past none = record {
   notes_are = none;
   explained = [];
-  whole = record { turns_are = refl; clusters_are = refl; reasons = All-nil (λ (e : Explained). IsReasoned e.before e.turn.action e.turn.line e.reasons); seen = tt };
+  whole = record { turns_are = refl; clusters_are = refl; reasons = tt };
   told = λ more. refl;
 }
 

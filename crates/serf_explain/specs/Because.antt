@@ -32,3 +32,9 @@ pub record AddsSuch (P : List (List ℕ) → Type 0) (n : ℕ) (old new : List �
   pub some : 0 < length reasons
   pub added : new ≡ old ++ flat_map (because_line n) reasons
   pub such : P reasons
+
+-- a text grew by something such
+pub record GrowsBy (P : List ℕ → Type 0) (old new : List ℕ) : Type 0 where
+  pub more : List ℕ
+  pub added : new ≡ old ++ more
+  pub such : P more

@@ -1,20 +1,26 @@
 -- What is said of the events that a merged state carries.
-use Rattle.std.specs.Prelude.{◌≡◌, ℕ, ◌++◌, Bool, nat_lt, if◌then◌else◌, List, [], ◌∷◌, Option, Some, None, Ok, codes, decimal, slice_get}
+use Rattle.std.specs.Prelude.{◌≡◌, ◌⊎◌, ◌^◌, ◌-◌, ℕ, ◌+◌, ◌++◌, Bool, true, false, nat_lt, if◌then◌else◌, List, [], ◌∷◌, Option, Some, None, Ok, codes, decimal, drop, length, map, min, slice_get}
 use Rattle.serf_snap.specs.Notes.{Kept}
 use Rattle.serf_wire.specs.declared.texts.EventBody.{EventBody}
+use Rattle.serf_window.specs.Texts.{same_texts}
 use Rattle.serf_window.specs.Window.{TimedEntry}
 use Rattle.serf_agent.specs.declared.outcome.Reason.{Reason}
 use Rattle.serf_agent.specs.declared.outcome.Reason.TheVariants.{BelowMinimum, TooOld, Seen, TimeFull, Oversize}
 use Rattle.serf_agent.specs.Calls.{ended}
 use Rattle.serf_agent.specs.Events.{admission}
 use Rattle.serf_agent.specs.Ideal.{IdealAgent}
-use Rattle.serf_agent.specs.States.{after_event, events_of, hear}
+use Rattle.serf_agent.specs.States.{after_event, events_of_slot, hear}
+use Rattle.serf_agent.specs.Tracks.{was_ever_entered}
 use Rattle.serf_wire.specs.Decoded.{decoded}
 use Rattle.serf_wire.specs.Message.{PushPull, push_pull}
+use Rattle.serf_wire.specs.Slots.{SlotContent}
 use Rattle.serf_model.specs.declared.action.Act.TheVariants as acts
 use Rattle.serf_model.specs.declared.action.Action.{Action}
 use Rattle.serf_model.specs.declared.action.Action.TheVariants as actions
+use Rattle.serf_model.specs.declared.line.Line.{Line}
 use Rattle.serf_model.specs.Cluster.{Cluster, IdealNode}
+use Rattle.serf_explain.specs.Left.{IsEventLeft, events_least, is_left, numbers_in}
+use Rattle.serf_explain.specs.Seen.{IsHanded, seen_words, tailed_words}
 use Rattle.serf_explain.specs.Words.{event_words}
 
 -- what is said of a verdict on an event: no two begin alike
@@ -34,30 +40,73 @@ slot_words slot = codes "slot " ++ decimal slot ++ codes " brings "
 unfoldable pub carried_words : ℕ → ℕ → EventBody → Option Reason → List ℕ → List ℕ
 carried_words slot time what verdict detail = slot_words slot ++ event_words time what ++ codes ": " ++ verdict_words verdict ++ detail
 
--- a reason says that this became of an event, in some slot and with some detail
-pub record IsCarried (e : TimedEntry EventBody) (verdict : Option Reason) (reason : List ℕ) : Type 0 where
+-- an event that a state carries, and the number of its slot
+pub record Placed : Type 0 where
   pub slot : ℕ
+  pub entry : TimedEntry EventBody
+
+abbrev pub placed : ℕ → List (TimedEntry EventBody) → List Placed
+placed slot es = map (λ e. record { slot = slot; entry = e }) es
+
+-- slots are counted from 0, and the number stops at 2^64 - 1
+abbrev pub next_slot : ℕ → ℕ
+next_slot slot = min (slot + 1) (2 ^ 64 - 1)
+
+-- the events of slots that are numbered from this one on
+abbrev pub placed_from : ℕ → List SlotContent → List Placed
+placed_from slot [] = []
+placed_from slot (s ∷ ss) = placed slot (events_of_slot s) ++ placed_from (next_slot slot) ss
+
+-- What is known of an agent before a merge: its number, its least times of events before one action after another, this one included,
+-- the lines of the actions before, and how many events had entered it.
+pub record Known : Type 0 where
+  pub agent : ℕ
+  pub before : List ℕ
+  pub lines : List Line
+  pub entered : ℕ
+
+abbrev pub known_of : ℕ → List Line → List Cluster → IdealAgent → Known
+known_of a lines before i = record { agent = a; before = numbers_in events_least a before; lines = lines; entered = length i.events.history }
+
+-- whether the same entered an agent, since so many had entered
+abbrev pub entered_since : ℕ → IdealAgent → TimedEntry EventBody → Bool
+entered_since n i e = was_ever_entered same_texts (drop n i.events.history) e.time e.key
+
+-- It says of an event that was seen which action before handed it to this agent; or that this one did, as it entered in this merge; or
+-- else that the agent was opened on a text with its line.
+abbrev pub IsSeenIn : Known → IdealAgent → TimedEntry EventBody → List ℕ → Type 0
+IsSeenIn k i e detail =
+    IsHanded k.lines i.config.name k.agent e.time e.key detail
+    ⊎ (((entered_since k.entered i e ≡ true) × (detail ≡ seen_words i.config.name e.time e.key (length k.lines)))
+    ⊎ ((entered_since k.entered i e ≡ false) × (detail ≡ tailed_words i.config.name e.time e.key)))
+
+-- A reason says that this became of an event that comes to this agent. What it says of one that is left are the agent's numbers
+-- then.
+pub record IsCarried (k : Known) (i : IdealAgent) (p : Placed) (verdict : Option Reason) (reason : List ℕ) : Type 0 where
   pub detail : List ℕ
-  pub words : reason ≡ carried_words slot e.time e.key verdict detail
+  pub words : reason ≡ carried_words p.slot p.entry.time p.entry.key verdict detail
+  pub new : verdict ≡ None → detail ≡ []
+  pub seen : verdict ≡ Some Seen → IsSeenIn k i p.entry detail
+  pub left : (r : Reason) → verdict ≡ Some r → is_left r ≡ true → IsEventLeft (after_event i p.entry) k.before p.entry.time p.entry.key r detail
 
 -- One reason for each event, in their order, with the verdict of the agent that receives one after another.
-abbrev pub AreCarried : List (TimedEntry EventBody) → IdealAgent → List (List ℕ) → Type 0
-AreCarried [] i reasons = reasons ≡ []
-AreCarried (e ∷ es) i reasons = (reason : List ℕ) × (others : List (List ℕ)) × (reasons ≡ reason ∷ others) × IsCarried e (admission i e.time e.key) reason × AreCarried es (after_event i e) others
+abbrev pub AreCarried : Known → List Placed → IdealAgent → List (List ℕ) → Type 0
+AreCarried k [] i reasons = reasons ≡ []
+AreCarried k (p ∷ ps) i reasons = (reason : List ℕ) × (others : List (List ℕ)) × (reasons ≡ reason ∷ others) × IsCarried k i p (admission i p.entry.time p.entry.key) reason × AreCarried k ps (after_event i p.entry) others
 
 -- the agent once it has received these
-abbrev pub after_events : List (TimedEntry EventBody) → IdealAgent → IdealAgent
+abbrev pub after_events : List Placed → IdealAgent → IdealAgent
 after_events [] i = i
-after_events (e ∷ es) i = after_events es (after_event i e)
+after_events (p ∷ ps) i = after_events ps (after_event i p.entry)
 
 -- the agent once it has heard of a state, where the line of that is durable, if it has one
 unfoldable pub heard : PushPull → Bool → IdealAgent → IdealAgent
 heard p is_join i = (ended i (hear i p is_join) Kept).agent
 
 -- the same of a merge: where a state carries no event, one reason says so
-abbrev pub AreOfState : List (TimedEntry EventBody) → IdealAgent → List (List ℕ) → Type 0
-AreOfState [] i reasons = reasons ≡ codes "the state carries no event" ∷ []
-AreOfState (e ∷ es) i reasons = AreCarried (e ∷ es) i reasons
+abbrev pub AreOfState : Known → List Placed → IdealAgent → List (List ℕ) → Type 0
+AreOfState k [] i reasons = reasons ≡ codes "the state carries no event" ∷ []
+AreOfState k (p ∷ ps) i reasons = AreCarried k (p ∷ ps) i reasons
 
 -- what is said where a join raises the least time of events to this
 unfoldable pub raised_words : ℕ → List ℕ
@@ -74,23 +123,24 @@ raised_reasons (Some least) = raised_words least ∷ []
 
 -- The reasons of a merge into an agent, which is the second one once it has heard of the state: that of the least time, where the
 -- merge raises it, and then those of the state's events.
-abbrev pub AreMerged : List (TimedEntry EventBody) → IdealAgent → IdealAgent → List (List ℕ) → Type 0
-AreMerged es before i reasons = (others : List (List ℕ)) × (reasons ≡ raised_reasons (raised_least before (after_events es i)) ++ others) × AreOfState es i others
+abbrev pub AreMerged : Known → List Placed → IdealAgent → IdealAgent → List (List ℕ) → Type 0
+AreMerged k ps old i reasons = (others : List (List ℕ)) × (reasons ≡ raised_reasons (raised_least old (after_events ps i)) ++ others) × AreOfState k ps i others
 
 -- what is found of a merge: the least time that it raises, if it does, and what is said of its events
-abbrev pub IsFound : Option ℕ → List (TimedEntry EventBody) → IdealAgent → IdealAgent → List (List ℕ) → Type 0
-IsFound raised es before i carried = (raised ≡ raised_least before (after_events es i)) × AreCarried es i carried
+abbrev pub IsFound : Option ℕ → Known → List Placed → IdealAgent → IdealAgent → List (List ℕ) → Type 0
+IsFound raised k ps old i carried = (raised ≡ raised_least old (after_events ps i)) × AreCarried k ps i carried
 
 -- what is said of it once it is done
 abbrev pub TellsMerged : Option ℕ → List (List ℕ) → List (List ℕ) → Type 0
-TellsMerged raised carried reasons = (es : List (TimedEntry EventBody)) (before i : IdealAgent) → IsFound raised es before i carried → AreMerged es before i reasons
+TellsMerged raised carried reasons = (k : Known) (ps : List Placed) (old i : IdealAgent) → IsFound raised k ps old i carried → AreMerged k ps old i reasons
 
--- the reasons are those of the state that an action merges in a cluster, if it merges one, said so
-abbrev pub OfMerge : (List (TimedEntry EventBody) → IdealAgent → IdealAgent → List (List ℕ) → Type 0) → Cluster → Action → List (List ℕ) → Type 0
-OfMerge Told c (actions.Of agent (acts.Merge packet join)) reasons =
+-- The reasons are those of the state that an action merges in a cluster, if it merges one, said so. These were the lines of the actions
+-- before, and the clusters before one action after another, this one included.
+abbrev pub OfMerge : (Known → List Placed → IdealAgent → IdealAgent → List (List ℕ) → Type 0) → List Line → List Cluster → Cluster → Action → List (List ℕ) → Type 0
+OfMerge Told lines before c (actions.Of agent (acts.Merge packet join)) reasons =
     (m : IdealNode) (bytes : List ℕ) (p : PushPull) → slice_get c.nodes agent ≡ Some m → slice_get c.sent packet ≡ Some bytes → decoded bytes ≡ Ok (push_pull p)
-    → Told (events_of p.slots) m.agent (heard p join m.agent) reasons
-OfMerge Told c _ reasons = Unit {0}
+    → Told (known_of agent lines before m.agent) (placed_from 0 p.slots) m.agent (heard p join m.agent) reasons
+OfMerge Told lines before c _ reasons = Unit {0}
 
-abbrev pub TellsMerge : Cluster → Action → Option ℕ → List (List ℕ) → Type 0
-TellsMerge c action raised carried = OfMerge (IsFound raised) c action carried
+abbrev pub TellsMerge : List Line → List Cluster → Cluster → Action → Option ℕ → List (List ℕ) → Type 0
+TellsMerge lines before c action raised carried = OfMerge (IsFound raised) lines before c action carried

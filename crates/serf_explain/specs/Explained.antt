@@ -1,38 +1,37 @@
 -- A trace with its reasons.
-use Rattle.std.specs.Prelude.{◌≡◌, ℕ, ◌+◌, ◌<◌, ◌++◌, Bool, true, if◌then◌else◌, List, [], ◌∷◌, Option, Ok, All, length, map}
+use Rattle.std.specs.Prelude.{◌≡◌, ℕ, ◌+◌, ◌<◌, ◌++◌, Bool, true, if◌then◌else◌, List, [], ◌∷◌, Option, Some, Ok, length, map}
 use Rattle.std.specs.List.{flat_map}
 use Rattle.serf_agent.specs.declared.config.Config.{Config}
+use Rattle.serf_agent.specs.declared.outcome.Reason.{Reason}
 use Rattle.serf_agent.specs.declared.outcome.Reason.TheVariants.{Seen}
 use Rattle.serf_model.specs.declared.action.Action.{Action}
 use Rattle.serf_model.specs.declared.line.Line.{Line}
 use Rattle.serf_model.specs.declared.line.Answer.TheVariants as answers
 use Rattle.serf_model.specs.Cluster.{Cluster, Run, run_of, start, step, trace_of}
 use Rattle.serf_model.specs.Trace.{Turn, actor_of}
-use Rattle.serf_world.specs.View.{WorldState}
+use Rattle.serf_wire.specs.declared.texts.EventBody.{EventBody}
+use Rattle.serf_window.specs.Window.{TimedEntry}
+use Rattle.serf_agent.specs.View.{ConcreteState}
+use Rattle.serf_world.specs.View.{WorldState, agent_at}
 use Rattle.serf_schedule.specs.Line.{Parsed}
 use Rattle.serf_schedule.specs.Output.{output_of}
 use Rattle.serf_schedule.specs.Schedule.{schedule_of}
 use Rattle.serf_schedule.specs.Show.{action_text, trace_text}
+use Rattle.serf_explain.specs.declared.history.History.{History}
 use Rattle.serf_explain.specs.declared.range.Range.{Range}
 use Rattle.serf_explain.specs.Because.{because_line}
 use Rattle.serf_explain.specs.Carried.{AreMerged, OfMerge, TellsMerged}
-use Rattle.serf_explain.specs.HandOuts.{Note, OfNoted, notes_from}
+use Rattle.serf_explain.specs.HandOuts.{NamesSeen, Note, name_at, notes_from, notes_in}
+use Rattle.serf_explain.specs.Leaving.{ignored_words, numbers_of, takes_events}
+use Rattle.serf_explain.specs.Left.{is_left}
 use Rattle.serf_explain.specs.Range.{is_shown}
-use Rattle.serf_explain.specs.Seen.{OfSeen}
+use Rattle.serf_explain.specs.Seen.{OfLeftEvent, OfSeen, event_delivered}
 
 -- a turn of a run, the cluster before it, and the reasons that are given for it
 pub record Explained : Type 0 where
   pub before : Cluster
   pub turn : Turn
   pub reasons : List (List ℕ)
-
--- There is a reason at least. Those of a merge are first one that says to what the least time of events rises, just where it is
--- greater behind the merge than before it; and then one for each event that its state carries, in their order, with the verdict of
--- the ideal agent that receives one after another. Where the disk failed in a merge, its reasons are tested alone: they begin with
--- that of the least time too, where it rises, but for a join that heard of nothing, since the line of its least time failed.
-pub record IsReasoned (before : Cluster) (action : Action) (line : Line) (reasons : List (List ℕ)) : Type 0 where
-  pub some : 0 < length reasons
-  pub merged : line.answer ≡ answers.Merged → OfMerge AreMerged before action reasons
 
 -- an action's lines just as its trace has them, and a line for each of its reasons after them
 abbrev pub lines_text : List (List ℕ) → ℕ → Line → List (List ℕ) → List ℕ
@@ -59,24 +58,47 @@ clusters_before configs actions = clusters_from (start configs).cluster actions
 abbrev pub cluster_behind : Explained → Cluster
 cluster_behind e = (step e.before e.turn.action).cluster
 
--- Where a turn that is shown answers that a delivered event was seen, and these are the lines before it, its reason names
--- the agent, and one of these that handed the event to it; or, where none did and the agent's settings keep events, that it was
--- opened on a text with the event's line.
-abbrev pub NamesHandOut : List Config → Range → List Line → Explained → Type 0
-NamesHandOut configs range lines e = is_shown range (length lines + 1) (actor_of e.turn.action) ≡ true → e.turn.line.answer ≡ answers.Ignored Seen
-    → OfSeen configs lines e.before.sent (cluster_behind e) e.turn.action e.reasons
+-- the lines of turns, and the clusters before them
+abbrev pub lines_told : List Explained → List Line
+lines_told done = map (λ (e : Explained). e.turn.line) done
+
+abbrev pub clusters_told : List Explained → List Cluster
+clusters_told done = map (λ (e : Explained). e.before) done
+
+-- the clusters up to that before a turn
+abbrev pub clusters_to : List Explained → Explained → List Cluster
+clusters_to done e = clusters_told done ++ e.before ∷ []
+
+-- whether the turn behind these is shown
+abbrev pub shows : Range → List Explained → Explained → Bool
+shows range done e = is_shown range (length done + 1) (actor_of e.turn.action)
+
+-- What the reasons of a turn say, with these turns before it. There is one at least.
+-- Those of a merge are first one that says to what the least time of events rises, just where it is greater behind the merge than
+-- before it; and then one for each event that its state carries, in their order, with its slot, with the verdict of the ideal agent
+-- that receives one after another, and with what that agent takes then, or which action handed out what it saw. Where the disk failed in a merge, its reasons are tested
+-- alone: they begin with that of the least time too, where it rises, but for a join that heard of nothing, since the line of its
+-- least time failed.
+-- Where a delivered event was seen, it names the agent, and one of the turns before that handed the event to it; or, where none did
+-- and the agent's settings keep events, that it was opened on a text with the event's line. Where it was left for another reason,
+-- it says what the agent takes.
+pub record IsReasoned (configs : List Config) (range : Range) (done : List Explained) (e : Explained) : Type 0 where
+  pub some : 0 < length e.reasons
+  pub merged : e.turn.line.answer ≡ answers.Merged → OfMerge AreMerged (lines_told done) (clusters_to done e) e.before e.turn.action e.reasons
+  pub seen : shows range done e ≡ true → e.turn.line.answer ≡ answers.Ignored Seen → OfSeen configs (lines_told done) e.before.sent (cluster_behind e) e.turn.action e.reasons
+  pub left : (r : Reason) → shows range done e ≡ true → e.turn.line.answer ≡ answers.Ignored r → is_left r ≡ true
+      → OfLeftEvent r (clusters_to done e) e.before.sent (cluster_behind e) e.turn.action e.reasons
 
 -- and so each turn, one after another
-abbrev pub NameHandOuts : List Config → Range → List Line → List Explained → Type 0
-NameHandOuts configs range lines [] = Unit {0}
-NameHandOuts configs range lines (e ∷ es) = NamesHandOut configs range lines e × NameHandOuts configs range (lines ++ e.turn.line ∷ []) es
+abbrev pub AreReasoned : List Config → Range → List Explained → List Explained → Type 0
+AreReasoned configs range done [] = Unit {0}
+AreReasoned configs range done (e ∷ es) = IsReasoned configs range done e × AreReasoned configs range (done ++ e ∷ []) es
 
 -- The turns of a run of agents of these settings, with the clusters before them, each with its reasons.
 pub record IsExplained (configs : List Config) (range : Range) (turns : List Turn) (clusters : List Cluster) (explained : List Explained) : Type 0 where
   pub turns_are : map (λ (e : Explained). e.turn) explained ≡ turns
   pub clusters_are : map (λ (e : Explained). e.before) explained ≡ clusters
-  pub reasons : All (λ (e : Explained). IsReasoned e.before e.turn.action e.turn.line e.reasons) explained
-  pub seen : NameHandOuts configs range [] explained
+  pub reasons : AreReasoned configs range [] explained
 
 -- The text is that of the run of these actions: of each action in the range the very lines of its trace, and a line for
 -- each of its reasons.
@@ -105,11 +127,19 @@ pub record IsTold (configs : List Config) (range : Range) (r : Run) (clusters : 
 abbrev pub HasTold : Range → List Config → List Action → List Note → List ℕ → Type 0
 HasTold range configs done notes text = IsTold configs range (run_of configs done) (clusters_before configs done) notes text
 
--- What is said of an action: of a merge to what it raised the least time, and what was said of its events; of an event that was
--- seen which action handed it out, or that its agent was opened on its line.
-pub record TellsAll (shown : Bool) (raised : Option ℕ) (carried : List (List ℕ)) (notes : List Note) (w : WorldState) (action : Action) (line : Line) (reasons : List (List ℕ)) : Type 0 where
+-- What is said of an event that comes to an agent, and is ignored for this reason, where this is remembered of the actions before that
+-- of this number: which one handed it out, or that the agent was opened on its line; or what the agent takes.
+pub record IsIgnored (r : Reason) (past : History) (n : ℕ) (w : WorldState) (a : ℕ) (e : TimedEntry EventBody) (text : List ℕ) : Type 0 where
+  pub seen : r ≡ Seen → NamesSeen (notes_in past.hand_outs.outs.items) (name_at w a) a e.time e.key text
+  pub left : (s : ConcreteState) → is_left r ≡ true → agent_at w a ≡ Some s → text ≡ ignored_words (takes_events (numbers_of past.marks a).event_minimum s n) e.time e.key r
+
+-- where an action delivers an event, its only reason says so
+abbrev pub OfIgnored : Reason → History → ℕ → WorldState → Action → List (List ℕ) → Type 0
+OfIgnored r past n w action reasons = (a : ℕ) (e : TimedEntry EventBody) → event_delivered w.sent action ≡ Some (a, e) → (text : List ℕ) × (reasons ≡ text ∷ []) × IsIgnored r past n w a e text
+
+pub record TellsAll (shown : Bool) (raised : Option ℕ) (carried : List (List ℕ)) (past : History) (n : ℕ) (w : WorldState) (action : Action) (line : Line) (reasons : List (List ℕ)) : Type 0 where
   pub merged : line.answer ≡ answers.Merged → TellsMerged raised carried reasons
-  pub seen : shown ≡ true → line.answer ≡ answers.Ignored Seen → OfNoted notes w action reasons
+  pub ignored : (r : Reason) → shown ≡ true → line.answer ≡ answers.Ignored r → OfIgnored r past n w action reasons
 
 -- a text grew by an action's lines and its reasons, of which there are some, or by nothing where it isn't shown
 pub record AddsTurn (P : List (List ℕ) → Type 0) (is_shown : Bool) (sent : List (List ℕ)) (n : ℕ) (line : Line) (old new : List ℕ) : Type 0 where

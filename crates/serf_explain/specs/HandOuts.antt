@@ -56,8 +56,16 @@ pub record IsNoted (notes : List Note) (a time : ℕ) (what : EventBody) (number
   pub right : IfSome number (λ n. NotedAt notes n a time what)
   pub none : number ≡ None → list_any (is_note a time what) notes ≡ false
 
-unfoldable pub noted_words : List ℕ → ℕ → EventBody → ℕ → List ℕ
-noted_words name time what number = quoted name ++ codes " was handed " ++ event_words time what ++ codes " at action " ++ decimal number
+-- the number of the action that did it, as the action of this number finds it in what it merges: one before, or this one, where the
+-- event entered in it
+pub record IsNamed (notes : List Note) (number a time : ℕ) (what : EventBody) (entered : Bool) (handed : Option ℕ) : Type 0 where
+  pub right : IfSome handed (λ n. NotedAt notes n a time what ⊎ ((n ≡ number) × (entered ≡ true)))
+  pub none : handed ≡ None → entered ≡ false
+
+-- what is said of an event that was handed to an agent of this name at this action, or of which no action is named
+unfoldable pub handed_words : List ℕ → ℕ → EventBody → Option ℕ → List ℕ
+handed_words name time what (Some number) = quoted name ++ codes " was handed " ++ event_words time what ++ codes " at action " ++ decimal number
+handed_words name time what None = tailed_words name time what
 
 -- the name of the agent of this number that a world stores, and nothing where there is none
 abbrev pub name_stored : Option ConcreteState → List ℕ
@@ -67,19 +75,9 @@ name_stored (Some state) = state.config.name
 abbrev pub name_at : WorldState → ℕ → List ℕ
 name_at w a = name_stored (agent_at w a)
 
--- a reason says which action handed this event to this agent, which has this name
-pub record NamesNote (notes : List Note) (name : List ℕ) (a time : ℕ) (what : EventBody) (reason : List ℕ) : Type 0 where
-  pub number : ℕ
-  pub noted : NotedAt notes number a time what
-  pub words : reason ≡ noted_words name time what number
-
--- or that none did, and that the agent was opened on a text with the event's line
-pub record NamesText (notes : List Note) (name : List ℕ) (a time : ℕ) (what : EventBody) (reason : List ℕ) : Type 0 where
-  pub none : list_any (is_note a time what) notes ≡ false
-  pub words : reason ≡ tailed_words name time what
-
+-- a reason says which action handed this event to this agent, which has this name; or that none did, and that it was opened on its line
 abbrev pub NamesSeen : List Note → List ℕ → ℕ → ℕ → EventBody → List ℕ → Type 0
-NamesSeen notes name a time what reason = NamesNote notes name a time what reason ⊎ NamesText notes name a time what reason
+NamesSeen notes name a time what reason = (handed : Option ℕ) × IsNoted notes a time what handed × (reason ≡ handed_words name time what handed)
 
 -- an event that an action delivers was handed to its agent, or the agent's settings, which are among these, keep events
 abbrev pub IsKnown : List Config → List Note → List (List ℕ) → Action → Type 0
@@ -89,8 +87,3 @@ IsKnown configs notes sent action = (a : ℕ) (e : TimedEntry EventBody) → eve
 -- so it is where the answer is that it was seen
 abbrev pub KnowsSeen : List Config → List Note → List (List ℕ) → Action → Line → Type 0
 KnowsSeen configs notes sent action line = line.answer ≡ answers.Ignored Seen → IsKnown configs notes sent action
-
--- where an action delivers an event, its only reason says so
-abbrev pub OfNoted : List Note → WorldState → Action → List (List ℕ) → Type 0
-OfNoted notes w action reasons = (a : ℕ) (e : TimedEntry EventBody) → event_delivered w.sent action ≡ Some (a, e)
-    → (reason : List ℕ) × (reasons ≡ reason ∷ []) × NamesSeen notes (name_at w a) a e.time e.key reason

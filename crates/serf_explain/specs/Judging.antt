@@ -1,5 +1,5 @@
 -- What is kept while the events of a merge are judged: private to the crate.
-use Rattle.std.specs.Prelude.{◌≡◌, ℕ, ◌<◌, ◌≤◌, ◌++◌, Bool, if◌then◌else◌, List, [], ◌∷◌, map, Option, Some, None, Result, Ok, All, codes, decimal}
+use Rattle.std.specs.Prelude.{◌≡◌, ℕ, ◌+◌, ◌<◌, ◌≤◌, ◌++◌, Bool, true, false, if◌then◌else◌, List, [], ◌∷◌, length, map, Option, Some, None, Result, Ok, All, codes, decimal}
 use Rattle.std.specs.List.{flat_map}
 use Rattle.serf_wire.specs.declared.fault.WireFault.{WireFault}
 use Rattle.serf_wire.specs.declared.texts.EventBody.{EventBody}
@@ -10,12 +10,19 @@ use Rattle.serf_window.specs.Window.{TimedEntry, slots_of}
 use Rattle.serf_agent.specs.declared.outcome.Reason.{Reason}
 use Rattle.serf_agent.specs.declared.outcome.Reason.TheVariants as reasons
 use Rattle.serf_agent.specs.Ideal.{IdealAgent, Past}
-use Rattle.serf_agent.specs.States.{events_of}
+use Rattle.serf_agent.specs.Sound.{IsSound}
+use Rattle.serf_agent.specs.View.{view_of}
 use Rattle.serf_explain.specs.declared.judge.Judge.{Judge}
+use Rattle.serf_explain.specs.declared.left.Takes.{Takes}
+use Rattle.serf_explain.specs.declared.merging.Merging.{Merging}
 use Rattle.serf_model.specs.declared.action.Action.{Action}
+use Rattle.serf_model.specs.declared.line.Line.{Line}
 use Rattle.serf_model.specs.Cluster.{Cluster}
 use Rattle.serf_explain.specs.Because.{because_line}
-use Rattle.serf_explain.specs.Carried.{AreCarried, TellsMerge, after_events, carried_words, heard, raised_least}
+use Rattle.serf_explain.specs.Carried.{AreCarried, Known, Placed, TellsMerge, after_events, carried_words, entered_since, heard, placed_from, raised_least}
+use Rattle.serf_explain.specs.HandOuts.{IsNamed, handed_words, notes_from, notes_in}
+use Rattle.serf_explain.specs.Leaving.{IsMark, left_words, takes_by}
+use Rattle.serf_explain.specs.Left.{texts_told}
 
 abbrev pub past : ℕ → TimedEntry EventBody → Past EventBody
 past life e = record { life = life; entry = e }
@@ -34,47 +41,84 @@ pub record IsJudging (i j : IdealAgent) (judge : Judge) : Type 0 where
   pub clock_up : i.events.clock ≤ judge.clock
   pub minimum_up : i.events.minimum ≤ judge.minimum
 
+-- an agent merges, which is this one before it, and of which this is known
+pub record IsMerging (k : Known) (i : IdealAgent) (merging : Merging) : Type 0 where
+  pub sound : IsSound i
+  pub agent_is : merging.agent.now.concrete ≡ view_of i
+  pub agent : merging.agent_number ≡ k.agent
+  pub entered : k.entered ≡ length i.events.history
+  pub notes : notes_in merging.history.now.hand_outs.outs.items ≡ notes_from 1 k.lines
+  pub count : merging.number ≡ length k.lines + 1
+  pub earlier : List ℕ
+  pub least : ℕ
+  pub before_are : k.before ≡ earlier ++ least ∷ []
+  pub mark : IsMark earlier least merging.least
+  pub number : merging.number ≡ length earlier + 1
+
+-- what the agent takes of events, once this was judged
+abbrev pub judge_takes : Merging → Judge → Takes
+judge_takes merging judge = takes_by merging.least judge.minimum judge.clock merging.agent.now.concrete.config.event_buffer merging.agent.now.concrete.config.per_time merging.number
+
+-- what is said of an event beside the first words of its verdict, by what the agent takes, and by the action that is named
+abbrev pub detail_words : List ℕ → Takes → Option ℕ → ℕ → EventBody → Option Reason → List ℕ
+detail_words name takes handed time what None = []
+detail_words name takes handed time what (Some reasons.Seen) = handed_words name time what handed
+detail_words name takes handed time what (Some r) = left_words takes (codes "event") time (texts_told what) r
+
+abbrev pub judged_detail : Merging → Judge → Option ℕ → ℕ → EventBody → Option Reason → List ℕ
+judged_detail merging judge handed time what verdict = detail_words merging.agent.now.concrete.config.name (judge_takes merging judge) handed time what verdict
+
+-- and the line of it
+abbrev pub judged_line : Merging → Judge → Option ℕ → ℕ → ℕ → EventBody → Option Reason → List ℕ
+judged_line merging judge handed slot time what verdict = because_line merging.number (carried_words slot time what verdict (judged_detail merging judge handed time what verdict))
+
+-- the action that is named of an event which comes to the second of these agents, the first one before the merge, and was seen
+abbrev pub IsHandedIn : IdealAgent → IdealAgent → Merging → TimedEntry EventBody → Option ℕ → Type 0
+IsHandedIn i j merging e handed =
+    IsNamed (notes_in merging.history.now.hand_outs.outs.items) merging.number merging.agent_number e.time e.key (entered_since (length i.events.history) j e) handed
+
+-- a text grew by the line of such an event
+pub record AddsJudged (merging : Merging) (judge : Judge) (i j : IdealAgent) (slot : ℕ) (e : TimedEntry EventBody) (verdict : Option Reason) (old new : List ℕ) : Type 0 where
+  pub handed : Option ℕ
+  pub added : new ≡ old ++ judged_line merging judge handed slot e.time e.key verdict
+  pub named : verdict ≡ Some reasons.Seen → IsHandedIn i j merging e handed
+
 -- a text grew by the lines of the action of this number that say what became of these events, as they come to an agent one
 -- after another
-pub record AddsLines (n : ℕ) (es : List (TimedEntry EventBody)) (i : IdealAgent) (old new : List ℕ) : Type 0 where
+pub record AddsLines (k : Known) (n : ℕ) (ps : List Placed) (i : IdealAgent) (old new : List ℕ) : Type 0 where
   pub added : List (List ℕ)
   pub new_is : new ≡ old ++ flat_map (because_line n) added
-  pub carried : AreCarried es i added
+  pub carried : AreCarried k ps i added
 
 -- it grew by those of a part of these events, and these are left
-pub record HasJudged (n : ℕ) (i j : IdealAgent) (all left : List (TimedEntry EventBody)) (old new : List ℕ) (judge : Judge) : Type 0 where
-  pub done : List (TimedEntry EventBody)
+pub record HasJudged (k : Known) (n : ℕ) (i j : IdealAgent) (all left : List Placed) (old new : List ℕ) (judge : Judge) : Type 0 where
+  pub done : List Placed
   pub split : done ++ left ≡ all
-  pub lines : AddsLines n done j old new
+  pub lines : AddsLines k n done j old new
   pub judging : IsJudging i (after_events done j) judge
 
 -- it grew by those of a state's events, as they come to the second of these agents, which is the first once it has heard of the
 -- state; and to this the least time rises
-pub record AddsState (n : ℕ) (es : List (TimedEntry EventBody)) (i j : IdealAgent) (raised : Option ℕ) (old new : List ℕ) : Type 0 where
-  pub lines : AddsLines n es j old new
-  pub raises : raised ≡ raised_least i (after_events es j)
+pub record AddsState (k : Known) (n : ℕ) (ps : List Placed) (i j : IdealAgent) (raised : Option ℕ) (old new : List ℕ) : Type 0 where
+  pub lines : AddsLines k n ps j old new
+  pub raises : raised ≡ raised_least i (after_events ps j)
 
 -- it grew by those of what a packet merges in an agent, if that says a state
-abbrev pub AddsMerge : ℕ → IdealAgent → Bool → Result Message WireFault → Option ℕ → List ℕ → List ℕ → Type 0
-AddsMerge n i join (Ok (push_pull p)) raised old new = AddsState n (events_of p.slots) i (heard p join i) raised old new
-AddsMerge n i join _ raised old new = new ≡ old
+abbrev pub AddsMerge : Known → ℕ → IdealAgent → Bool → Result Message WireFault → Option ℕ → List ℕ → List ℕ → Type 0
+AddsMerge k n i join (Ok (push_pull p)) raised old new = AddsState k n (placed_from 0 p.slots) i (heard p join i) raised old new
+AddsMerge k n i join _ raised old new = new ≡ old
 
 -- a text is the lines of the reasons of what the action of this number merges in a cluster, if it merges something, and this is
 -- the least time that it raises, if it does
-pub record TellsText (n : ℕ) (c : Cluster) (action : Action) (raised : Option ℕ) (text : List ℕ) : Type 0 where
+pub record TellsText (n : ℕ) (lines : List Line) (before : List Cluster) (c : Cluster) (action : Action) (raised : Option ℕ) (text : List ℕ) : Type 0 where
   pub carried : List (List ℕ)
   pub text_is : text ≡ flat_map (because_line n) carried
-  pub tells : TellsMerge c action raised carried
+  pub tells : TellsMerge lines before c action raised carried
 
 -- what is said of the events of a state that was merged, where this was said of each
 abbrev pub merged_of : List (List ℕ) → List (List ℕ)
 merged_of [] = codes "the state carries no event" ∷ []
 merged_of (reason ∷ reasons) = reason ∷ reasons
-
--- a text grew by the line of an event of the action of this number
-pub record AddsCarried (n slot time : ℕ) (what : EventBody) (verdict : Option Reason) (old new : List ℕ) : Type 0 where
-  pub detail : List ℕ
-  pub added : new ≡ old ++ because_line n (carried_words slot time what verdict detail)
 
 -- the two halves of the line of an event that was seen: up to the event's words, and from there on
 unfoldable pub seen_front : List ℕ → ℕ → List ℕ → List ℕ
@@ -82,6 +126,11 @@ seen_front front slot words = front ++ decimal slot ++ codes " brings " ++ words
 
 unfoldable pub seen_behind : List ℕ → List ℕ → ℕ → List ℕ
 seen_behind named words action = codes ": seen: " ++ named ++ words ++ codes " at action " ++ decimal action ++ codes "\n"
+
+-- whether a verdict is that the same entered before
+abbrev pub is_seen : Verdict → Bool
+is_seen verdicts.Seen = true
+is_seen _ = false
 
 -- a verdict from the agent's before the merge, that on what entered in it, and whether both together are too many
 abbrev pub both_verdicts : Option Reason → Verdict → Bool → Option Reason

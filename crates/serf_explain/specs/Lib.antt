@@ -1,9 +1,11 @@
 pub mod Range
 pub mod Because
 pub mod Words
+pub mod Left
 pub mod Carried
 pub mod Seen
 pub mod HandOuts
+pub mod Leaving
 pub mod Judging
 pub mod Explained
 pub mod Noted

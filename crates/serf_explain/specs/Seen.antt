@@ -1,4 +1,4 @@
--- What is said of an event that was delivered, and ignored as seen.
+-- What is said of an event that was delivered, and ignored.
 use Rattle.std.specs.Prelude.{◌≡◌, ◌⊎◌, ℕ, ◌+◌, ◌==◌, ◌++◌, ◌&&◌, Bool, true, false, List, [], ◌∷◌, Option, Some, None, Result, Ok, codes, decimal, slice_get}
 use Rattle.std.specs.List.{list_any}
 use Rattle.std.specs.Option.{option_map}
@@ -16,6 +16,8 @@ use Rattle.serf_model.specs.Cluster.{Cluster, IdealNode}
 use Rattle.serf_model.specs.declared.line.EventLine.{EventLine}
 use Rattle.serf_model.specs.declared.line.Line.{Line}
 use Rattle.serf_model.specs.Tails.{keeps}
+use Rattle.serf_agent.specs.declared.outcome.Reason.{Reason}
+use Rattle.serf_explain.specs.Left.{IsEventLeft, events_least, first_words, numbers_in}
 use Rattle.serf_explain.specs.Words.{event_words, quoted}
 
 -- whether an event line hands this event to this agent
@@ -82,3 +84,9 @@ event_delivered sent _ = None
 abbrev pub OfSeen : List Config → List Line → List (List ℕ) → Cluster → Action → List (List ℕ) → Type 0
 OfSeen configs lines sent c action reasons = (a : ℕ) (e : TimedEntry EventBody) → event_delivered sent action ≡ Some (a, e)
     → (reason : List ℕ) × (reasons ≡ reason ∷ []) × IsSeen lines (keeps (slice_get configs a)) (name_in c a) a e.time e.key reason
+
+-- Where an action delivers an event to an agent, which is this one behind it in this cluster, its only reason says why the event was
+-- left. These were the clusters before one action after another, this one included.
+abbrev pub OfLeftEvent : Reason → List Cluster → List (List ℕ) → Cluster → Action → List (List ℕ) → Type 0
+OfLeftEvent r before sent c action reasons = (a : ℕ) (e : TimedEntry EventBody) (m : IdealNode) → event_delivered sent action ≡ Some (a, e) → slice_get c.nodes a ≡ Some m
+    → (detail : List ℕ) × (reasons ≡ (event_words e.time e.key ++ codes ": " ++ first_words r ++ detail) ∷ []) × IsEventLeft m.agent (numbers_in events_least a before) e.time e.key r detail

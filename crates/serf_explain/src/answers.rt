@@ -1,8 +1,12 @@
 //! Why an action was answered as it was.
 
+ghost use Rattle.std.specs.Prelude.{◌≡◌, ◌++◌, OnOk};
+ghost use Rattle.serf_explain.specs.Leaving.{buffers_words};
+
 use crate::hand_outs::Event;
-use crate::ignored::{put_ignored, put_subject};
-use crate::quoted::{Part, put_parts, say};
+use crate::ignored::put_ignored;
+use crate::marks::Mark;
+use crate::quoted::{Part, put_said, say};
 use crate::refusals::put_refusal;
 use crate::told::{Actor, Told, actor_at, message_of, moment_of, named, number_in};
 use serf_agent::Agent;
@@ -16,33 +20,22 @@ fn put_fired<'a>(
     out: &mut Vec<u8>,
     actor: &Actor<'a>,
     clock: &'a [u8],
-    time: u64,
-    since: u64,
+    mark: Mark,
 ) -> Result<(), AllocError> {
-    put_parts(
-        out,
-        &[
-            named(actor.agent),
-            Part::Text(b" fired it at its "),
-            Part::Text(clock),
-            Part::Text(b" clock "),
-            Part::Number(time),
-            Part::Since(since),
-        ],
-    )
+    let parts = [named(actor.agent), Part::Text(clock), Part::Mark(mark)];
+    put_said(out, b"% fired it at its % clock %", &parts)
 }
 
 /// Appends why an event that was delivered is new.
-fn put_new(out: &mut Vec<u8>, actor: &Actor) -> Result<(), AllocError> {
-    put_parts(
+fn put_new<'a>(out: &mut Vec<u8>, actor: &Actor<'a>, event: Event<'a>) -> Result<(), AllocError> {
+    put_said(
         out,
+        b"%: % takes events from time % on, its event clock was %, and it had not been handed this one",
         &[
+            Part::Event(event),
             named(actor.agent),
-            Part::Text(b" takes events from time "),
             Part::Number(actor.agent.event_minimum()),
-            Part::Text(b" on, its event clock was "),
-            Part::Number(actor.before.event_clock.value),
-            Part::Text(b", and it had not been handed this one"),
+            Part::Number(actor.before.numbers.event_clock.value),
         ],
     )
 }
@@ -63,15 +56,10 @@ fn excluding<'a>(filters: Texts<'a>, node: &[u8]) -> Option<(u64, &'a [u8])> {
 fn put_filtered(out: &mut Vec<u8>, actor: &Actor, filters: Texts) -> Result<(), AllocError> {
     match excluding(filters, actor.agent.config().name.as_slice()) {
         None => out.extend_from_slice(b", and each of its filters lets this node pass"),
-        Some((number, filter)) => put_parts(
+        Some((number, filter)) => put_said(
             out,
-            &[
-                Part::Text(b", and is not handed out: filter "),
-                Part::Number(number),
-                Part::Text(b" "),
-                Part::Quoted(filter),
-                Part::Text(b" excludes this node"),
-            ],
+            b", and is not handed out: filter % % excludes this node",
+            &[Part::Number(number), Part::Quoted(filter)],
         ),
     }
 }
@@ -82,22 +70,20 @@ fn put_new_query<'a>(
     actor: &Actor<'a>,
     query: &Query<'a>,
 ) -> Result<(), AllocError> {
-    put_parts(
+    put_said(
         out,
+        b"% % % is new to %",
         &[
             Part::Query(query.time.get(), query.id),
-            Part::Text(b" "),
             Part::Quoted(query.name),
-            Part::Text(b" "),
             Part::Quoted(query.payload),
-            Part::Text(b" is new to "),
             named(actor.agent),
         ],
     )?;
     put_filtered(out, actor, query.filters)
 }
 
-/// Appends which query an answer was counted at.
+/// Appends which query an answer was counted at, and which action fired that.
 fn put_counted(
     out: &mut Vec<u8>,
     told: &Told,
@@ -105,69 +91,47 @@ fn put_counted(
     answer: &QueryResponse,
 ) -> Result<(), AllocError> {
     let what: &[u8] = match told.line.answer {
-        Answer::Ack => b"the first ack of ",
-        _ => b"the first response of ",
+        Answer::Ack => b"ack",
+        _ => b"response",
     };
-    put_parts(
+    let query = Part::Query(answer.time, answer.id);
+    put_said(
         out,
-        &[
-            Part::Text(what),
-            Part::Quoted(answer.from),
-            Part::Text(b" to "),
-            Part::Query(answer.time, answer.id),
-        ],
+        b"the first % of % to %",
+        &[Part::Text(what), Part::Quoted(answer.from), query],
     )?;
-    put_asked(out, told, actor, answer.time)
-}
-
-/// Appends which action fired the query of a time.
-fn put_asked(out: &mut Vec<u8>, told: &Told, actor: &Actor, time: u64) -> Result<(), AllocError> {
-    match told.memory.asked_at(actor.number, time) {
-        Some(asked) => put_parts(
+    match told.past.memory.asked_at(actor.number, answer.time) {
+        Some(asked) => put_said(
             out,
-            &[
-                Part::Text(b", which "),
-                named(actor.agent),
-                Part::Text(b" asked at action "),
-                Part::Number(asked.action),
-            ],
+            b", which % asked at action %",
+            &[named(actor.agent), Part::Number(asked.action)],
         ),
         None => Ok(()),
     }
 }
 
-/// How many events the buffer of an agent has.
-fn events_held(agent: &Agent<MemSink>) -> u64 {
-    let slots = agent.slots();
-    let mut count: u64 = 0;
-    for place in 0..slots.len() {
-        match slots.get(place) {
-            Some(slot) => count = count.saturating_add(slot.held.len() as u64),
-            None => {}
-        }
-    }
-    count
+/// Appends what the buffers of an agent have, which keeps its events over a restart.
+fn put_buffers(out: &mut Vec<u8>, agent: &Agent<MemSink>) -> Result<(), AllocError>
+    ensures { OnOk result (out.new.items ≡ out.old.items ++ buffers_words agent.now.concrete) }
+{
+    say(
+        out,
+        b", and its buffers go on, events held: ",
+        agent.held_events(),
+    )?;
+    say(out, b", event clock ", agent.event_time())?;
+    say(out, b", query clock ", agent.query_time())
 }
 
-/// Appends what the buffers of an agent have, which keeps its events over a restart.
-fn put_buffers(out: &mut Vec<u8>, agent: &Agent<MemSink>) -> Result<(), AllocError> {
-    put_parts(
-        out,
-        &[
-            Part::Text(b", and its buffers go on, events held: "),
-            Part::Number(events_held(agent)),
-            Part::Text(b", event clock "),
-            Part::Number(agent.event_time()),
-            Part::Text(b", query clock "),
-            Part::Number(agent.query_time()),
-        ],
-    )
+/// Appends from which times an agent takes events and queries.
+fn put_least_times(out: &mut Vec<u8>, agent: &Agent<MemSink>) -> Result<(), AllocError> {
+    say(out, b": it takes events from ", agent.event_minimum())?;
+    say(out, b" and queries from ", agent.query_minimum())?;
+    out.extend_from_slice(b" on")
 }
 
 /// Appends what a restart found.
 fn put_restarted(out: &mut Vec<u8>, agent: &Agent<MemSink>) -> Result<(), AllocError> {
-    let events = agent.event_minimum();
-    let queries = agent.query_minimum();
     say(
         out,
         b"its snapshot keeps clock ",
@@ -176,19 +140,18 @@ fn put_restarted(out: &mut Vec<u8>, agent: &Agent<MemSink>) -> Result<(), AllocE
     if agent.config().keep_events {
         put_buffers(out, agent)?;
     } else {
-        say(out, b", event-clock ", events.saturating_sub(1))?;
-        say(out, b", query-clock ", queries.saturating_sub(1))?;
+        say(
+            out,
+            b", event-clock ",
+            agent.event_minimum().saturating_sub(1),
+        )?;
+        say(
+            out,
+            b", query-clock ",
+            agent.query_minimum().saturating_sub(1),
+        )?;
     }
-    put_parts(
-        out,
-        &[
-            Part::Text(b": it takes events from "),
-            Part::Number(events),
-            Part::Text(b" and queries from "),
-            Part::Number(queries),
-            Part::Text(b" on"),
-        ],
-    )
+    put_least_times(out, agent)
 }
 
 /// A call of a disk, in words.
@@ -206,61 +169,47 @@ fn put_broken(out: &mut Vec<u8>, actor: &Actor) -> Result<(), AllocError> {
     let Act::Break { call, count } = actor.act else {
         return Ok(());
     };
-    put_parts(
+    put_said(
         out,
+        b"of the calls from now on, % number % of the disk of % fails",
         &[
-            Part::Text(b"of the calls from now on, "),
             Part::Text(call_words(*call)),
-            Part::Text(b" number "),
             Part::Number(*count),
-            Part::Text(b" of the disk of "),
             named(actor.agent),
-            Part::Text(b" fails"),
         ],
     )
 }
 
 /// Appends what a state that was sent has.
 fn put_state(out: &mut Vec<u8>, actor: &Actor) -> Result<(), AllocError> {
-    put_parts(
+    put_said(
         out,
+        b"% sends its clock %, its event clock %, its query clock % and the events that its buffer has",
         &[
             named(actor.agent),
-            Part::Text(b" sends its clock "),
             Part::Number(actor.agent.member_time()),
-            Part::Text(b", its event clock "),
             Part::Number(actor.agent.event_time()),
-            Part::Text(b", its query clock "),
             Part::Number(actor.agent.query_time()),
-            Part::Text(b" and the events that its buffer has"),
         ],
     )
 }
 
 /// Appends which query was answered.
 fn put_replied(out: &mut Vec<u8>, actor: &Actor) -> Result<(), AllocError> {
-    put_parts(
+    put_said(
         out,
-        &[
-            named(actor.agent),
-            Part::Text(b" had query number "),
-            Part::Number(number_in(actor.act)),
-            Part::Text(b" of this life open, and its deadline is not past"),
-        ],
+        b"% had query number % of this life open, and its deadline is not past",
+        &[named(actor.agent), Part::Number(number_in(actor.act))],
     )
 }
 
 /// Appends how many queries were closed.
 fn put_closed(out: &mut Vec<u8>, actor: &Actor, count: u64) -> Result<(), AllocError> {
-    put_parts(
+    let now = Part::Number(moment_of(actor.act));
+    put_said(
         out,
-        &[
-            Part::Number(count),
-            Part::Text(b" of the open queries of "),
-            named(actor.agent),
-            Part::Text(b" had a deadline before "),
-            Part::Number(moment_of(actor.act)),
-        ],
+        b"% of the open queries of % had a deadline before %",
+        &[Part::Number(count), named(actor.agent), now],
     )
 }
 
@@ -276,14 +225,10 @@ fn put_compacted(out: &mut Vec<u8>, actor: &Actor) -> Result<(), AllocError> {
 
 /// Appends why what an agent did by itself was answered so.
 fn put_own(out: &mut Vec<u8>, told: &Told, actor: &Actor) -> Result<(), AllocError> {
-    let before = actor.before;
+    let before = actor.before.numbers;
     match told.line.answer {
-        Answer::Fired(time) => {
-            put_fired(out, actor, b"event", time.get(), before.event_clock.since)
-        }
-        Answer::Queried(time) => {
-            put_fired(out, actor, b"query", time.get(), before.query_clock.since)
-        }
+        Answer::Fired(_) => put_fired(out, actor, b"event", before.event_clock),
+        Answer::Queried(_) => put_fired(out, actor, b"query", before.query_clock),
         Answer::State => put_state(out, actor),
         Answer::Replied => put_replied(out, actor),
         Answer::Broken => put_broken(out, actor),
@@ -307,10 +252,7 @@ fn put_taken(
     message: &Message,
 ) -> Result<(), AllocError> {
     match message {
-        Message::UserEvent(event) => {
-            put_subject(out, &Event::of(event))?;
-            put_new(out, actor)
-        }
+        Message::UserEvent(event) => put_new(out, actor, Event::of(event)),
         Message::Query(query) => put_new_query(out, actor, query),
         Message::QueryResponse(answer) => put_counted(out, told, actor, answer),
         _ => Ok(()),
@@ -329,13 +271,10 @@ fn put_given(
             put_taken(out, told, actor, message)
         }
         Answer::Ignored(reason) => put_ignored(out, told, actor, message, reason),
-        Answer::Foreign(kind) => put_parts(
+        Answer::Foreign(kind) => put_said(
             out,
-            &[
-                Part::Text(b"a message of type "),
-                Part::Number(u64::from(kind)),
-                Part::Text(b" is another part's of Serf, and is not read here"),
-            ],
+            b"a message of type % is another part's of Serf, and is not read here",
+            &[Part::Number(u64::from(kind))],
         ),
         Answer::PushPull => {
             out.extend_from_slice(b"a whole state that comes as a packet is left: a merge takes it")
@@ -355,22 +294,17 @@ fn put_actor_reason(out: &mut Vec<u8>, told: &Told, actor: &Actor) -> Result<(),
 /// Appends why an action was answered so.
 pub(crate) fn put_reason(out: &mut Vec<u8>, told: &Told) -> Result<(), AllocError> {
     match told.action {
-        Action::Inject { bytes } => put_parts(
+        Action::Inject { bytes } => put_said(
             out,
-            &[
-                Part::Number(bytes.as_slice().len() as u64),
-                Part::Text(b" bytes were sent as a stranger could send them: no agent made them"),
-            ],
+            b"% bytes were sent as a stranger could send them: no agent made them",
+            &[Part::Number(bytes.as_slice().len() as u64)],
         ),
         Action::Of { agent, act } => match actor_at(told, *agent, act) {
             Some(actor) => put_actor_reason(out, told, &actor),
-            None => put_parts(
+            None => put_said(
                 out,
-                &[
-                    Part::Text(b"no agent has the number "),
-                    Part::Number(*agent),
-                    Part::Text(b": agents count from 0"),
-                ],
+                b"no agent has the number %: agents count from 0",
+                &[Part::Number(*agent)],
             ),
         },
     }

@@ -5,6 +5,7 @@ ghost use Rattle.std.specs.List.{find};
 ghost use Rattle.std.specs.Option.{option_copied};
 ghost use Rattle.serf_window.specs.Texts.{event_of};
 ghost use Rattle.serf_explain.specs.HandOuts.{IsNoted, NotedAt, is_note, note_in, note_of, notes_in};
+ghost use Rattle.serf_explain.specs.Left.{texts_told};
 
 use indexmap::IndexMap;
 use serf_model::{EventLine, Line};
@@ -31,6 +32,13 @@ impl<'a> Event<'a> {
             name: event.name,
             payload: event.payload,
         }
+    }
+
+    /// How many bytes its texts have; the number stops at 2^64 - 1.
+    pub(crate) fn bytes(&self) -> u64
+        ensures { result ≡ texts_told (event_of self.now.name.now self.now.payload.now) }
+    {
+        (self.name.len() as u64).saturating_add(self.payload.len() as u64)
     }
 }
 
@@ -208,7 +216,10 @@ impl HandOuts {
     }
 
     /// The hand-out of this event to this agent: the one at this place, if it is that, or else the last one.
-    pub(crate) fn found_near(&self, place: usize, agent: u64, event: &Event) -> Option<Found> {
+    pub(crate) fn found_near(&self, place: usize, agent: u64, event: &Event) -> Option<Found>
+        ensures { IfSome result (λ found. NotedAt (notes_in self.now.outs.items) found.action agent
+            event.now.time (event_of event.now.name.now event.now.payload.now)) }
+    {
         match self.found_at(place, agent, event) {
             Some(found) => Some(found),
             None => self.last_of(agent, event),

@@ -1,9 +1,13 @@
 //! A run so far.
 
-ghost use Rattle.std.specs.Prelude.{◌≡◌, ◌++◌, [], map, OnOk};
+ghost use Rattle.std.specs.Prelude.{◌≡◌, ◌++◌, ◌+◌, ◌∷◌, [], List, ℕ, length, map, OnOk};
+ghost use Rattle.serf_model.specs.Cluster.{Cluster, step};
+ghost use Rattle.serf_world.specs.View.{IsViewed};
 ghost use Rattle.serf_explain.specs.HandOuts.{note_of, notes_in};
+ghost use Rattle.serf_explain.specs.Leaving.{HoldMarks, first_numbers, numbers_of};
 
 use crate::hand_outs::HandOuts;
+use crate::marks::AllMarks;
 use crate::memory::Memory;
 use serf_model::{Action, Line};
 use serf_world::World;
@@ -14,30 +18,21 @@ use std::alloc::{AllocError, Global};
 #[derive(Drop)]
 pub(crate) struct History {
     pub(crate) hand_outs: HandOuts,
+    pub(crate) marks: AllMarks,
     pub(crate) memory: Memory,
 }
 
 impl History {
     /// A run of no action. Takes no memory.
     pub(crate) fn new(alloc: Global) -> History
-        ensures { notes_in result.hand_outs.outs.items ≡ [] }
+        ensures notes { notes_in result.hand_outs.outs.items ≡ [] }
+        ensures marks { (a : ℕ) → numbers_of result.marks a ≡ first_numbers }
     {
         History {
             hand_outs: HandOuts::new(alloc),
+            marks: AllMarks::new(alloc),
             memory: Memory::new(alloc),
         }
-    }
-
-    /// Remembers so many agents that have done nothing.
-    pub(crate) fn begin(
-        &mut self,
-        alloc: Global,
-        world: &World,
-        agents: u64,
-    ) -> Result<(), AllocError>
-        ensures { self.new.hand_outs ≡ self.old.hand_outs }
-    {
-        self.memory.begin(alloc, world, agents)
     }
 
     /// Remembers what came of an action.
@@ -49,10 +44,15 @@ impl History {
         action: &Action,
         line: &Line,
     ) -> Result<(), AllocError>
-        ensures { OnOk result (notes_in self.new.hand_outs.outs.items
+        ensures notes { OnOk result (notes_in self.new.hand_outs.outs.items
             ≡ notes_in self.old.hand_outs.outs.items ++ map (note_of number) line.now.events) }
+        ensures marks { (before : List Cluster) (c : Cluster) → HoldMarks before c self.old.marks
+            → IsViewed (step c action.now).cluster world.now → number ≡ length before + 1
+            → OnOk result
+            (HoldMarks (before ++ c ∷ []) (step c action.now).cluster self.new.marks) }
     {
         self.memory.note(alloc, world, number, action, line)?;
+        self.marks.note(world, number, action)?;
         self.hand_outs.note_all(alloc, number, line)
     }
 }

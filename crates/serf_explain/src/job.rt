@@ -40,10 +40,12 @@ fn output_text<T: Watch>(
 /// answer is how many actions the schedule has.
 ///
 /// At most 16,777,217 bytes are read, and nothing is written before all is read, parsed and run. The reasons of a merge
-/// say to what it raises the least time of events, if it does, and the verdict on each event, and that of a delivered
-/// event which was seen names its agent, and an earlier action that handed it out there. What else a reason says is
-/// tested, and no contract says it; but no byte of it is a control byte, or is not ASCII. The faults are those of
-/// `replay`, and come where they come there. The watch is told of each action of the run that is done.
+/// say to what it raises the least time of events, if it does, and the slot of each event and the verdict on it. That of a
+/// delivered event which was seen names its agent, and an earlier action that handed it out there. Of an event that is left
+/// otherwise, merged or delivered, it says what the agent takes then: its least time, and since which action that is so; or
+/// its clock and its buffer. What else a reason says is tested, and no clause of this call says it; but no byte of it is a
+/// control byte, or is not ASCII. The faults are those of `replay`, and come where they come there. The watch is told of
+/// each action of the run that is done.
 pub fn explain<R: Read, W: Write, T: Watch>(
     alloc: Global,
     reader: &mut R,

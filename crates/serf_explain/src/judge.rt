@@ -1,6 +1,6 @@
 //! The verdict on each event of a merge, before the merge is done.
 
-ghost use Rattle.std.specs.Prelude.{◌≡◌, ◌<◌, ◌≤◌, ◌-◌, ◌++◌, ◌∷◌, ◌&&◌, [], List, length, nat_le, map, if◌then◌else◌, IfOk, OnOk, None};
+ghost use Rattle.std.specs.Prelude.{◌≡◌, ◌<◌, ◌≤◌, ◌-◌, ◌++◌, ◌∷◌, ◌&&◌, [], List, length, nat_le, map, if◌then◌else◌, IfOk, OnOk, None, Some};
 ghost use Rattle.serf_lamport.specs.Clock.{observed};
 ghost use Rattle.serf_wire.specs.declared.texts.EventBody.{EventBody};
 ghost use Rattle.serf_wire.specs.Buffers.{slots_lent};
@@ -13,8 +13,9 @@ ghost use Rattle.serf_agent.specs.Ideal.{IdealAgent};
 ghost use Rattle.serf_agent.specs.Sound.{IsSound};
 ghost use Rattle.serf_agent.specs.States.{after_event};
 ghost use Rattle.serf_agent.specs.View.{view_of};
-ghost use Rattle.serf_explain.specs.Carried.{heard, raised_least};
-ghost use Rattle.serf_explain.specs.Judging.{IsJudging, both_verdicts};
+ghost use Rattle.serf_explain.specs.Carried.{entered_since, heard, raised_least};
+ghost use Rattle.serf_explain.specs.Judging.{IsJudging, both_verdicts, is_seen};
+ghost use Rattle.serf_explain.specs.Noted.{event_as};
 
 use crate::hand_outs::Event;
 use serf_agent::{Agent, LONGEST_TEXTS, Reason};
@@ -57,6 +58,26 @@ fn least(is_join: bool, ignore_old: bool, clock: u64) -> u64
     ensures { result ≡ if is_join && ignore_old then clock else 0 }
 {
     if is_join && ignore_old { clock } else { 0 }
+}
+
+/// The time of this number, where it is below a clock.
+fn time_below(time: u64, clock: u64) -> Option<Time>
+    ensures { time < clock → result ≡ Some time }
+{
+    match Time::new(time) {
+        Some(made) => Some(made),
+        None => None,
+    }
+}
+
+/// Whether a verdict is that the same entered before.
+fn is_seen(verdict: Verdict) -> bool
+    ensures { result ≡ is_seen verdict }
+{
+    match verdict {
+        Verdict::Seen => true,
+        Verdict::BelowMinimum | Verdict::TooOld | Verdict::TimeFull | Verdict::New => false,
+    }
 }
 
 impl Judge {
@@ -188,17 +209,21 @@ impl Judge {
     }
 
     /// Whether an event that was seen entered in the merge, and not before it.
-    pub(crate) fn took(&self, event: &Event) -> bool {
-        let Some(time) = Time::new(event.time) else {
-            return false;
-        };
-        let view = EventView {
-            name: event.name,
-            payload: event.payload,
-        };
-        match self.entered.offer(self.clock, self.minimum, time, &view) {
-            Verdict::Seen => true,
-            Verdict::BelowMinimum | Verdict::TooOld | Verdict::TimeFull | Verdict::New => false,
+    pub(crate) fn took(&self, event: &Event) -> bool
+        ensures { (i j : IdealAgent) → IsJudging i (after_event j (event_as event.now)) self.now
+            → admission j event.now.time (event_as event.now).key ≡ Some Reason.Seen
+            → result ≡ entered_since (length i.events.history) j (event_as event.now) }
+    {
+        slot_laws();
+        match time_below(event.time, self.clock) {
+            Some(time) => {
+                let view = EventView {
+                    name: event.name,
+                    payload: event.payload,
+                };
+                is_seen(self.entered.offer(self.clock, self.minimum, time, &view))
+            }
+            None => false,
         }
     }
 

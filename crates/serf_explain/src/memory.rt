@@ -1,12 +1,9 @@
-//! What is remembered of a run, so that later reasons can name earlier actions.
+//! What is remembered of queries, so that later reasons can name earlier actions.
 
 use crate::hand_outs::Moment;
-use crate::marks::Marks;
 use indexmap::IndexMap;
-use serf_agent::Agent;
 use serf_lamport::Time;
 use serf_model::{Act, Action, Answer, Line};
-use serf_snap::MemSink;
 use serf_wire::{Message, decode};
 use serf_world::World;
 use std::alloc::{AllocError, Global};
@@ -37,14 +34,15 @@ pub(crate) struct Asked {
     pub(crate) ended: Ended,
 }
 
-/// All that is remembered beside the events that were handed out.
+/// The queries of a run.
 #[derive(Drop)]
 pub(crate) struct Memory {
     /// The actions at which queries entered.
     queries: IndexMap<QueryKey, u64>,
     /// The queries that agents fired.
     asked: IndexMap<Moment, Asked>,
-    agents: Vec<Marks>,
+    /// Those of them that are open.
+    open: Vec<Moment>,
 }
 
 impl Memory {
@@ -53,27 +51,8 @@ impl Memory {
         Memory {
             queries: IndexMap::new(alloc),
             asked: IndexMap::new(alloc),
-            agents: Vec::new(alloc),
+            open: Vec::new(alloc),
         }
-    }
-
-    /// Remembers so many agents that have done nothing.
-    pub(crate) fn begin(
-        &mut self,
-        alloc: Global,
-        world: &World,
-        agents: u64,
-    ) -> Result<(), AllocError> {
-        for number in 0..agents {
-            if let Some(agent) = world.agent(number) {
-                self.agents.push(Marks::new(Vec::new(alloc), agent))?;
-            }
-        }
-        Ok(())
-    }
-
-    pub(crate) fn marks(&self, agent: u64) -> Option<&Marks> {
-        self.agents.get(agent as usize)
     }
 
     /// The action at which a query entered an agent.
@@ -100,16 +79,12 @@ impl Memory {
             action,
             ended: Ended::Not,
         };
-        if self.asked.insert(Moment { agent, time }, asked).is_err() {
+        let moment = Moment { agent, time };
+        if self.asked.insert(moment, asked).is_err() {
             return Err(AllocError);
         }
-        match self.agents.get_mut(agent as usize) {
-            Some(marks) => {
-                marks.open.push(time)?;
-                Ok(())
-            }
-            None => Ok(()),
-        }
+        self.open.push(moment)?;
+        Ok(())
     }
 
     /// Remembers which of an agent's own queries are open no more.
@@ -120,17 +95,11 @@ impl Memory {
         agent: u64,
         ended: Ended,
     ) -> Result<(), AllocError> {
-        let Some(now) = world.agent(agent) else {
-            return Ok(());
-        };
-        let Some(marks) = self.agents.get_mut(agent as usize) else {
-            return Ok(());
-        };
-        let open = mem::replace(&mut marks.open, Vec::new(alloc));
-        for time in open {
-            if is_open(now, time) {
-                marks.open.push(time)?;
-            } else if let Some(asked) = self.asked.get_mut(&Moment { agent, time }) {
+        let open = mem::replace(&mut self.open, Vec::new(alloc));
+        for moment in open {
+            if moment.agent != agent || is_open(world, moment) {
+                self.open.push(moment)?;
+            } else if let Some(asked) = self.asked.get_mut(&moment) {
                 asked.ended = ended;
             }
         }
@@ -162,31 +131,6 @@ impl Memory {
     }
 
     /// Remembers what an agent did to queries.
-    fn note_act(
-        &mut self,
-        alloc: Global,
-        world: &World,
-        number: u64,
-        agent: u64,
-        act: &Act,
-        line: &Line,
-    ) -> Result<(), AllocError> {
-        match act {
-            Act::Deliver { packet, .. } => self.note_delivery(world, number, agent, *packet, line),
-            Act::Query(query) => match line.answer {
-                Answer::Queried(time) => {
-                    self.enter(agent, time.get(), query.get().id, number)?;
-                    self.ask(agent, time.get(), number)
-                }
-                _ => Ok(()),
-            },
-            Act::Close { .. } => self.end_queries(alloc, world, agent, Ended::Closed(number)),
-            Act::Restart { .. } => self.end_queries(alloc, world, agent, Ended::Lost(number)),
-            _ => Ok(()),
-        }
-    }
-
-    /// Remembers what an action did, and looks at its agent again.
     pub(crate) fn note(
         &mut self,
         alloc: Global,
@@ -195,27 +139,30 @@ impl Memory {
         action: &Action,
         line: &Line,
     ) -> Result<(), AllocError> {
-        let Action::Of { agent: actor, act } = action else {
+        let Action::Of { agent, act } = action else {
             return Ok(());
         };
-        self.note_act(alloc, world, number, *actor, act, line)?;
-        let Some(agent) = world.agent(*actor) else {
-            return Ok(());
-        };
-        let Some(marks) = self.agents.get_mut(*actor as usize) else {
-            return Ok(());
-        };
-        marks.look(agent, number);
-        marks.plan(act, number);
-        Ok(())
+        match act {
+            Act::Deliver { packet, .. } => self.note_delivery(world, number, *agent, *packet, line),
+            Act::Query(query) => match line.answer {
+                Answer::Queried(time) => {
+                    self.enter(*agent, time.get(), query.get().id, number)?;
+                    self.ask(*agent, time.get(), number)
+                }
+                _ => Ok(()),
+            },
+            Act::Close { .. } => self.end_queries(alloc, world, *agent, Ended::Closed(number)),
+            Act::Restart { .. } => self.end_queries(alloc, world, *agent, Ended::Lost(number)),
+            _ => Ok(()),
+        }
     }
 }
 
-/// Whether an agent's own query of a time is open.
-fn is_open(agent: &Agent<MemSink>, time: u64) -> bool {
-    match Time::new(time) {
-        Some(time) => agent.open_query(time).is_some(),
-        None => false,
+/// Whether a query is open that its agent fired.
+fn is_open(world: &World, moment: Moment) -> bool {
+    match (world.agent(moment.agent), Time::new(moment.time)) {
+        (Some(agent), Some(time)) => agent.open_query(time).is_some(),
+        _ => false,
     }
 }
 

@@ -6,39 +6,25 @@ ghost use Rattle.serf_wire.specs.Message.{PushPull};
 ghost use Rattle.serf_window.specs.Texts.{event_of};
 ghost use Rattle.serf_agent.specs.Events.{admission};
 ghost use Rattle.serf_agent.specs.Ideal.{IdealAgent};
-ghost use Rattle.serf_agent.specs.Sound.{IsSound};
-ghost use Rattle.serf_agent.specs.States.{after_event, at_time, events_of, events_of_slot};
-ghost use Rattle.serf_agent.specs.View.{view_of};
-ghost use Rattle.serf_explain.specs.Carried.{carried_words, heard, slot_words, verdict_words};
-ghost use Rattle.serf_explain.specs.Judging.{AddsCarried, AddsLines, AddsState, HasJudged, IsJudging, seen_behind, seen_front};
+ghost use Rattle.serf_agent.specs.States.{after_event, at_time, events_of_slot};
+ghost use Rattle.serf_explain.specs.Carried.{Known, carried_words, heard, placed, placed_from, slot_words, verdict_words};
+ghost use Rattle.serf_explain.specs.Judging.{AddsJudged, AddsLines, AddsState, HasJudged, IsHandedIn, IsJudging, IsMerging, judge_takes, judged_detail, judged_line, seen_behind, seen_front};
+ghost use Rattle.serf_explain.specs.Noted.{event_as};
 ghost use Rattle.serf_explain.specs.Words.{stands};
 
 use crate::because::put_because;
 use crate::hand_outs::Event;
-use crate::history::History;
-use crate::ignored::{put_full, put_oversize, put_too_old};
 use crate::judge::Judge;
-use crate::marks::Marks;
-use crate::phrases::Phrases;
-use crate::quoted::{Part, put_event, put_parts, put_standing_event, say, stands};
-use crate::seen::{put_noted_words, put_tailed_words};
+use crate::left::{Takes, put_left};
+use crate::merging::Merging;
+use crate::quoted::{put_event, put_standing_event, say, stands};
+use crate::seen::put_handed;
 use serf_agent::{Agent, Reason};
 use serf_lamport::Time;
 use serf_snap::MemSink;
 use serf_text::put_number;
 use serf_wire::{EventView, EventViews, SlotView, SlotViews};
 use std::alloc::{AllocError, Global};
-
-/// A merge that is to be done: the agent and its number, what is remembered of the actions before, and the words of its
-/// lines.
-#[derive(Clone, Copy)]
-pub(crate) struct Merging<'a> {
-    pub(crate) agent_number: u64,
-    pub(crate) agent: &'a Agent<MemSink>,
-    pub(crate) before: Option<&'a Marks>,
-    pub(crate) history: &'a History,
-    pub(crate) phrases: &'a Phrases,
-}
 
 /// The hand-out that was named last, and where the next one is looked for first.
 #[derive(Clone, Copy)]
@@ -75,6 +61,7 @@ impl MergeLines {
     }
 }
 
+/// The word for what becomes of an event.
 fn verdict_word(verdict: Option<Reason>) -> &'static [u8]
     ensures { result.now ≡ verdict_words verdict }
 {
@@ -89,6 +76,7 @@ fn verdict_word(verdict: Option<Reason>) -> &'static [u8]
     }
 }
 
+/// Appends the words that name a slot.
 #[tactic(auto, unfolding(crate::specs::Carried::slot_words))]
 fn put_slot_words(out: &mut Vec<u8>, slot: u64) -> Result<(), AllocError>
     ensures { OnOk result (out.new.items ≡ out.old.items ++ slot_words slot) }
@@ -117,46 +105,44 @@ fn put_carried(
     out.extend_from_slice(detail)
 }
 
-/// Appends the least time, and since when that stands.
-fn put_least(out: &mut Vec<u8>, merging: &Merging, minimum: u64) -> Result<(), AllocError> {
-    let since = match merging.before {
-        Some(before) if before.event_minimum.value == minimum => before.event_minimum.since,
-        _ => merging.phrases.number,
-    };
-    put_parts(out, &[Part::Number(minimum), Part::Since(since)])
+/// What the agent takes of events, once this was judged.
+fn takes_of(merging: &Merging, judge: &Judge) -> Takes
+    ensures { result ≡ judge_takes merging.now judge.now }
+{
+    let config = merging.agent.config();
+    Takes {
+        least: merging.least.behind(judge.minimum, merging.number),
+        clock: judge.clock,
+        slots: config.event_buffer,
+        per_time: config.per_time,
+    }
 }
 
-/// The action that handed the agent an event that was seen: one before, or this one. None did where the agent keeps its events,
-/// and was opened on a text with the event's line.
-fn handed_at(merging: &Merging, judge: &Judge, near: &mut Near, event: &Event) -> Option<u64> {
-    let hand_outs = &merging.history.hand_outs;
-    if let Some(found) = hand_outs.found_near(near.next, merging.agent_number, event) {
-        // the events of a state were mostly handed out one after another
-        let step = found.place.saturating_sub(near.named);
-        *near = Near {
-            named: found.place,
-            next: found.place.saturating_add(step),
-        };
-        return Some(found.action);
-    }
-    if merging.agent.config().keep_events && !judge.took(event) {
-        return None;
-    }
-    Some(merging.phrases.number)
-}
-
-/// Appends what is said of an event that was seen: which action handed it to the agent; or, where none did, that the agent
-/// was opened on a text with its line.
-fn put_seen_detail(
-    out: &mut Vec<u8>,
-    merging: &Merging,
-    event: &Event,
-    handed: Option<u64>,
-) -> Result<(), AllocError> {
-    let name = merging.agent.config().name.as_slice();
-    match handed {
-        Some(action) => put_noted_words(out, name, event, action),
-        None => put_tailed_words(out, name, event),
+/// The action that handed the agent an event that was seen: one before, or this one. None did where the agent was opened
+/// on a text with the event's line.
+fn handed_at(merging: &Merging, judge: &Judge, near: &mut Near, event: &Event) -> Option<u64>
+    ensures { (i j : IdealAgent) → IsJudging i (after_event j (event_as event.now)) judge.now
+        → admission j event.now.time (event_as event.now).key ≡ Some Reason.Seen
+        → IsHandedIn i j merging.now (event_as event.now) result }
+{
+    let outs = &merging.history.hand_outs;
+    match outs.found_near(near.next, merging.agent_number, event) {
+        Some(found) => {
+            // the events of a state were mostly handed out one after another
+            let step = found.place.saturating_sub(near.named);
+            *near = Near {
+                named: found.place,
+                next: found.place.saturating_add(step),
+            };
+            Some(found.action)
+        }
+        None => {
+            if judge.took(event) {
+                Some(merging.number)
+            } else {
+                None
+            }
+        }
     }
 }
 
@@ -168,17 +154,22 @@ fn put_detail(
     event: &Event,
     verdict: Option<Reason>,
     handed: Option<u64>,
-) -> Result<(), AllocError> {
-    let config = merging.agent.config();
+) -> Result<(), AllocError>
+    ensures { OnOk result (out.new.items ≡ out.old.items
+        ++ judged_detail merging.now judge.now handed event.now.time
+        (event_of event.now.name.now event.now.payload.now) verdict) }
+{
     match verdict {
-        Some(Reason::Oversize) => put_oversize(out, event),
-        Some(Reason::BelowMinimum) => put_least(out, merging, judge.minimum),
-        Some(Reason::TooOld) => {
-            put_too_old(out, event.time, config.event_buffer, b"event", judge.clock)
-        }
-        Some(Reason::TimeFull) => put_full(out, config.per_time, event.time),
-        Some(Reason::Seen) => put_seen_detail(out, merging, event, handed),
-        _ => Ok(()),
+        Some(reason) => match reason {
+            Reason::Seen => {
+                put_handed(out, merging.agent.config().name.as_slice(), event, handed)
+            }
+            _ => {
+                let takes = takes_of(merging, judge);
+                put_left(out, &takes, b"event", event.time, event.bytes(), reason)
+            }
+        },
+        None => Ok(()),
     }
 }
 
@@ -192,15 +183,15 @@ fn add_carried(
     verdict: Option<Reason>,
     handed: Option<u64>,
 ) -> Result<(), AllocError>
-    ensures { OnOk result (AddsCarried merging.now.phrases.now.number slot event.now.time
-        (event_of event.now.name.now event.now.payload.now) verdict
-        lines.old.text.items lines.new.text.items) }
+    ensures { OnOk result (lines.new.text.items ≡ lines.old.text.items
+        ++ judged_line merging.now judge.now handed slot event.now.time
+        (event_of event.now.name.now event.now.payload.now) verdict) }
 {
     lines.detail.clear();
     put_detail(&mut lines.detail, merging, judge, event, verdict, handed)?;
     lines.reason.clear();
     put_carried(&mut lines.reason, slot, event, verdict, &lines.detail)?;
-    put_because(&mut lines.text, merging.phrases.number, &lines.reason)
+    put_because(&mut lines.text, merging.number, &lines.reason)
 }
 
 /// Appends the line of an event that was seen, up to its words.
@@ -238,24 +229,26 @@ fn put_seen_behind(
     out.extend_from_slice(b"\n")
 }
 
-/// Adds the line of an event that was seen, and whose texts stand as they are: each byte is looked at once.
+/// Adds the line of an event that was seen, whose texts, and the agent's name, stand as they are: each byte is looked at
+/// once.
 fn add_standing(
+    merging: &Merging,
     lines: &mut MergeLines,
-    phrases: &Phrases,
     slot: u64,
     event: &Event,
     action: u64,
 ) -> Result<(), AllocError>
+    requires agent { merging.now.is_plain ≡ true }
     requires name { stands event.now.name.now ≡ true }
     requires payload { stands event.now.payload.now ≡ true }
-    ensures { OnOk result (AddsCarried phrases.now.number slot event.now.time
-        (event_of event.now.name.now event.now.payload.now) (Some Reason.Seen)
-        lines.old.text.items lines.new.text.items) }
+    ensures { (judge : Judge) → OnOk result (lines.new.text.items ≡ lines.old.text.items
+        ++ judged_line merging.now judge (Some action) slot event.now.time
+        (event_of event.now.name.now event.now.payload.now) (Some Reason.Seen)) }
 {
     lines.words.clear();
     put_standing_event(&mut lines.words, event.time, event.name, event.payload)?;
-    let front = phrases.front.as_slice();
-    let named = phrases.named.as_slice();
+    let front = merging.front.as_slice();
+    let named = merging.named.as_slice();
     let words = lines.words.as_slice();
     put_seen_front(&mut lines.text, front, slot, words)?;
     put_seen_behind(&mut lines.text, named, words, action)
@@ -268,18 +261,17 @@ fn add_seen(
     lines: &mut MergeLines,
     slot: u64,
     event: &Event,
+    handed: Option<u64>,
 ) -> Result<(), AllocError>
-    ensures { OnOk result (AddsCarried merging.now.phrases.now.number slot event.now.time
-        (event_of event.now.name.now event.now.payload.now) (Some Reason.Seen)
-        lines.old.text.items lines.new.text.items) }
+    ensures { OnOk result (lines.new.text.items ≡ lines.old.text.items
+        ++ judged_line merging.now judge.now handed slot event.now.time
+        (event_of event.now.name.now event.now.payload.now) (Some Reason.Seen)) }
 {
-    let phrases = merging.phrases;
-    let is_named = phrases.named.len() != 0;
-    match handed_at(merging, judge, &mut lines.near, event) {
-        Some(action) if is_named && stands(event.name) && stands(event.payload) => {
-            add_standing(lines, phrases, slot, event, action)
+    match handed {
+        Some(action) if merging.is_plain && stands(event.name) && stands(event.payload) => {
+            add_standing(merging, lines, slot, event, action)
         }
-        handed => add_carried(
+        _ => add_carried(
             merging,
             judge,
             lines,
@@ -300,13 +292,20 @@ fn add_line(
     event: &Event,
     verdict: Option<Reason>,
 ) -> Result<(), AllocError>
-    ensures { OnOk result (AddsCarried merging.now.phrases.now.number slot event.now.time
-        (event_of event.now.name.now event.now.payload.now) verdict
+    ensures { (i j : IdealAgent) → IsJudging i (after_event j (event_as event.now)) judge.now
+        → verdict ≡ admission j event.now.time (event_as event.now).key
+        → OnOk result (AddsJudged merging.now judge.now i j slot (event_as event.now) verdict
         lines.old.text.items lines.new.text.items) }
 {
     match verdict {
-        Some(Reason::Seen) => add_seen(merging, judge, lines, slot, event),
-        _ => add_carried(merging, judge, lines, slot, event, verdict, None),
+        Some(reason) => match reason {
+            Reason::Seen => {
+                let handed = handed_at(merging, judge, &mut lines.near, event);
+                add_seen(merging, judge, lines, slot, event, handed)
+            }
+            _ => add_carried(merging, judge, lines, slot, event, Some(reason), None),
+        },
+        None => add_carried(merging, judge, lines, slot, event, None, None),
     }
 }
 
@@ -320,12 +319,12 @@ fn add_event(
     time: Time,
     event: &EventView,
 ) -> Result<(), AllocError>
-    ensures lines { (i j : IdealAgent) → IsSound i → merging.now.agent.now.concrete ≡ view_of i
+    ensures lines { (k : Known) (i j : IdealAgent) → IsMerging k i merging.now
         → IsJudging i j judge.old
-        → OnOk result (AddsLines merging.now.phrases.now.number
-        (record { time = time; key = event_of_view event.now } ∷ []) j
+        → OnOk result (AddsLines k merging.now.number
+        (placed slot (record { time = time; key = event_of_view event.now } ∷ [])) j
         lines.old.text.items lines.new.text.items) }
-    ensures judging { (i j : IdealAgent) → IsSound i → merging.now.agent.now.concrete ≡ view_of i
+    ensures judging { (k : Known) (i j : IdealAgent) → IsMerging k i merging.now
         → IsJudging i j judge.old
         → OnOk result (IsJudging i
         (after_event j (record { time = time; key = event_of_view event.now })) judge.new) }
@@ -349,10 +348,10 @@ fn add_events(
     time: Time,
     events: EventViews,
 ) -> Result<(), AllocError>
-    ensures { (i j : IdealAgent) → IsSound i → merging.now.agent.now.concrete ≡ view_of i
+    ensures { (k : Known) (i j : IdealAgent) → IsMerging k i merging.now
         → IsJudging i j judge.old
-        → OnOk result (HasJudged merging.now.phrases.now.number i j
-        (at_time time (events_left events.entry)) []
+        → OnOk result (HasJudged k merging.now.number i j
+        (placed slot (at_time time (events_left events.entry))) []
         lines.old.text.items lines.new.text.items judge.new) }
 {
     for event in events {
@@ -370,10 +369,10 @@ fn add_slot(
     slot: u64,
     content: &SlotView,
 ) -> Result<(), AllocError>
-    ensures { (i j : IdealAgent) → IsSound i → merging.now.agent.now.concrete ≡ view_of i
+    ensures { (k : Known) (i j : IdealAgent) → IsMerging k i merging.now
         → IsJudging i j judge.old
-        → OnOk result (HasJudged merging.now.phrases.now.number i j
-        (events_of_slot (slot_of_view content.now)) []
+        → OnOk result (HasJudged k merging.now.number i j
+        (placed slot (events_of_slot (slot_of_view content.now))) []
         lines.old.text.items lines.new.text.items judge.new) }
 {
     match *content {
@@ -396,10 +395,10 @@ fn add_slots(
     lines: &mut MergeLines,
     slots: SlotViews,
 ) -> Result<(), AllocError>
-    ensures { (i j : IdealAgent) → IsSound i → merging.now.agent.now.concrete ≡ view_of i
+    ensures { (k : Known) (i j : IdealAgent) → IsMerging k i merging.now
         → IsJudging i j judge.old
-        → OnOk result (HasJudged merging.now.phrases.now.number i j
-        (events_of (slots_left slots.entry)) []
+        → OnOk result (HasJudged k merging.now.number i j
+        (placed_from 0 (slots_left slots.entry)) []
         lines.old.text.items lines.new.text.items judge.new) }
 {
     let mut slot: u64 = 0;
@@ -410,8 +409,8 @@ fn add_slots(
     Ok(())
 }
 
-/// Adds a line for each event that a state carries, in its order, where it is merged on a disk that works; and finds whether the
-/// merge raises the least time of events.
+/// Adds a line for each event that a state carries, in its order, where it is merged on a disk that works; and finds
+/// whether the merge raises the least time of events.
 #[tactic(auto, using(crate::proofs::CarriedLaws::adds_state))]
 pub(crate) fn add_carried_lines(
     alloc: Global,
@@ -421,10 +420,10 @@ pub(crate) fn add_carried_lines(
     is_join: bool,
     lines: &mut MergeLines,
 ) -> Result<(), AllocError>
-    ensures { (i : IdealAgent) (m : PushPull) → IsSound i
-        → merging.now.agent.now.concrete ≡ view_of i → m.event_clock ≡ event_clock
+    ensures { (k : Known) (i : IdealAgent) (m : PushPull)
+        → IsMerging k i merging.now → m.event_clock ≡ event_clock
         → m.slots ≡ slots_left slots.entry
-        → OnOk result (AddsState merging.now.phrases.now.number (events_of m.slots)
+        → OnOk result (AddsState k merging.now.number (placed_from 0 m.slots)
         i (heard m is_join i) lines.new.raised lines.old.text.items lines.new.text.items) }
 {
     let mut judge = Judge::new(alloc, merging.agent, event_clock, is_join)?;

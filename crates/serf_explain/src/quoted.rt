@@ -7,7 +7,9 @@ ghost use Rattle.serf_explain.specs.Words.{event_words, front_quoted, is_plain, 
 
 use crate::because::{is_printable, put_byte};
 use crate::hand_outs::Event;
-use serf_text::{put_hex, put_number};
+use crate::left::put_mark;
+use crate::marks::Mark;
+use serf_text::{cut, put_hex, put_number};
 use std::alloc::AllocError;
 
 /// The most bytes of a text that are shown whole.
@@ -44,6 +46,7 @@ fn is_plain(byte: u8) -> bool
     is_printable(byte) && byte != b'"' && byte != b'\\'
 }
 
+/// Whether bytes are printed as they are: letters, digits and some signs.
 fn are_plain(bytes: &[u8]) -> bool
     ensures { result ≡ list_all is_plain bytes.now }
 {
@@ -63,6 +66,7 @@ fn put_quoted_bytes(out: &mut Vec<u8>, bytes: &[u8]) -> Result<(), AllocError>
     Ok(())
 }
 
+/// Appends a text as a whole.
 #[tactic(auto, unfolding(crate::specs::Words::whole_quoted))]
 fn put_whole(out: &mut Vec<u8>, text: &[u8]) -> Result<(), AllocError>
     ensures { OnOk result (out.new.items ≡ out.old.items ++ whole_quoted text.now) }
@@ -72,6 +76,7 @@ fn put_whole(out: &mut Vec<u8>, text: &[u8]) -> Result<(), AllocError>
     out.extend_from_slice(b"\"")
 }
 
+/// Appends the front of a text that is too long to be printed.
 #[tactic(auto, unfolding(crate::specs::Words::front_quoted))]
 fn put_front(out: &mut Vec<u8>, text: &[u8]) -> Result<(), AllocError>
     requires { 64 < length text.now }
@@ -120,6 +125,7 @@ pub(crate) fn stands(text: &[u8]) -> bool
     text.len() <= WHOLE && are_plain(text)
 }
 
+/// Appends the name and the payload of an event that stands in the buffer.
 #[tactic(auto, unfolding(crate::specs::Words::standing_texts))]
 fn put_standing_texts(out: &mut Vec<u8>, name: &[u8], payload: &[u8]) -> Result<(), AllocError>
     ensures { OnOk result (out.new.items ≡ out.old.items ++ standing_texts name.now payload.now) }
@@ -157,8 +163,8 @@ pub(crate) enum Part<'a> {
     Event(Event<'a>),
     /// `query 3 with ID 7`: its time and its ID.
     Query(u64, u32),
-    /// Since which action something stands; the 0th is the start.
-    Since(u64),
+    /// A number, and since which action it stands.
+    Mark(Mark),
 }
 
 fn put_query(out: &mut Vec<u8>, time: u64, id: u32) -> Result<(), AllocError> {
@@ -173,15 +179,18 @@ fn put_part(out: &mut Vec<u8>, part: &Part) -> Result<(), AllocError> {
         Part::Quoted(text) => put_quoted(out, text),
         Part::Event(event) => put_event(out, event.time, event.name, event.payload),
         Part::Query(time, id) => put_query(out, time, id),
-        Part::Since(0) => out.extend_from_slice(b", which stands since the start"),
-        Part::Since(action) => say(out, b", which stands since action ", action),
+        Part::Mark(mark) => put_mark(out, &mark),
     }
 }
 
-/// Appends parts, one after another.
-pub(crate) fn put_parts(out: &mut Vec<u8>, parts: &[Part]) -> Result<(), AllocError> {
+/// Appends a text, in which each `%` stands for the next of these parts.
+pub(crate) fn put_said(out: &mut Vec<u8>, text: &[u8], parts: &[Part]) -> Result<(), AllocError> {
+    let mut rest = text;
     for part in parts {
+        let (front, behind) = cut(rest, b'%');
+        out.extend_from_slice(front)?;
         put_part(out, part)?;
+        rest = behind.unwrap_or(b"");
     }
-    Ok(())
+    out.extend_from_slice(rest)
 }

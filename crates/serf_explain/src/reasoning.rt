@@ -5,7 +5,6 @@ ghost use Rattle.std.specs.List.{flat_map};
 ghost use Rattle.serf_agent.specs.declared.config.Config.{Config};
 ghost use Rattle.serf_explain.specs.Because.{because_line};
 ghost use Rattle.serf_explain.specs.Explained.{AddsTurn, TellsAll};
-ghost use Rattle.serf_explain.specs.HandOuts.{notes_in};
 ghost use Rattle.serf_explain.specs.Reasoned.{Reasoned};
 
 use crate::history::History;
@@ -22,10 +21,10 @@ use std::alloc::{AllocError, Global};
 fn put_turn(alloc: Global, out: &mut Vec<u8>, is_shown: bool, told: &Told) -> Result<(), AllocError>
     ensures { (carried : List (List ℕ))
         → told.now.carried.now ≡ flat_map (because_line told.now.number) carried
-        → OnOk result (AddsTurn (TellsAll is_shown told.now.raised carried
-        (notes_in told.now.past.now.outs.items) told.now.world.now told.now.action.now
-        told.now.line.now) is_shown told.now.world.now.sent told.now.number
-        told.now.line.now out.old.items out.new.items) }
+        → OnOk result (AddsTurn (TellsAll is_shown told.now.raised carried told.now.past.now
+        told.now.number told.now.world.now told.now.action.now told.now.line.now) is_shown
+        told.now.world.now.sent told.now.number told.now.line.now
+        out.old.items out.new.items) }
 {
     if !is_shown {
         return Ok(());
@@ -75,8 +74,8 @@ impl Turns for Reasoning {
 
     ghost streams = { λ range. range ≡ all_actions };
 
-    fn begin(&mut self, alloc: Global, world: &World, agents: u64) -> Result<(), AllocError> {
-        self.history.begin(alloc, world, agents)
+    fn begin(&mut self, _alloc: Global, _world: &World, _agents: u64) -> Result<(), AllocError> {
+        Ok(())
     }
 
     fn look(
@@ -105,8 +104,7 @@ impl Turns for Reasoning {
         let told = Told {
             number,
             world,
-            memory: &self.history.memory,
-            past: &self.history.hand_outs,
+            past: &self.history,
             action,
             line: &line,
             raised: self.lines.raised,

@@ -1,6 +1,6 @@
 //! The reasons of an action.
 
-ghost use Rattle.std.specs.Prelude.{◌≡◌, ◌++◌, [], true, Ok, OnOk, List, ℕ};
+ghost use Rattle.std.specs.Prelude.{◌≡◌, ◌+◌, ◌++◌, ◌∷◌, [], true, Ok, OnOk, List, ℕ, length};
 ghost use Rattle.std.specs.List.{flat_map};
 ghost use Rattle.serf_wire.specs.Decoded.{decoded};
 ghost use Rattle.serf_wire.specs.Message.{message_of};
@@ -8,27 +8,29 @@ ghost use Rattle.serf_agent.specs.Sound.{IsSound};
 ghost use Rattle.serf_agent.specs.View.{view_of};
 ghost use Rattle.serf_agent.specs.Ideal.{IdealAgent};
 ghost use Rattle.serf_model.specs.Cluster.{Cluster};
+ghost use Rattle.serf_model.specs.declared.line.Line.{Line};
 ghost use Rattle.serf_model.specs.Ready.{AreRepresentable};
 ghost use Rattle.serf_world.specs.View.{IsViewed};
 ghost use Rattle.serf_explain.specs.Because.{AddsReasons, AddsSome, AddsSuch, because_line};
-ghost use Rattle.serf_explain.specs.Carried.{TellsMerged, raised_reasons, raised_words};
+ghost use Rattle.serf_explain.specs.Carried.{Known, TellsMerged, raised_reasons};
 ghost use Rattle.serf_explain.specs.Explained.{TellsAll};
-ghost use Rattle.serf_explain.specs.HandOuts.{notes_in};
-ghost use Rattle.serf_explain.specs.Judging.{AddsMerge, TellsText, merged_of};
+ghost use Rattle.serf_explain.specs.HandOuts.{notes_from, notes_in};
+ghost use Rattle.serf_explain.specs.Judging.{AddsMerge, IsMerging, TellsText, merged_of};
+ghost use Rattle.serf_explain.specs.Leaving.{HoldMarks, IsMark, numbers_of};
 
 use crate::answers::put_reason;
 use crate::because::put_because;
 use crate::history::History;
-use crate::merges::{MergeLines, Merging, add_carried_lines};
-use crate::phrases::Phrases;
-use crate::quoted::{Part, put_parts, say};
+use crate::merges::{MergeLines, add_carried_lines};
+use crate::merging::Merging;
+use crate::quoted::say;
 use crate::refusals::put_sink_fault;
-use crate::seen::put_seen;
+use crate::seen::put_delivery_ignored;
 use crate::told::{Actor, Told, actor_at, message_of};
-use serf_agent::{Agent, Reason};
+use serf_agent::Agent;
 use serf_model::{Act, Action, Answer, Refusal, packet_at};
 use serf_snap::MemSink;
-use serf_text::{cut, put_number};
+use serf_text::cut;
 use serf_wire::{Message, decode};
 use serf_world::World;
 use std::alloc::{AllocError, Global};
@@ -47,8 +49,8 @@ fn add_message(
     is_join: bool,
     lines: &mut MergeLines,
 ) -> Result<(), AllocError>
-    ensures { (i : IdealAgent) → IsSound i → merging.now.agent.now.concrete ≡ view_of i
-        → OnOk result (AddsMerge merging.now.phrases.now.number i is_join
+    ensures { (k : Known) (i : IdealAgent) → IsMerging k i merging.now
+        → OnOk result (AddsMerge k merging.now.number i is_join
         (Ok (message_of message.now)) lines.new.raised
         lines.old.text.items lines.new.text.items) }
 {
@@ -72,8 +74,9 @@ fn add_packet(
     is_join: bool,
     lines: &mut MergeLines,
 ) -> Result<(), AllocError>
-    ensures { (i : IdealAgent) → IsSound i → merging.now.agent.now.concrete ≡ view_of i
-        → OnOk result (AddsMerge merging.now.phrases.now.number i is_join (decoded packet.now)
+    ensures { (k : Known) (i : IdealAgent) → IsMerging k i merging.now
+        → OnOk result
+        (AddsMerge k merging.now.number i is_join (decoded packet.now)
         lines.new.raised lines.old.text.items lines.new.text.items) }
 {
     match decode(packet) {
@@ -93,18 +96,20 @@ fn add_merge(
     is_join: bool,
     lines: &mut MergeLines,
 ) -> Result<(), AllocError>
-    ensures { (i : IdealAgent) → IsSound i → agent.now.concrete ≡ view_of i
-        → OnOk result (AddsMerge number i is_join (decoded packet.now)
-        lines.new.raised lines.old.text.items lines.new.text.items) }
+    ensures { (before : List ℕ) (n : ℕ) (i : IdealAgent) (earlier : List Line) → IsSound i
+        → agent.now.concrete ≡ view_of i
+        → IsMark before n (numbers_of history.now.marks agent_number).event_minimum
+        → notes_in history.now.hand_outs.outs.items ≡ notes_from 1 earlier
+        → number ≡ length before + 1 → number ≡ length earlier + 1
+        → OnOk result (AddsMerge (record {
+          agent = agent_number;
+          before = before ++ n ∷ [];
+          lines = earlier;
+          entered = length i.events.history;
+        }) number i is_join
+        (decoded packet.now) lines.new.raised lines.old.text.items lines.new.text.items) }
 {
-    let phrases = Phrases::new(alloc, number, agent)?;
-    let merging = Merging {
-        agent_number,
-        agent,
-        before: history.memory.marks(agent_number),
-        history,
-        phrases: &phrases,
-    };
+    let merging = Merging::new(alloc, history, number, agent_number, agent)?;
     add_packet(alloc, &merging, packet, is_join, lines)
 }
 
@@ -119,8 +124,12 @@ fn add_merge_at(
     join: bool,
     lines: &mut MergeLines,
 ) -> Result<(), AllocError>
-    ensures { (c : Cluster) → IsViewed c world.now → AreRepresentable c → lines.old.text.items ≡ []
-        → OnOk result (TellsText number c (Action.Of agent (Act.Merge packet join))
+    ensures { (earlier : List Line) (before : List Cluster) (c : Cluster) → IsViewed c world.now
+        → AreRepresentable c → HoldMarks before c history.now.marks
+        → notes_in history.now.hand_outs.outs.items ≡ notes_from 1 earlier
+        → number ≡ length before + 1 → number ≡ length earlier + 1
+        → lines.old.text.items ≡ [] → OnOk result
+        (TellsText number earlier (before ++ c ∷ []) c (Action.Of agent (Act.Merge packet join))
         lines.new.raised lines.new.text.items) }
 {
     match world.agent(agent) {
@@ -133,6 +142,7 @@ fn add_merge_at(
 }
 
 /// Makes the lines of what is said of each event of a state that is to be merged; none of any other action.
+#[tactic(auto, using(crate::proofs::MergeLaws::told_of))]
 pub(crate) fn lines_before(
     alloc: Global,
     world: &World,
@@ -141,17 +151,23 @@ pub(crate) fn lines_before(
     action: &Action,
     lines: &mut MergeLines,
 ) -> Result<(), AllocError>
-    ensures { (c : Cluster) → IsViewed c world.now → AreRepresentable c
-        → OnOk result (TellsText number c action.now lines.new.raised lines.new.text.items) }
+    ensures { (earlier : List Line) (before : List Cluster) (c : Cluster) → IsViewed c world.now
+        → AreRepresentable c → HoldMarks before c history.now.marks
+        → notes_in history.now.hand_outs.outs.items ≡ notes_from 1 earlier
+        → number ≡ length before + 1 → number ≡ length earlier + 1 → OnOk result
+        (TellsText number earlier (before ++ c ∷ []) c action.now lines.new.raised
+        lines.new.text.items) }
 {
     lines.text.clear();
     lines.raised = None;
     match action {
-        Action::Of {
-            agent,
-            act: Act::Merge { packet, join },
-        } => add_merge_at(alloc, world, history, number, *agent, *packet, *join, lines),
-        _ => Ok(()),
+        Action::Of { agent, act } => match act {
+            Act::Merge { packet, join } => {
+                add_merge_at(alloc, world, history, number, *agent, *packet, *join, lines)
+            }
+            _ => Ok(()),
+        },
+        Action::Inject { .. } => Ok(()),
     }
 }
 
@@ -171,31 +187,26 @@ pub(crate) fn put_lone(alloc: Global, out: &mut Vec<u8>, told: &Told) -> Result<
     put_one(out, told.number, reason.as_slice())
 }
 
-/// Appends the line that says to what a join raises the least time: each byte of it stands as it is.
-fn put_least_line(out: &mut Vec<u8>, number: u64, least: u64) -> Result<(), AllocError>
-    ensures { OnOk result (out.new.items
-        ≡ out.old.items ++ because_line number (raised_words least)) }
-{
-    put_number(out, number)?;
-    out.extend_from_slice(b" because ")?;
-    say(
-        out,
-        b"the join ignores old events: the least time rises to ",
-        least,
-    )?;
-    out.extend_from_slice(b"\n")?;
-    Ok(())
-}
-
-/// Appends that line, where the least time is raised.
-fn put_raised(out: &mut Vec<u8>, number: u64, raised: Option<u64>) -> Result<(), AllocError>
+/// Appends the line that says to what a join raises the least time of events, where it does.
+fn put_raised(
+    alloc: Global,
+    out: &mut Vec<u8>,
+    number: u64,
+    raised: Option<u64>,
+) -> Result<(), AllocError>
     ensures { OnOk result (out.new.items
         ≡ out.old.items ++ flat_map (because_line number) (raised_reasons raised)) }
 {
-    match raised {
-        Some(least) => put_least_line(out, number, least),
-        None => Ok(()),
-    }
+    let Some(least) = raised else {
+        return Ok(());
+    };
+    let mut reason = Vec::with_capacity(alloc, USUAL_BYTES)?;
+    say(
+        &mut reason,
+        b"the join ignores old events: the least time rises to ",
+        least,
+    )?;
+    put_because(out, number, &reason)
 }
 
 /// Appends the lines of what is said of the events that a merged state carries; a line that says so where it carries none.
@@ -214,6 +225,7 @@ fn put_events(out: &mut Vec<u8>, number: u64, lines: &[u8]) -> Result<(), AllocE
 /// Appends the lines of a state that was merged: that of the least time, where it is raised, and those of its events.
 #[tactic(auto, using(crate::proofs::CarriedLaws::adds_merged))]
 fn put_merged(
+    alloc: Global,
     out: &mut Vec<u8>,
     number: u64,
     raised: Option<u64>,
@@ -222,7 +234,7 @@ fn put_merged(
     ensures { (carried : List (List ℕ)) → lines.now ≡ flat_map (because_line number) carried
         → OnOk result (AddsSuch (TellsMerged raised carried) number out.old.items out.new.items) }
 {
-    put_raised(out, number, raised)?;
+    put_raised(alloc, out, number, raised)?;
     put_events(out, number, lines)
 }
 
@@ -304,14 +316,12 @@ fn unheard_least(told: &Told, actor: &Actor) -> Option<u64> {
 /// What is said where nothing of a state was heard of, since the line of this least time failed.
 fn unheard_reason(alloc: Global, actor: &Actor, least: u64) -> Result<Vec<u8>, AllocError> {
     let mut reason = Vec::with_capacity(alloc, USUAL_BYTES)?;
-    put_parts(
+    say(
         &mut reason,
-        &[
-            Part::Text(b"nothing of the state was heard of: at the line of the least time "),
-            Part::Number(least),
-            Part::Text(b" "),
-        ],
+        b"nothing of the state was heard of: at the line of the least time ",
+        least,
     )?;
+    reason.extend_from_slice(b" ")?;
     put_sink_fault(&mut reason, actor)?;
     Ok(reason)
 }
@@ -333,7 +343,7 @@ fn put_broken_merge(
             put_one(out, told.number, &reason)
         }
         None => {
-            put_raised(out, told.number, told.raised)?;
+            put_raised(alloc, out, told.number, told.raised)?;
             put_failed_merge(alloc, out, told, actor)
         }
     }
@@ -361,17 +371,17 @@ fn put_unmerged(alloc: Global, out: &mut Vec<u8>, told: &Told) -> Result<(), All
 }
 
 /// Appends a line for each reason of an action: one at least.
+#[tactic(auto, using(crate::proofs::LeftLaws::tells_ignored))]
 pub(crate) fn put_reasons(alloc: Global, out: &mut Vec<u8>, told: &Told) -> Result<(), AllocError>
     ensures { (carried : List (List ℕ))
         → told.now.carried.now ≡ flat_map (because_line told.now.number) carried
-        → OnOk result (AddsSuch (TellsAll true told.now.raised carried
-        (notes_in told.now.past.now.outs.items)
-        told.now.world.now told.now.action.now told.now.line.now)
+        → OnOk result (AddsSuch (TellsAll true told.now.raised carried told.now.past.now
+        told.now.number told.now.world.now told.now.action.now told.now.line.now)
         told.now.number out.old.items out.new.items) }
 {
     match told.line.answer {
-        Answer::Merged => put_merged(out, told.number, told.raised, told.carried),
-        Answer::Ignored(Reason::Seen) => put_seen(alloc, out, told),
+        Answer::Merged => put_merged(alloc, out, told.number, told.raised, told.carried),
+        Answer::Ignored(reason) => put_delivery_ignored(alloc, out, told, reason),
         _ => put_unmerged(alloc, out, told),
     }
 }

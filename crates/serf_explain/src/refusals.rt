@@ -1,7 +1,7 @@
 //! Why an action is refused.
 
 use crate::marks::Plan;
-use crate::quoted::{Part, put_parts, say};
+use crate::quoted::{Part, put_said, say};
 use crate::told::{Actor, Told, message_of, moment_of, named, number_in, packet_len};
 use serf_lamport::Time;
 use serf_model::{Act, Refusal};
@@ -42,14 +42,8 @@ fn put_event_sizes(
     if let Some(packet) = packet_size(actor, name, payload, coalesce) {
         say(out, b" bytes together, and the packet ", packet)?;
     }
-    put_parts(
-        out,
-        &[
-            Part::Text(b"; at most "),
-            Part::Number(actor.agent.config().event_limit),
-            Part::Text(b" may be fired"),
-        ],
-    )
+    say(out, b"; at most ", actor.agent.config().event_limit)?;
+    out.extend_from_slice(b" may be fired")
 }
 
 /// Appends which disk call failed, and which action planned that.
@@ -58,16 +52,9 @@ fn put_plan(out: &mut Vec<u8>, call: &[u8], plan: Plan) -> Result<(), AllocError
     if plan.count == 0 {
         return Ok(());
     }
-    put_parts(
-        out,
-        &[
-            Part::Text(b", as action "),
-            Part::Number(plan.action),
-            Part::Text(b" had planned of number "),
-            Part::Number(plan.count),
-            Part::Text(b" from then on"),
-        ],
-    )
+    say(out, b", as action ", plan.action)?;
+    say(out, b" had planned of number ", plan.count)?;
+    out.extend_from_slice(b" from then on")
 }
 
 /// Appends at which call for an append the disk failed.
@@ -85,7 +72,7 @@ fn put_failed_append(out: &mut Vec<u8>, actor: &Actor) -> Result<(), AllocError>
 
 /// Appends at which call the disk failed.
 pub(crate) fn put_sink_fault(out: &mut Vec<u8>, actor: &Actor) -> Result<(), AllocError> {
-    put_parts(out, &[Part::Text(b"the disk of "), named(actor.agent)])?;
+    put_said(out, b"the disk of %", &[named(actor.agent)])?;
     match actor.act {
         Act::Compact => put_plan(out, b" failed at a replace", actor.before.replace)?,
         _ => put_failed_append(out, actor)?,
@@ -95,15 +82,10 @@ pub(crate) fn put_sink_fault(out: &mut Vec<u8>, actor: &Actor) -> Result<(), All
 
 /// Appends why an agent that is stopped does nothing.
 fn put_stopped(out: &mut Vec<u8>, actor: &Actor) -> Result<(), AllocError> {
-    put_parts(
+    put_said(
         out,
-        &[
-            Part::Text(b"the disk of "),
-            named(actor.agent),
-            Part::Text(b" failed at action "),
-            Part::Number(actor.before.stopped),
-            Part::Text(b", and it was not opened again since"),
-        ],
+        b"the disk of % failed at action %, and it was not opened again since",
+        &[named(actor.agent), Part::Number(actor.before.stopped)],
     )
 }
 
@@ -115,13 +97,10 @@ fn put_not_push_pull(out: &mut Vec<u8>, told: &Told) -> Result<(), AllocError> {
         Some(Message::QueryResponse(_)) => b"an answer to a query",
         _ => b"a message of another part of Serf",
     };
-    put_parts(
+    put_said(
         out,
-        &[
-            Part::Text(b"the packet is "),
-            Part::Text(kind),
-            Part::Text(b", and only a whole state is merged"),
-        ],
+        b"the packet is %, and only a whole state is merged",
+        &[Part::Text(kind)],
     )
 }
 
@@ -129,40 +108,17 @@ fn put_not_push_pull(out: &mut Vec<u8>, told: &Told) -> Result<(), AllocError> {
 fn put_responders(out: &mut Vec<u8>, told: &Told, actor: &Actor) -> Result<(), AllocError> {
     let counted = actor.agent.config().responders;
     match message_of(told) {
-        Some(Message::QueryResponse(answer)) => put_parts(
+        Some(Message::QueryResponse(answer)) => put_said(
             out,
+            b"% has answers of % nodes, as many as are counted; % is one more",
             &[
                 Part::Query(answer.time, answer.id),
-                Part::Text(b" has answers of "),
                 Part::Number(counted),
-                Part::Text(b" nodes, as many as are counted; "),
                 Part::Quoted(answer.from),
-                Part::Text(b" is one more"),
             ],
         ),
         _ => say(out, b"as many are counted as may be: ", counted),
     }
-}
-
-/// Appends that a packet would be longer than the agent's limit: what it is, and how many bytes its texts have.
-fn put_longer<'a>(
-    out: &mut Vec<u8>,
-    what: &'a [u8],
-    bytes: u64,
-    behind: &'a [u8],
-    limit: u64,
-) -> Result<(), AllocError> {
-    put_parts(
-        out,
-        &[
-            Part::Text(what),
-            Part::Number(bytes),
-            Part::Text(behind),
-            Part::Text(b" is longer than "),
-            Part::Number(limit),
-            Part::Text(b" bytes"),
-        ],
-    )
 }
 
 /// Appends why an event or a query isn't fired, or a query isn't answered, for its size.
@@ -178,13 +134,19 @@ fn put_too_large(out: &mut Vec<u8>, actor: &Actor) -> Result<(), AllocError> {
             let query = query.get();
             let name = query.name.as_slice().len() as u64;
             let texts = name.saturating_add(query.payload.as_slice().len() as u64);
-            let what = b"the query's packet, whose name and payload have ";
-            put_longer(out, what, texts, b" bytes together,", config.query_limit)
+            put_said(
+                out,
+                b"the query's packet, whose name and payload have % bytes together, is longer than % bytes",
+                &[Part::Number(texts), Part::Number(config.query_limit)],
+            )
         }
         Act::Respond { payload, .. } => {
             let bytes = payload.as_slice().len() as u64;
-            let what = b"the answer's packet, whose payload has ";
-            put_longer(out, what, bytes, b" bytes,", config.response_limit)
+            put_said(
+                out,
+                b"the answer's packet, whose payload has % bytes, is longer than % bytes",
+                &[Part::Number(bytes), Part::Number(config.response_limit)],
+            )
         }
         _ => out.extend_from_slice(b"the packet is too long"),
     }
@@ -192,40 +154,29 @@ fn put_too_large(out: &mut Vec<u8>, actor: &Actor) -> Result<(), AllocError> {
 
 /// Appends which number the schedule has no packet of.
 fn put_no_message(out: &mut Vec<u8>, told: &Told, actor: &Actor) -> Result<(), AllocError> {
-    put_parts(
+    let sent = told.world.sent().len() as u64;
+    put_said(
         out,
-        &[
-            Part::Text(b"no packet has the number "),
-            Part::Number(number_in(actor.act)),
-            Part::Text(b": so many were sent, counted from 0: "),
-            Part::Number(told.world.sent().len() as u64),
-        ],
+        b"no packet has the number %: so many were sent, counted from 0: %",
+        &[Part::Number(number_in(actor.act)), Part::Number(sent)],
     )
 }
 
 /// Appends why a query can't be answered.
 fn put_no_query(out: &mut Vec<u8>, actor: &Actor) -> Result<(), AllocError> {
-    put_parts(
+    put_said(
         out,
-        &[
-            Part::Text(b"no query of number "),
-            Part::Number(number_in(actor.act)),
-            Part::Text(b" was handed to "),
-            named(actor.agent),
-            Part::Text(b" in this life, or it is answered"),
-        ],
+        b"no query of number % was handed to % in this life, or it is answered",
+        &[Part::Number(number_in(actor.act)), named(actor.agent)],
     )
 }
 
 /// Appends that a packet spells no message.
 fn put_no_spelling(out: &mut Vec<u8>, told: &Told) -> Result<(), AllocError> {
-    put_parts(
+    put_said(
         out,
-        &[
-            Part::Text(b"its "),
-            Part::Number(packet_len(told)),
-            Part::Text(b" bytes spell no message: the fault and its place stand in the line above"),
-        ],
+        b"its % bytes spell no message: the fault and its place stand in the line above",
+        &[Part::Number(packet_len(told))],
     )
 }
 

@@ -1,21 +1,26 @@
-//! What is said of an event that was delivered, and ignored as seen.
+//! What is said of an event that was delivered, and ignored.
 
-ghost use Rattle.std.specs.Prelude.{◌≡◌, ◌++◌, ◌∷◌, [], ℕ, List, Ok, OnOk, IfOk};
+ghost use Rattle.std.specs.Prelude.{◌≡◌, ◌++◌, ◌∷◌, [], ℕ, List, Ok, OnOk};
 ghost use Rattle.std.specs.Option.{option_map};
 ghost use Rattle.serf_wire.specs.Decoded.{decoded};
 ghost use Rattle.serf_wire.specs.Message.{message_of};
 ghost use Rattle.serf_window.specs.Texts.{event_of};
-ghost use Rattle.serf_explain.specs.Because.{AddsSuch};
+ghost use Rattle.serf_explain.specs.Because.{AddsSuch, GrowsBy};
+ghost use Rattle.serf_explain.specs.Explained.{IsIgnored, OfIgnored};
+ghost use Rattle.serf_explain.specs.HandOuts.{NamesSeen, handed_words, name_at, notes_in};
+ghost use Rattle.serf_explain.specs.Leaving.{ignored_words, numbers_of, takes_events};
 ghost use Rattle.serf_explain.specs.Noted.{delivered_as, event_as};
-ghost use Rattle.serf_explain.specs.HandOuts.{NamesSeen, OfNoted, name_at, noted_words, notes_in};
-ghost use Rattle.serf_explain.specs.Seen.{event_delivered, event_read, tailed_words};
+ghost use Rattle.serf_explain.specs.Seen.{event_delivered, event_read};
 
 use crate::because::put_because;
 use crate::hand_outs::Event;
+use crate::left::{Takes, first_words, put_left};
 use crate::quoted::{put_event, put_quoted, say};
 use crate::reasons::{USUAL_BYTES, put_lone};
 use crate::told::Told;
+use serf_agent::{Agent, Reason};
 use serf_model::{Act, Action, packet_at};
+use serf_snap::MemSink;
 use serf_wire::{Message, decode};
 use std::alloc::{AllocError, Global};
 
@@ -65,36 +70,29 @@ fn seen_event<'a>(told: &Told<'a>) -> Option<Delivered<'a>>
     Some(Delivered { to: *agent, event })
 }
 
-/// Appends which action handed an event to an agent of this name.
-#[tactic(auto, unfolding(crate::specs::HandOuts::noted_words))]
-pub(crate) fn put_noted_words(
+/// Appends which action handed an event to an agent of this name; or that the agent was opened on a text with its line.
+#[tactic(auto, unfolding(crate::specs::HandOuts::handed_words, crate::specs::Seen::tailed_words))]
+pub(crate) fn put_handed(
     out: &mut Vec<u8>,
     name: &[u8],
     event: &Event,
-    number: u64,
+    handed: Option<u64>,
 ) -> Result<(), AllocError>
-    ensures { OnOk result (out.new.items ≡ out.old.items ++ noted_words name.now event.now.time
-        (event_of event.now.name.now event.now.payload.now) number) }
+    ensures { OnOk result (out.new.items ≡ out.old.items ++ handed_words name.now event.now.time
+        (event_of event.now.name.now event.now.payload.now) handed) }
 {
     put_quoted(out, name)?;
-    out.extend_from_slice(b" was handed ")?;
-    put_event(out, event.time, event.name, event.payload)?;
-    say(out, b" at action ", number)
-}
-
-/// Appends that an agent of this name was opened on a text with the line of an event.
-#[tactic(auto, unfolding(crate::specs::Seen::tailed_words))]
-pub(crate) fn put_tailed_words(
-    out: &mut Vec<u8>,
-    name: &[u8],
-    event: &Event,
-) -> Result<(), AllocError>
-    ensures { OnOk result (out.new.items ≡ out.old.items ++ tailed_words name.now event.now.time
-        (event_of event.now.name.now event.now.payload.now)) }
-{
-    put_quoted(out, name)?;
-    out.extend_from_slice(b" was opened on a text with the line of ")?;
-    put_event(out, event.time, event.name, event.payload)
+    match handed {
+        Some(number) => {
+            out.extend_from_slice(b" was handed ")?;
+            put_event(out, event.time, event.name, event.payload)?;
+            say(out, b" at action ", number)
+        }
+        None => {
+            out.extend_from_slice(b" was opened on a text with the line of ")?;
+            put_event(out, event.time, event.name, event.payload)
+        }
+    }
 }
 
 /// The name of the agent of this number.
@@ -107,47 +105,86 @@ fn name_of<'a>(told: &Told<'a>, agent: u64) -> &'a [u8]
     }
 }
 
-/// Which action handed this event to its agent before; or, where none did, that the agent was opened on a text with its line.
-fn seen_reason(alloc: Global, told: &Told, of: &Delivered) -> Result<Vec<u8>, AllocError>
-    ensures { IfOk result (λ reason. NamesSeen (notes_in told.now.past.now.outs.items)
-        (name_at told.now.world.now of.now.to) of.now.to of.now.event.time
-        (event_of of.now.event.name.now of.now.event.payload.now) reason.items) }
+/// Appends which action handed this event to its agent before; or, where none did, that the agent was opened on a text with its line.
+fn put_seen(out: &mut Vec<u8>, told: &Told, of: &Delivered) -> Result<(), AllocError>
+    ensures { OnOk result (GrowsBy (λ text. NamesSeen
+        (notes_in told.now.past.now.hand_outs.outs.items) (name_at told.now.world.now of.now.to)
+        of.now.to of.now.event.time (event_as of.now.event).key text) out.old.items out.new.items) }
 {
-    let handed = told.past.action_of(of.to, &of.event);
-    let name = name_of(told, of.to);
-    let mut reason = Vec::with_capacity(alloc, USUAL_BYTES)?;
-    match handed {
-        Some(number) => put_noted_words(&mut reason, name, &of.event, number)?,
-        None => put_tailed_words(&mut reason, name, &of.event)?,
-    }
-    Ok(reason)
+    let handed = told.past.hand_outs.action_of(of.to, &of.event);
+    put_handed(out, name_of(told, of.to), &of.event, handed)
 }
 
-/// Appends the line that says why the event was seen.
-fn put_seen_event(
+/// Appends why an event that comes to this agent is left.
+fn put_left_event(
+    out: &mut Vec<u8>,
+    told: &Told,
+    agent: &Agent<MemSink>,
+    of: &Delivered,
+    reason: Reason,
+) -> Result<(), AllocError>
+    ensures { OnOk result (out.new.items ≡ out.old.items ++ ignored_words (takes_events
+        (numbers_of told.now.past.now.marks of.now.to).event_minimum agent.now.concrete
+        told.now.number) of.now.event.time (event_as of.now.event).key reason) }
+{
+    let event = &of.event;
+    let before = told.past.marks.of(of.to).numbers.event_minimum;
+    let takes = Takes::events(agent, &before, told.number);
+    put_event(out, event.time, event.name, event.payload)?;
+    out.extend_from_slice(b": ")?;
+    out.extend_from_slice(first_words(reason))?;
+    put_left(out, &takes, b"event", event.time, event.bytes(), reason)
+}
+
+/// Appends why an event that comes to an agent is ignored.
+#[tactic(auto, using(crate::proofs::LeftLaws::ignored_seen, crate::proofs::LeftLaws::ignored_left, crate::proofs::LeftLaws::ignored_nobody))]
+fn put_ignored_event(
+    out: &mut Vec<u8>,
+    told: &Told,
+    of: &Delivered,
+    reason: Reason,
+) -> Result<(), AllocError>
+    ensures { OnOk result (GrowsBy (IsIgnored reason told.now.past.now told.now.number
+        told.now.world.now of.now.to (event_as of.now.event)) out.old.items out.new.items) }
+{
+    match reason {
+        Reason::Seen => put_seen(out, told, of),
+        _ => match told.world.agent(of.to) {
+            Some(agent) => put_left_event(out, told, agent, of, reason),
+            None => Ok(()),
+        },
+    }
+}
+
+/// Appends the line that says so.
+fn put_delivered(
     alloc: Global,
     out: &mut Vec<u8>,
     told: &Told,
     of: &Delivered,
+    reason: Reason,
 ) -> Result<(), AllocError>
-    ensures { OnOk result (AddsSuch (λ reasons. (reason : List ℕ) × (reasons ≡ reason ∷ [])
-        × NamesSeen (notes_in told.now.past.now.outs.items) (name_at told.now.world.now of.now.to)
-        of.now.to of.now.event.time (event_of of.now.event.name.now of.now.event.payload.now)
-        reason) told.now.number out.old.items out.new.items) }
+    ensures { OnOk result (AddsSuch (λ reasons. (text : List ℕ) × (reasons ≡ text ∷ [])
+        × IsIgnored reason told.now.past.now told.now.number told.now.world.now of.now.to
+        (event_as of.now.event) text) told.now.number out.old.items out.new.items) }
 {
-    let reason = seen_reason(alloc, told, of)?;
-    put_because(out, told.number, &reason)
+    let mut text = Vec::with_capacity(alloc, USUAL_BYTES)?;
+    put_ignored_event(&mut text, told, of, reason)?;
+    put_because(out, told.number, &text)
 }
 
-/// Appends the line of a delivery that was ignored as seen: of an event, which action handed it to its agent before, or that
-/// the agent was opened on a text with its line.
-pub(crate) fn put_seen(alloc: Global, out: &mut Vec<u8>, told: &Told) -> Result<(), AllocError>
-    ensures { OnOk result (AddsSuch
-        (OfNoted (notes_in told.now.past.now.outs.items) told.now.world.now told.now.action.now)
-        told.now.number out.old.items out.new.items) }
+/// Appends the line of a delivery that was ignored for this reason.
+pub(crate) fn put_delivery_ignored(
+    alloc: Global,
+    out: &mut Vec<u8>,
+    told: &Told,
+    reason: Reason,
+) -> Result<(), AllocError>
+    ensures { OnOk result (AddsSuch (OfIgnored reason told.now.past.now told.now.number
+        told.now.world.now told.now.action.now) told.now.number out.old.items out.new.items) }
 {
     match seen_event(told) {
-        Some(of) => put_seen_event(alloc, out, told, &of),
+        Some(of) => put_delivered(alloc, out, told, &of, reason),
         None => put_lone(alloc, out, told),
     }
 }

@@ -1,8 +1,7 @@
 //! An action that was done, with what is known around it.
 
-use crate::hand_outs::HandOuts;
+use crate::history::History;
 use crate::marks::Marks;
-use crate::memory::Memory;
 use crate::quoted::Part;
 use serf_agent::Agent;
 use serf_model::{Act, Action, Line};
@@ -16,9 +15,7 @@ pub(crate) struct Told<'a> {
     /// The action's number, counted from 1.
     pub(crate) number: u64,
     pub(crate) world: &'a World,
-    pub(crate) memory: &'a Memory,
-    /// The events that they handed out.
-    pub(crate) past: &'a HandOuts,
+    pub(crate) past: &'a History,
     pub(crate) action: &'a Action,
     pub(crate) line: &'a Line,
     /// The least time of events behind a merge that raises it.
@@ -59,7 +56,7 @@ pub(crate) struct Actor<'a> {
     pub(crate) number: u64,
     pub(crate) act: &'a Act,
     pub(crate) agent: &'a Agent<MemSink>,
-    pub(crate) before: &'a Marks,
+    pub(crate) before: Marks,
 }
 
 /// The agent of this number, which does this.
@@ -68,7 +65,7 @@ pub(crate) fn actor_at<'a>(told: &Told<'a>, number: u64, act: &'a Act) -> Option
         number,
         act,
         agent: told.world.agent(number)?,
-        before: told.memory.marks(number)?,
+        before: told.past.marks.of(number),
     })
 }
 

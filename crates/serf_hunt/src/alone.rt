@@ -12,11 +12,10 @@ ghost use Rattle.serf_hunt.specs.Calls.{alone, calls_by, injections_of, packets_
 use crate::call::{Call, copy_placed};
 use crate::case::Case;
 use serf_agent::Config;
-use serf_conform::{ConformFault, given_packet, is_of};
+use serf_conform::{ConformFault, given_packet, is_of, lone_roster};
 use serf_model::{Act, Action, Line};
 use serf_schedule::Schedule;
 use serf_wire::Bytes;
-use serf_world::{Roster, RosterFault};
 use std::alloc::{AllocError, Global};
 
 /// Adds the call of a turn, if it is one of this agent.
@@ -166,20 +165,6 @@ fn alone_actions(alloc: Global, calls: &[Call]) -> Result<Vec<Action>, AllocErro
     add_packets(alloc, &mut actions, calls)?;
     add_placed(alloc, &mut actions, calls)?;
     Ok(actions)
-}
-
-fn lone_roster(alloc: Global, config: &Config) -> Result<Roster, ConformFault>
-    ensures { IfOk result (λ roster. roster ≡ config.now ∷ []) }
-{
-    let Ok(copy) = config.try_clone(alloc) else {
-        return Err(ConformFault::OutOfMemory);
-    };
-    let mut roster = Roster::new(alloc);
-    match roster.add(alloc, copy) {
-        Ok(()) => Ok(roster),
-        Err(RosterFault::OutOfMemory) => Err(ConformFault::OutOfMemory),
-        Err(_) => Err(ConformFault::NoAgent),
-    }
 }
 
 /// The schedule of an agent's calls alone: the packets that they give are injected first, and then the calls are made

@@ -1,13 +1,6 @@
 -- Equal keys are those of one event, or of one query, at one node.
-use Rattle.std.proofs.Common.{◌≡◌, ℕ, ◌&&◌, Bool, true≢false, Option, None, Some, refl, sym, ap, unwrap_or, Decides, nat_eq}
-use Rattle.std.specs.Option.{option_eq}
-use Rattle.std.specs.Str.{bytes_eq}
-use Rattle.std.proofs.lemmas.Bool.{and_from, and_parts}
-use Rattle.std.proofs.lemmas.Bool.Decides.{Decides-eqb, same_from_decides}
-use Rattle.std.proofs.lemmas.Option.{none-some}
-use Rattle.std.proofs.lemmas.Slice.Eq.{bytes_eq-Decides}
+use Rattle.serf_judge.proofs.Names.{Bool, Decides, Decides-eqb, Identity, None, Option, Some, and_from, and_parts, ap, bytes_eq, bytes_eq-Decides, is_same, key_eq, key_identity, nat_eq, none-some, option_eq, refl, sym, true≢false, unwrap_or, ℕ, ◌&&◌, ◌≡◌}
 use Rattle.serf_judge.specs.declared.key.Key.{Key}
-use Rattle.serf_judge.specs.Identity.{Identity, is_same, key_eq, key_identity}
 
 ids : (a b : Option ℕ) → Decides (option_eq nat_eq a b) (a ≡ b)
 ids None None = (λ _. refl, λ _. refl)
@@ -15,7 +8,7 @@ ids None (Some w) = (λ e. absurd (true≢false (sym e)), λ e. absurd (none-som
 ids (Some v) None = (λ e. absurd (true≢false (sym e)), λ e. absurd (none-some v (sym e)))
 ids (Some v) (Some w) = (λ e. ap Some ((Decides-eqb v w).0 e), λ e. (Decides-eqb v w).1 (ap (λ u. unwrap_or u v) e))
 
-same-decides : (x y : Identity) → Decides (is_same x y) (x ≡ y)
+pub same-decides : (x y : Identity) → Decides (is_same x y) (x ≡ y)
 same-decides x y =
     let texts : Bool = bytes_eq x.name y.name && bytes_eq x.payload y.payload in
     let id : Bool = option_eq nat_eq x.id y.id in
@@ -41,6 +34,3 @@ same-decides x y =
 
 pub key-decides : (x y : Key) → Decides (key_eq x y) (key_identity x ≡ key_identity y)
 key-decides x y = same-decides (key_identity x) (key_identity y)
-
-pub same-turned : (x y : Identity) → is_same x y ≡ is_same y x
-same-turned x y = same_from_decides (is_same x y) (is_same y x) (same-decides x y) (λ e. sym ((same-decides y x).0 e), λ p. (same-decides y x).1 (sym p))

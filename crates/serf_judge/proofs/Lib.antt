@@ -1,11 +1,13 @@
 pub mod AgainLaws
 pub mod FiredLaws
 pub mod KeyLaws
-pub mod LatestLaws
+pub mod LaterLaws
 pub mod LogLaws
 pub mod MissedLaws
+pub mod Names
+pub mod NotedLaws
 pub mod OnceLaws
-pub mod OrderLaws
 pub mod PairLaws
+pub mod PlaceLaws
 pub mod TallyLaws
 pub mod TwiceLaws

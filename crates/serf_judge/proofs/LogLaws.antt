@@ -1,11 +1,7 @@
 -- What a line adds to a log, by its words.
-use Rattle.std.proofs.Common.{◌≡◌, ◌∙◌, ℕ, List, [], Result, Ok, OnOk, false, sym, ap}
-use Rattle.std.specs.Prelude.{if◌then◌else◌}
-use Rattle.std.proofs.lemmas.Result.{on_ok_weaker}
-use Rattle.serf_text.specs.Words.{words_of}
+use Rattle.serf_judge.proofs.Names.{List, LogView, Ok, OnOk, Result, [], ap, false, if◌then◌else◌, is_comment, on_ok_weaker, sym, with_date, with_line, with_said, words_of, words_said, ℕ, ◌∙◌, ◌≡◌}
 use Rattle.serf_judge.specs.Dated.{behind_date, date_text}
 use Rattle.serf_judge.specs.Log.{nothing}
-use Rattle.serf_judge.specs.Said.{LogView, is_comment, with_date, with_line, with_said, words_said}
 
 by-words : (log : LogView) (n : ℕ) (line : List ℕ) → is_comment line ≡ false
     → with_said (with_date log n (date_text (words_of line))) n (words_said (behind_date (words_of line))) ≡ with_line log n line

@@ -1,57 +1,26 @@
 -- Which events some node was never handed, one after another.
-use Rattle.std.proofs.Common.{◌≡◌, ◌∙◌, ℕ, ◌+◌, ◌<◌, ◌≤◌, ◌++◌, ◌∷◌, [], ◌||◌, Bool, true, false, cond, List, Bor, map, take, drop, length, get_or, refl, sym, ap}
-use Rattle.std.specs.Prelude.{filter, nat_lt}
-use Rattle.std.specs.List.{list_any}
-use Rattle.std.proofs.lemmas.Bool.{lt-ltb}
-use Rattle.std.proofs.lemmas.List.{append-nil, map_more, take_all, take_at, take-append-drop}
-use Rattle.std.proofs.lemmas.List.Elements.{filter-append}
-use Rattle.std.proofs.lemmas.List.Folds.{list_any-append}
-use Rattle.serf_judge.specs.declared.entry.EventEntry.{EventEntry}
-use Rattle.serf_judge.specs.declared.key.Key.{Key}
+use Rattle.serf_judge.proofs.Names.{Bool, Bor, EventContent, EventEntry, List, Missing, [], ap, append-nil, at_most, cond, contents_of, event_seen, false, filter, filter-append, get_or, has_nodes, key_content, length, lt-ltb, map, map_more, missed_of, missing_at, missing_of, nat_lt, not, receivers_of, refl, sym, take, take-map, take_all, texts_of, true, was_handed, ℕ, ◌++◌, ◌+◌, ◌<◌, ◌∙◌, ◌∷◌, ◌≡◌, ◌≤◌}
 use Rattle.serf_judge.specs.declared.fired.ContentKey.{ContentKey}
-use Rattle.serf_judge.specs.Fired.{EventContent, key_content}
-use Rattle.serf_judge.specs.Identity.{event_identity, is_same, key_eq, key_identity}
-use Rattle.serf_judge.specs.Missed.{Missing, at_most, contents_of, has_nodes, missed_of, missing_at, missing_of}
-use Rattle.serf_judge.specs.Nodes.{texts_of}
-use Rattle.serf_judge.proofs.KeyLaws.{same-turned}
-use Rattle.serf_judge.proofs.TallyLaws.{map-map}
+use Rattle.serf_judge.proofs.TallyLaws.{map-map, no_text}
 
--- a search that stops once it has enough
-pub enough : {X : Type 0} (p : X → Bool) (xs found : List X) (n most : ℕ) → found ≡ filter p (take n xs) → length found ≡ most → found ≡ take most (filter p xs)
-enough p xs found n most is full =
-    let parts : filter p xs ≡ found ++ filter p (drop n xs) = ap (filter p) (sym (take-append-drop n xs)) ∙ filter-append p (take n xs) (drop n xs) ∙ ap (λ t. t ++ filter p (drop n xs)) (sym is) in
-    sym (ap (take most) parts ∙ take_at found (filter p (drop n xs)) most full)
+filter-view : {X Y : Type 0} (f : X → Y) (p : X → Bool) (q : Y → Bool) → ((x : X) → p x ≡ q (f x)) → (xs : List X) → map f (filter p xs) ≡ filter q (map f xs)
+filter-view f p q agree [] = refl
+filter-view {X} f p q agree (x ∷ xs) = by (p x) ∙ (λ k. cond (agree x k) (f x ∷ filter-view f p q agree xs k) (filter-view f p q agree xs k))
+  where
+    by : (b : Bool) → map f (cond b (x ∷ filter p xs) (filter p xs)) ≡ cond b (f x ∷ map f (filter p xs)) (map f (filter p xs))
+    by true = refl
+    by false = refl
 
-or-cond : (a b : Bool) → (a || (b || false)) ≡ cond b true a
-or-cond true true = refl
-or-cond true false = refl
-or-cond false true = refl
-or-cond false false = refl
-
--- one more event is noted
-pub handed-more : (events : List EventEntry) (e : EventEntry) (key : Key) (old new : Key → Bool)
-    → ((q : Key) → old q ≡ list_any (λ x. is_same (key_identity q) (event_identity x)) events) → key_identity key ≡ event_identity e
-    → ((q : Key) → new q ≡ cond (key_eq key q) true (old q)) → (q : Key) → new q ≡ list_any (λ x. is_same (key_identity q) (event_identity x)) (events ++ e ∷ [])
-handed-more events e key old new h is step q =
-    let here : is_same (key_identity q) (event_identity e) ≡ key_eq key q = ap (is_same (key_identity q)) (sym is) ∙ same-turned (key_identity q) (key_identity key) in
-    let noted = list_any (λ x. is_same (key_identity q) (event_identity x)) events in
-    step q
-    ∙ ap (λ b. cond (key_eq key q) true b) (h q)
-    ∙ sym (list_any-append (λ x. is_same (key_identity q) (event_identity x)) events (e ∷ []) ∙ or-cond noted (is_same (key_identity q) (event_identity e)) ∙ ap (λ b. cond b true noted) here)
+-- the first nodes that the set has not with an event
+pub some-missing : (most : ℕ) (entries : List EventEntry) (x : EventContent) (lacks : Bor (List ℕ) → Bool) (nodes found : List (Bor (List ℕ))) → ((t : Bor (List ℕ)) → lacks t ≡ not (was_handed entries x t.now))
+    → found ≡ take most (filter lacks nodes) → texts_of nodes ≡ receivers_of event_seen entries → texts_of found ≡ take most (missing_of entries x)
+some-missing most entries x lacks nodes found agree are named =
+    ap texts_of are ∙ sym (take-map (λ (t : Bor (List ℕ)). t.now) most (filter lacks nodes))
+    ∙ ap (take most) (filter-view (λ (t : Bor (List ℕ)). t.now) lacks (λ n. not (was_handed entries x n)) agree nodes ∙ ap (filter (λ n. not (was_handed entries x n))) named)
 
 -- what stands for an item behind the end of a list, as the goals have it
-abbrev pub no_text : Bor (List ℕ)
-no_text = record { ref_ptr = (0, 0); now = [] }
-
 abbrev pub no_content : ContentKey
 no_content = record { time = 0; name = no_text; payload = no_text }
-
--- one more node was looked at
-pub missing-more : (p : List ℕ → Bool) (nodes : List (Bor (List ℕ))) (i : ℕ) (old new : List (List ℕ)) → i < length nodes → old ≡ filter p (texts_of (take i nodes))
-    → new ≡ old ++ filter p ((get_or nodes i no_text).now ∷ []) → new ≡ filter p (texts_of (take (i + 1) nodes))
-missing-more p nodes i old new lt are is =
-    let node = get_or nodes i no_text in
-    is ∙ ap (λ t. t ++ filter p (node.now ∷ [])) are ∙ sym (filter-append p (texts_of (take i nodes)) (node.now ∷ [])) ∙ ap (filter p) (sym (map_more (λ (t : Bor (List ℕ)). t.now) nodes i no_text lt))
 
 -- an event that no node missed is left out
 pub put-none : (xs : List Missing) (x : EventContent) (nodes : List (List ℕ)) → length nodes ≡ 0 → xs ≡ xs ++ filter has_nodes (missing_at x nodes ∷ [])

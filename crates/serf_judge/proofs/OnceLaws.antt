@@ -1,14 +1,7 @@
 -- A log that has what agents were handed hands nothing twice exactly where each agent was handed each thing once.
-use Rattle.std.proofs.Common.{zero, suc, ◌≡◌, ◌≢◌, ◌∙◌, ℕ, ◌<◌, Bool, true, false, cond, List, [], ◌∷◌, Option, None, Some, refl, sym, ap, subst, length, map, get_or, arith}
-use Rattle.std.specs.Prelude.{◌↔◌, AllPairs, MatchOption, filter, slice_get}
-use Rattle.std.specs.Str.{bytes_eq}
-use Rattle.std.proofs.lemmas.List.{get_or-map, length-map}
+use Rattle.serf_judge.proofs.Names.{AllPairs, AreFirstTwo, Bool, HasNoTwo, Identity, List, MatchOption, None, Option, Some, [], ap, arith, bytes_eq, bytes_eq-Decides, cond, false, filter, get_or, get_or-map, length, length-map, map, refl, slice_get, slice_get-get_or, slice_get-map, slice_get_within, subst, suc, sym, true, zero, ℕ, ◌<◌, ◌↔◌, ◌∙◌, ◌∷◌, ◌≡◌, ◌≢◌}
 use Rattle.std.proofs.lemmas.List.Kept.{AllPairs-filter}
-use Rattle.std.proofs.lemmas.Option.{slice_get-get_or, slice_get-map, slice_get_within}
-use Rattle.std.proofs.lemmas.Slice.Eq.{bytes_eq-Decides}
-use Rattle.serf_judge.specs.Identity.{Identity}
 use Rattle.serf_judge.specs.Stands.{StandsFor}
-use Rattle.serf_judge.specs.Twice.{AreFirstTwo, HasNoTwo}
 use Rattle.serf_judge.proofs.TwiceLaws.{has-key}
 
 differ : {X : Type 0} (xs : List X) → HasNoTwo xs → AllPairs (λ x y. x ≢ y) xs

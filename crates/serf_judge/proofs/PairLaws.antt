@@ -1,10 +1,6 @@
 -- A search that notes each key's first place.
-use Rattle.std.proofs.Common.{◌≡◌, ◌⊎◌, ◌∙◌, ℕ, ◌+◌, ◌<◌, ◌≤◌, Bool, true, false, cond, List, Option, None, Some, refl, sym, ap, subst, inl, inr, length, arith}
-use Rattle.std.specs.Prelude.{MatchOption, slice_get}
+use Rattle.serf_judge.proofs.Names.{Bool, HasNoPair, IsFirstPair, IsPair, List, MatchOption, None, Option, Some, ap, arith, cases_lt, cond, false, inl, inr, length, refl, slice_get, slice_get_within, subst, sym, true, true≢false, ℕ, ◌+◌, ◌<◌, ◌∙◌, ◌≡◌, ◌≤◌, ◌⊎◌}
 use Rattle.std.specs.Cmp.{IsEquivalence}
-use Rattle.std.proofs.lemmas.Bool.{cases_lt, true≢false}
-use Rattle.std.proofs.lemmas.Option.{slice_get_within}
-use Rattle.serf_judge.specs.Pairs.{HasNoPair, IsFirstPair, IsPair}
 
 -- no key at the first places equals this one
 abbrev pub NoneEqual : {K : Type 0} → (K → K → Bool) → List K → ℕ → K → Type 0

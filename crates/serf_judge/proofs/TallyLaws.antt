@@ -1,17 +1,7 @@
 -- What lines come to, one after another.
-use Rattle.std.proofs.Common.{◌≡◌, ◌∙◌, ℕ, ◌+◌, ◌-◌, ◌^◌, ◌<◌, ◌≤◌, ◌++◌, ◌∷◌, [], Bool, true, false, cond, min, max, List, Option, None, Some, Bor, map, take, length, get_or, refl, sym, ap, subst, arith}
-use Rattle.std.specs.Prelude.{unwrap_or}
-use Rattle.std.specs.Str.{bytes_eq}
+use Rattle.serf_judge.proofs.Names.{Bool, Bor, Handed, Identity, List, None, Option, Some, [], ap, append-nil, arith, bytes_eq, bytes_eq-Decides, cond, false, filter-append, fold-append, get_or, greatest, least, length, length_push, lines_to, map, map-append, max, min, nodes_of, refl, subst, sym, take, take_all, take_more, tallies_of, tally_of, texts_of, true, unwrap_or, ℕ, ◌++◌, ◌+◌, ◌-◌, ◌<◌, ◌^◌, ◌∙◌, ◌∷◌, ◌≡◌, ◌≤◌}
 use Rattle.std.specs.Cmp.Lexicographic.{nat_list_eq_equiv}
-use Rattle.std.proofs.lemmas.List.{append-nil, length_push, map-append, map_more, take_all, take_more}
-use Rattle.std.proofs.lemmas.List.Elements.{filter-append}
-use Rattle.std.proofs.lemmas.List.Sums.{fold-append}
-use Rattle.std.proofs.lemmas.Slice.Eq.{bytes_eq-Decides}
-use Rattle.serf_judge.specs.declared.key.Handed.{Handed}
 use Rattle.serf_judge.specs.declared.tally.Tally.{Tally}
-use Rattle.serf_judge.specs.Nodes.{texts_of}
-use Rattle.serf_judge.specs.Identity.{Identity}
-use Rattle.serf_judge.specs.Tallies.{greatest, least, lines_to, nodes_of, tallies_of, tally_of}
 
 pub map-map : {X Y Z : Type 0} (g : Y → Z) (f : X → Y) (xs : List X) → map g (map f xs) ≡ map (λ x. g (f x)) xs
 map-map g f [] = refl
@@ -27,9 +17,6 @@ no_line = record { line = 0; key = record { node = no_text; time = 0; id = None;
 -- one more of a list that a loop walks
 pub take-next : {X : Type 0} (xs : List X) (i : ℕ) (x : X) → i < length xs → x ≡ get_or xs i x → take (i + 1) xs ≡ take i xs ++ x ∷ []
 take-next xs i x lt is = take_more xs i x lt ∙ ap (λ y. take i xs ++ y ∷ []) (sym is)
-
-pub map-next : {X Y : Type 0} (f : X → Y) (xs : List X) (i : ℕ) (x : X) → i < length xs → x ≡ get_or xs i x → map f (take (i + 1) xs) ≡ map f (take i xs) ++ f x ∷ []
-map-next f xs i x lt is = map_more f xs i x lt ∙ ap (λ y. map f (take i xs) ++ f y ∷ []) (sym is)
 
 least-push : (numbers : List ℕ) (n : ℕ) → least (numbers ++ n ∷ []) ≡ min (least numbers) n
 least-push numbers n = fold-append min (2 ^ 64 - 1) numbers (n ∷ [])

@@ -1,10 +1,5 @@
 -- Equal keys, where a view of a key is what is compared.
-use Rattle.std.proofs.Common.{◌≡◌, ◌∙◌, ℕ, Bool, List, Option, Some, None, map, refl, sym, ap, Decides}
-use Rattle.std.specs.Prelude.{MatchOption, slice_get}
-use Rattle.std.specs.Option.{option_map}
-use Rattle.std.proofs.lemmas.Option.{slice_get-map}
-use Rattle.serf_judge.specs.Pairs.{HasNoPair, IsFirstPair, IsPair}
-use Rattle.serf_judge.specs.Twice.{AreFirstTwo, HasNoTwo, IsTwice}
+use Rattle.serf_judge.proofs.Names.{AreFirstTwo, Bool, Decides, HasNoPair, HasNoTwo, IsFirstPair, IsPair, IsTwice, List, MatchOption, None, Option, Some, ap, map, option_map, refl, slice_get, slice_get-map, sym, ℕ, ◌∙◌, ◌≡◌}
 
 -- a key with this view
 pub record HasKey {K X : Type 0} (view : K → X) (found : Option K) (x : X) : Type 0 where

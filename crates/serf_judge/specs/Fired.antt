@@ -1,11 +1,9 @@
 -- What it means that an event was fired before it was handed out.
-use Rattle.std.specs.Prelude.{◌≡◌, ℕ, ◌<◌, ◌&&◌, ◌||◌, nat_eq, nat_lt, nat_le, min, max, Bool, true, false, List, [], ◌∷◌, filter, Option, None, Some, length, position, slice_get, unwrap_or}
-use Rattle.std.specs.List.{fold, list_any}
+use Rattle.std.specs.Prelude.{◌≡◌, ℕ, ◌<◌, ◌&&◌, ◌||◌, nat_eq, nat_lt, nat_le, Bool, true, false, List, Some, length, position, slice_get, unwrap_or}
+use Rattle.std.specs.List.{list_any}
 use Rattle.std.specs.Str.{bytes_eq}
-use Rattle.std.specs.HashMap.{HashMap, get}
 use Rattle.serf_judge.specs.declared.entry.EventEntry.{EventEntry}
 use Rattle.serf_judge.specs.declared.fired.ContentKey.{ContentKey}
-use Rattle.serf_judge.specs.declared.fired.Firings.{Firings}
 
 -- an event: a time, a name and a payload
 pub record EventContent : Type 0 where
@@ -41,33 +39,10 @@ pub record IsFirstUnfired (starts : List ℕ) (fired events : List EventEntry) (
   pub unfired : was_fired starts fired event ≡ false
   pub least : (k : ℕ) (e : EventEntry) → k < place → slice_get events k ≡ Some e → was_fired starts fired e ≡ true
 
--- Where each event was fired, noted by content: private to the crate.
-
+-- the same of a key, by which the code notes an event
 abbrev pub key_content : ContentKey → EventContent
 key_content k = record { time = k.time; name = k.name.now; payload = k.payload.now }
 
 -- how keys are compared
 abbrev pub content_key_eq : ContentKey → ContentKey → Bool
 content_key_eq x y = is_same_content (key_content x) (key_content y)
-
-abbrev pub one_firing : List ℕ → EventEntry → Firings
-one_firing starts f = record { first_line = f.line; last_log = log_at starts f.line }
-
--- and one more
-abbrev pub one_more : List ℕ → Firings → EventEntry → Firings
-one_more starts noted f = record { first_line = min noted.first_line f.line; last_log = max noted.last_log (log_at starts f.line) }
-
--- whether one of them stands above this line of this log, or in a later log
-abbrev pub counts : ℕ → ℕ → Firings → Bool
-counts line log noted = nat_lt noted.first_line line || nat_lt log noted.last_log
-
-abbrev pub firings_of : List ℕ → List EventEntry → Option Firings
-firings_of starts [] = None
-firings_of starts (f ∷ fs) = Some (fold (one_more starts) (one_firing starts f) fs)
-
--- the firings of an event
-abbrev pub own_firings : ContentKey → List EventEntry → List EventEntry
-own_firings q fired = filter (λ f. is_same_content (key_content q) (content_of f)) fired
-
-abbrev pub AreNoted : {S : Type 0} → List ℕ → List EventEntry → HashMap ContentKey Firings S → Type 0
-AreNoted starts fired table = (q : ContentKey) → get content_key_eq table q ≡ firings_of starts (own_firings q fired)

@@ -3,31 +3,33 @@
 ghost use Rattle.std.specs.Prelude.{◌≡◌, ◌++◌, ◌∷◌, [], IfOk, List, OnOk, map};
 ghost use Rattle.std.specs.HashSet.{contains};
 ghost use Rattle.serf_judge.specs.Again.{firsts_of};
-ghost use Rattle.serf_judge.specs.Identity.{handed_seen, key_eq};
-ghost use Rattle.serf_judge.specs.Seen.{AreFirsts, AreRepeats};
+ghost use Rattle.serf_judge.specs.Identity.{handed_seen};
+ghost use Rattle.serf_judge.specs.Noted.{AreKept};
 ghost use Rattle.serf_judge.specs.Tallies.{repeats_among};
-ghost use Rattle.serf_judge.specs.declared.key.Handed.{Handed as Line};
 
-use crate::key::{Handed, Key};
+use crate::key::{Handed, HandedOut};
 use std::alloc::{AllocError, Global};
 use std::collections::HashSet;
 use std::hash::Hash;
 
-/// Notes a key, and keeps it where none that is noted equals it.
-fn keep_first<K: Eq + Hash + Copy>(
+/// Notes an item's key, and keeps the item where it comes again, as a noted key equals it; or else where it comes first.
+fn keep<K: Eq + Hash + Copy, T: Copy>(
     noted: &mut HashSet<K>,
-    found: &mut Vec<K>,
+    found: &mut Vec<T>,
     key: K,
+    item: T,
+    again: bool,
 ) -> Result<(), AllocError>
-    ensures { (keys : List K) → AreFirsts K.eq keys found.old.items (contains K.eq noted.old)
-        → OnOk result (AreFirsts K.eq (keys ++ key ∷ []) found.new.items
+    ensures { (key_of : T → K) (items : List T) → key_of item ≡ key
+        → AreKept again K.eq key_of items found.old.items (contains K.eq noted.old)
+        → OnOk result (AreKept again K.eq key_of (items ++ item ∷ []) found.new.items
         (contains K.eq noted.new)) }
 {
     let is_new = noted.insert(key)?;
-    if !is_new {
+    if is_new == again {
         return Ok(());
     }
-    found.push(key)?;
+    found.push(item)?;
     Ok(())
 }
 
@@ -38,41 +40,24 @@ pub(crate) fn firsts<K: Eq + Hash + Copy>(alloc: Global, keys: &[K]) -> Result<V
     let mut noted = HashSet::new(alloc);
     let mut found = Vec::new(alloc);
     for key in keys {
-        keep_first(&mut noted, &mut found, *key)?;
+        keep(&mut noted, &mut found, *key, *key, false)?;
     }
     Ok(found)
 }
 
-/// Notes a line's key, and keeps the line where one that is noted equals it.
-fn keep_repeat<'a>(
-    noted: &mut HashSet<Key<'a>>,
-    found: &mut Vec<Handed<'a>>,
-    line: &Handed<'a>,
-) -> Result<(), AllocError>
-    ensures { (lines : List Line) → AreRepeats lines found.old.items (contains key_eq noted.old)
-        → OnOk result (AreRepeats (lines ++ line.now ∷ []) found.new.items
-        (contains key_eq noted.new)) }
-{
-    let is_new = noted.insert(line.key)?;
-    if is_new {
-        return Ok(());
-    }
-    found.push(*line)?;
-    Ok(())
-}
-
 /// The lines that hand a node what a line before them handed it, in order.
-pub(crate) fn repeats<'a>(
+pub(crate) fn repeats<'a, E: HandedOut>(
     alloc: Global,
-    lines: &[Handed<'a>],
+    entries: &'a [E],
 ) -> Result<Vec<Handed<'a>>, AllocError>
     ensures { IfOk result (λ found. map handed_seen found.items
-        ≡ repeats_among (map handed_seen lines.entry.now)) }
+        ≡ repeats_among (map E.seen entries.entry.now)) }
 {
     let mut noted = HashSet::new(alloc);
     let mut found = Vec::new(alloc);
-    for line in lines {
-        keep_repeat(&mut noted, &mut found, line)?;
+    for entry in entries {
+        let line = entry.handed();
+        keep(&mut noted, &mut found, line.key, line, true)?;
     }
     Ok(found)
 }

@@ -1,8 +1,10 @@
 //! Whether each event that was handed out was fired before.
 
-ghost use Rattle.std.specs.Prelude.{◌≡◌, ◌++◌, ◌∷◌, ℕ, [], IfOk, List, MatchOption, OnOk, Some, nat_le, position};
+ghost use Rattle.std.specs.Prelude.{◌≡◌, ◌++◌, ◌∷◌, ◌||◌, ℕ, [], IfOk, List, MatchOption, OnOk, nat_le, nat_lt, position};
+ghost use Rattle.std.specs.HashMap.{get};
 ghost use Rattle.serf_judge.specs.declared.entry.EventEntry.{EventEntry as Entry};
-ghost use Rattle.serf_judge.specs.Fired.{AreAllFired, AreNoted, IsFirstUnfired, content_of, counts, firings_of, key_content, log_at, one_firing, one_more, own_firings, was_fired};
+ghost use Rattle.serf_judge.specs.Fired.{AreAllFired, IsFirstUnfired, content_key_eq, content_of, key_content, log_at, was_fired};
+ghost use Rattle.serf_judge.specs.Noted.{AreNoted, counts, says};
 
 use crate::entry::EventEntry;
 use std::alloc::{AllocError, Global};
@@ -16,6 +18,7 @@ pub(crate) struct ContentKey<'a> {
     pub(crate) payload: &'a [u8],
 }
 
+/// An event's time, name and payload: what tells it apart.
 pub(crate) fn content_key(entry: &EventEntry) -> ContentKey<'_>
     ensures { key_content result ≡ content_of entry.now }
 {
@@ -35,17 +38,11 @@ pub(crate) struct Firings {
     last_log: usize,
 }
 
-fn is_from(start: &u64, line: u64) -> bool
-    ensures { result ≡ nat_le line start.now }
-{
-    line <= *start
-}
-
 /// The first log, counted from 0 behind the first one, that begins behind a line.
 fn next_start(starts: &[u64], line: u64) -> Option<usize>
     ensures { result ≡ position (λ s. nat_le line s) starts.now }
 {
-    starts.iter().position(|start| is_from(start, line))
+    starts.iter().position(|start| line <= *start)
 }
 
 /// Of several logs the one that has a line, counted from 0.
@@ -58,38 +55,26 @@ fn log_of(starts: &[u64], line: u64) -> usize
     }
 }
 
-fn firing_of(starts: &[u64], entry: &EventEntry) -> Firings
-    ensures { result ≡ one_firing starts.now entry.now }
-{
-    Firings {
-        first_line: entry.line,
-        last_log: log_of(starts, entry.line),
-    }
-}
-
-/// What is noted, and one firing more.
-fn with_firing(noted: Firings, starts: &[u64], entry: &EventEntry) -> Firings
-    ensures { result ≡ one_more starts.now noted entry.now }
-{
-    Firings {
-        first_line: noted.first_line.min(entry.line),
-        last_log: noted.last_log.max(log_of(starts, entry.line)),
-    }
-}
-
-/// The firings of an event that are noted, and this one.
+/// The firings of an event that are noted, and one on this line of this log.
 fn noted_with(
     table: &HashMap<ContentKey, Firings>,
     key: &ContentKey,
-    starts: &[u64],
-    entry: &EventEntry,
+    line: u64,
+    log: usize,
 ) -> Firings
-    ensures { (fired : List Entry) → AreNoted starts.now fired table.now
-        → firings_of starts.now (own_firings key.now fired ++ entry.now ∷ []) ≡ Some result }
+    ensures { (at : ℕ × ℕ) → counts result at
+        ≡ (says counts (get content_key_eq table.now key.now) at
+        || (nat_lt line at.0 || nat_lt at.1 log)) }
 {
     match table.get(key) {
-        Some(noted) => with_firing(*noted, starts, entry),
-        None => firing_of(starts, entry),
+        Some(noted) => Firings {
+            first_line: noted.first_line.min(line),
+            last_log: noted.last_log.max(log),
+        },
+        None => Firings {
+            first_line: line,
+            last_log: log,
+        },
     }
 }
 
@@ -103,31 +88,14 @@ fn note<'a>(
         → OnOk result (AreNoted starts.now (fired ++ entry.entry.now ∷ []) table.new) }
 {
     let key = content_key(entry);
-    let firings = noted_with(table, &key, starts, entry);
-    match table.insert(key, firings) {
-        Ok(_) => Ok(()),
-        Err(_) => Err(AllocError),
-    }
-}
-
-/// Where each event was fired.
-fn all_firings<'a>(
-    alloc: Global,
-    starts: &[u64],
-    fired: &'a [EventEntry],
-) -> Result<HashMap<ContentKey<'a>, Firings>, AllocError>
-    ensures { IfOk result (AreNoted starts.now fired.entry.now) }
-{
-    let mut table = HashMap::new(alloc);
-    for entry in fired {
-        note(&mut table, starts, entry)?;
-    }
-    Ok(table)
+    let firings = noted_with(table, &key, entry.line, log_of(starts, entry.line));
+    let _ = table.insert(key, firings)?;
+    Ok(())
 }
 
 /// Whether one of these firings stands above a line of a log, or in a later log.
 fn is_before(noted: Firings, line: u64, log: usize) -> bool
-    ensures { result ≡ counts line log noted }
+    ensures { result ≡ counts noted (line, log) }
 {
     noted.first_line < line || log < noted.last_log
 }
@@ -178,6 +146,9 @@ pub fn first_unfired(
         (AreAllFired starts.now fired.now events.now)
         (IsFirstUnfired starts.now fired.now events.now)) }
 {
-    let table = all_firings(alloc, starts, fired)?;
+    let mut table = HashMap::new(alloc);
+    for entry in fired {
+        note(&mut table, starts, entry)?;
+    }
     Ok(unfired_by(&table, starts, events))
 }

@@ -1,9 +1,8 @@
 //! What the words of a line say.
 
-ghost use Rattle.std.specs.Prelude.{◌≡◌, ◌≤◌, ◌<◌, ◌+◌, ◌==◌, Ok, Err, length, map, IfOk, IfErr};
+ghost use Rattle.std.specs.Prelude.{◌≡◌, ◌≤◌, ◌<◌, ◌+◌, ◌==◌, Ok, Err, length, map, IfOk, IfErr, if◌then◌else◌};
 ghost use Rattle.serf_text.specs.Words.{number_in, word_at as word_of};
-ghost use Rattle.serf_judge.specs.Identity.{event_identity, query_identity};
-ghost use Rattle.serf_judge.specs.Log.{event, event_at, event_line, fired, happening_of, id_in, nothing, of_count, query_at, query_line, trace_line};
+ghost use Rattle.serf_judge.specs.Log.{event, event_line, fired, happening_of, id_in, nothing, of_count, query_line, trace_line};
 ghost use Rattle.serf_judge.specs.Said.{IsAt, Says, happening_view};
 
 use crate::entry::{EventEntry, QueryEntry};
@@ -31,6 +30,7 @@ fn number_at(words: &[&[u8]], place: usize) -> Result<u64, StreamLineFault<Cause
     }
 }
 
+/// A copy of a word.
 fn copy_of(alloc: Global, word: &[u8]) -> Result<Vec<u8>, StreamLineFault<Cause>>
     ensures same { IfOk result (λ copy. copy.items ≡ word.now) }
     ensures memory { IfErr result (λ fault. fault ≡ StreamLineFault.OutOfMemory) }
@@ -50,101 +50,49 @@ fn id_at(words: &[&[u8]], place: usize) -> Result<Option<u64>, StreamLineFault<C
     if word_at(words, place) == b"-".as_slice() {
         return Ok(None);
     }
-    match number_at(words, place) {
-        Ok(id) => Ok(Some(id)),
-        Err(fault) => Err(fault),
-    }
+    let id = number_at(words, place)?;
+    Ok(Some(id))
 }
 
-/// The event of four words, of which the first is at this place.
+/// The event of four words, of which the first is at this place, in a line of so many words: one that was fired, or one
+/// that was handed out.
 #[tactic(auto, unfolding(crate::specs::Log::event_at))]
-fn event_from(
-    alloc: Global,
-    line: u64,
-    words: &[&[u8]],
-    place: usize,
-) -> Result<EventEntry, StreamLineFault<Cause>>
-    requires { (1 ≤ place) × (place + 3 ≤ length words.now) }
-    ensures said { Says event_identity result (event_at place (map (λ w. w.now) words.now)) }
-    ensures line { IfOk result (λ event. event.line ≡ line) }
-{
-    let time = number_at(words, place + 1)?;
-    let node = copy_of(alloc, word_at(words, place))?;
-    let name = copy_of(alloc, word_at(words, place + 2))?;
-    let payload = copy_of(alloc, word_at(words, place + 3))?;
-    Ok(EventEntry {
-        line,
-        node,
-        time,
-        name,
-        payload,
-    })
-}
-
-/// The query of a node's word and two others.
-#[tactic(auto, unfolding(crate::specs::Log::query_at))]
-fn query_from(
-    alloc: Global,
-    line: u64,
-    words: &[&[u8]],
-    node: usize,
-    time: usize,
-    id: usize,
-) -> Result<QueryEntry, StreamLineFault<Cause>>
-    requires node { (1 ≤ node) × (node ≤ length words.now) }
-    requires time { (1 ≤ time) × (time ≤ length words.now) }
-    requires id { (1 ≤ id) × (id ≤ length words.now) }
-    ensures said { Says query_identity result (query_at node time id (map (λ w. w.now) words.now)) }
-    ensures line { IfOk result (λ query. query.line ≡ line) }
-{
-    let time = number_at(words, time)?;
-    let id = id_at(words, id)?;
-    let node = copy_of(alloc, words[node - 1])?;
-    Ok(QueryEntry {
-        line,
-        node,
-        time,
-        id,
-    })
-}
-
-/// An event that was handed out, in a line of so many words.
 fn event_in(
     alloc: Global,
     line: u64,
     words: &[&[u8]],
     place: usize,
     count: usize,
+    is_fired: bool,
 ) -> Result<Happening, StreamLineFault<Cause>>
     requires { (1 ≤ place) × (place + 3 ≤ count) }
     ensures said { Says happening_view result (of_count count (map (λ w. w.now) words.now)
-        (event_line place (map (λ w. w.now) words.now) (λ e. event e))) }
+        (event_line place (map (λ w. w.now) words.now)
+        (λ e. if is_fired then fired e else event e))) }
     ensures line { IfOk result (IsAt line) }
 {
     if words.len() != count {
         return Err(StreamLineFault::Bad(Cause::WordCount));
     }
-    match event_from(alloc, line, words, place) {
-        Ok(event) => Ok(Happening::Event(event)),
-        Err(fault) => Err(fault),
+    let time = number_at(words, place + 1)?;
+    let node = copy_of(alloc, word_at(words, place))?;
+    let name = copy_of(alloc, word_at(words, place + 2))?;
+    let payload = copy_of(alloc, word_at(words, place + 3))?;
+    let entry = EventEntry {
+        line,
+        node,
+        time,
+        name,
+        payload,
+    };
+    if is_fired {
+        return Ok(Happening::Fired(entry));
     }
+    Ok(Happening::Event(entry))
 }
 
-/// An event that was fired.
-fn fired_in(alloc: Global, line: u64, words: &[&[u8]]) -> Result<Happening, StreamLineFault<Cause>>
-    ensures said { Says happening_view result (of_count 5 (map (λ w. w.now) words.now)
-        (event_line 2 (map (λ w. w.now) words.now) (λ e. fired e))) }
-    ensures line { IfOk result (IsAt line) }
-{
-    if words.len() != 5 {
-        return Err(StreamLineFault::Bad(Cause::WordCount));
-    }
-    match event_from(alloc, line, words, 2) {
-        Ok(event) => Ok(Happening::Fired(event)),
-        Err(fault) => Err(fault),
-    }
-}
-
+/// The query of a line of `count` words, by the words at these places: its node, its time and its ID.
+#[tactic(auto, unfolding(crate::specs::Log::query_at))]
 fn query_in(
     alloc: Global,
     line: u64,
@@ -164,10 +112,15 @@ fn query_in(
     if words.len() != count {
         return Err(StreamLineFault::Bad(Cause::WordCount));
     }
-    match query_from(alloc, line, words, node, time, id) {
-        Ok(query) => Ok(Happening::Query(query)),
-        Err(fault) => Err(fault),
-    }
+    let time = number_at(words, time)?;
+    let id = id_at(words, id)?;
+    let node = copy_of(alloc, words[node - 1])?;
+    Ok(Happening::Query(QueryEntry {
+        line,
+        node,
+        time,
+        id,
+    }))
 }
 
 /// What a line of a trace says: an event or a query that was handed out, or nothing that is judged.
@@ -182,7 +135,7 @@ fn trace_happening(
 {
     let second = word_at(words, 2);
     if second == b"event".as_slice() {
-        event_in(alloc, line, words, 3, 7)
+        event_in(alloc, line, words, 3, 7, false)
     } else if second == b"handed".as_slice() {
         query_in(alloc, line, words, 3, 5, 6, 8)
     } else {
@@ -213,9 +166,9 @@ pub(crate) fn happening_in(
 {
     let first = word_at(words, 1);
     if first == b"event".as_slice() {
-        event_in(alloc, line, words, 2, 5)
+        event_in(alloc, line, words, 2, 5, false)
     } else if first == b"fired".as_slice() {
-        fired_in(alloc, line, words)
+        event_in(alloc, line, words, 2, 5, true)
     } else if first == b"query".as_slice() {
         query_in(alloc, line, words, 2, 3, 4, 4)
     } else if first == b"restarted".as_slice() {
@@ -227,6 +180,7 @@ pub(crate) fn happening_in(
     }
 }
 
+/// The restart that the words of a line say; `WordCount` where they are not two.
 fn restarted_in(words: &[&[u8]]) -> Result<Happening, StreamLineFault<Cause>>
     ensures said { Says happening_view result
         (of_count 2 (map (λ w. w.now) words.now) (Ok nothing)) }

@@ -29,10 +29,9 @@ impl Numbered for EventEntry {
 
     ghost seen = { event_seen };
 
-    fn further_on(self, lines: u64) -> EventEntry {
-        let mut moved = self;
-        moved.line = moved.line.saturating_add(lines);
-        moved
+    fn further_on(mut self, lines: u64) -> EventEntry {
+        self.line = self.line.saturating_add(lines);
+        self
     }
 }
 
@@ -43,10 +42,9 @@ impl Numbered for QueryEntry {
 
     ghost seen = { query_seen };
 
-    fn further_on(self, lines: u64) -> QueryEntry {
-        let mut moved = self;
-        moved.line = moved.line.saturating_add(lines);
-        moved
+    fn further_on(mut self, lines: u64) -> QueryEntry {
+        self.line = self.line.saturating_add(lines);
+        self
     }
 }
 
@@ -74,10 +72,9 @@ impl Numbered for DatedLine {
 
     ghost seen = { date_seen };
 
-    fn further_on(self, lines: u64) -> DatedLine {
-        let mut moved = self;
-        moved.line = moved.line.saturating_add(lines);
-        moved
+    fn further_on(mut self, lines: u64) -> DatedLine {
+        self.line = self.line.saturating_add(lines);
+        self
     }
 }
 

@@ -9,12 +9,14 @@ use crate::key::HandedOut;
 use crate::log::Log;
 use serf_text::cut;
 
+/// Whether an entry is of `node`.
 fn is_of<E: HandedOut>(entry: &E, node: &[u8]) -> bool
     ensures { result ≡ is_line_of E.seen node.now entry.now }
 {
     entry.handed().key.node == node
 }
 
+/// Whether an entry is of `node`, and its time above `clock`.
 fn is_above<E: HandedOut>(entry: &E, node: &[u8], clock: u64) -> bool
     ensures { result ≡ is_line_above E.seen node.now clock entry.now }
 {
@@ -32,6 +34,7 @@ pub fn first_above<E: HandedOut>(entries: &[E], node: &[u8], clock: u64) -> Opti
         .position(|entry| is_above(entry, node, clock))
 }
 
+/// Whether one of the entries is of `node`.
 fn is_among<E: HandedOut>(entries: &[E], node: &[u8]) -> bool
     ensures { result ≡ list_any (is_line_of E.seen node.now) entries.now }
 {
@@ -47,6 +50,7 @@ pub fn has_node(log: &Log, node: &[u8]) -> bool
         || is_among(log.fired.as_slice(), node)
 }
 
+/// Whether a line of a snapshot says that the node left.
 fn is_leave_line(line: &[u8]) -> bool
     ensures { result ≡ is_leave line.now }
 {
@@ -60,6 +64,7 @@ fn is_own_line(line: &[u8]) -> bool
     line.starts_with(b"#event ") || line.starts_with(b"#query ") || line.starts_with(b"#least ")
 }
 
+/// Whether a line begins as one of those in which Serf keeps clocks, members and coordinates.
 fn begins_as_kept_line(line: &[u8]) -> bool
     ensures { result ≡ begins_as_kept line.now }
 {
@@ -71,6 +76,7 @@ fn begins_as_kept_line(line: &[u8]) -> bool
         || line.starts_with(b"coordinate: ")
 }
 
+/// Whether bytes begin a clock line that was cut.
 fn is_torn_clock(bytes: &[u8]) -> bool
     ensures { result ≡ is_torn_clock_word bytes.now }
 {
@@ -100,6 +106,7 @@ fn is_sealed_line(line: &[u8]) -> bool
     }
 }
 
+/// Whether a line is one of a snapshot, Serf's or ours.
 fn is_line_of_snapshot(line: &[u8]) -> bool
     ensures { result ≡ is_kept_line line.now }
 {
@@ -139,6 +146,7 @@ fn has_line(text: &[u8], own: bool) -> bool
     }
 }
 
+/// Whether a line counts: of those that are ours alone with `own`, else of all that a snapshot may have.
 fn is_wanted(line: &[u8], own: bool) -> bool
     ensures { result ≡ is_line_wanted own line.now }
 {

@@ -1,10 +1,6 @@
 //! What tells an event, or a query, from others, lent by its line.
 
-ghost use Rattle.std.specs.Prelude.{◌≡◌, IfOk, map};
-ghost use Rattle.serf_judge.specs.Identity.{handed_seen};
-
 use crate::entry::{EventEntry, QueryEntry};
-use std::alloc::{AllocError, Global};
 
 /// The node that was handed something, and what it was: an event has no ID, and a query no texts.
 #[derive(Clone, Copy, PartialEq, Eq, Hash)]
@@ -72,18 +68,4 @@ impl HandedOut for QueryEntry {
             },
         }
     }
-}
-
-/// The lines of some entries, in order.
-pub(crate) fn handed_lines<'a, E: HandedOut>(
-    alloc: Global,
-    entries: &'a [E],
-) -> Result<Vec<Handed<'a>>, AllocError>
-    ensures { IfOk result (λ lines. map handed_seen lines.items ≡ map E.seen entries.entry.now) }
-{
-    let mut lines = Vec::new(alloc);
-    for entry in entries {
-        lines.push(entry.handed())?;
-    }
-    Ok(lines)
 }

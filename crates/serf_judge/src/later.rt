@@ -1,12 +1,14 @@
 //! Whether what nodes fired is later than what they were handed before.
 
-ghost use Rattle.std.specs.Prelude.{◌≡◌, IfOk, MatchOption, Err};
-ghost use Rattle.serf_judge.specs.Later.{AreAllLater, IsFirstNotLater, IsInOrder};
+ghost use Rattle.std.specs.Prelude.{◌≡◌, ◌↔◌, ◌≤◌, ◌<◌, ◌++◌, ◌∷◌, ◌||◌, [], ℕ, Err, IfOk, IsTrue, List, MatchOption, OnOk, Some, length, nat_le, position, slice_get, take};
+ghost use Rattle.std.specs.HashMap.{get};
+ghost use Rattle.serf_judge.specs.declared.entry.EventEntry.{EventEntry as Entry};
+ghost use Rattle.serf_judge.specs.Later.{AreAllLater, IsFirstNotLater, IsInOrder, IsLater, IsNotLater};
+ghost use Rattle.serf_judge.specs.Nodes.{is_same_text};
+ghost use Rattle.serf_judge.specs.Noted.{AreGreatest, IsCut, is_handed_at, says};
 
 use crate::entry::EventEntry;
-use crate::latest::{handed_after, note_before};
-use crate::order::is_in_order;
-use std::alloc::Global;
+use std::alloc::{AllocError, Global};
 use std::collections::HashMap;
 use thiserror::Error;
 
@@ -20,12 +22,104 @@ pub enum LaterFault {
     OutOfMemory,
 }
 
+/// The greatest of the time that is noted for a node, and this one.
+fn greatest_with(greatest: &HashMap<&[u8], u64>, node: &&[u8], time: u64) -> u64
+    ensures { (least : ℕ) → nat_le least result
+        ≡ (says (λ noted t. nat_le t noted) (get is_same_text greatest.now node.now) least
+        || nat_le least time) }
+{
+    match greatest.get(node) {
+        Some(noted) => time.max(*noted),
+        None => time,
+    }
+}
+
+/// Notes an event's time, where none that is noted for its node is greater.
+fn note<'a>(greatest: &mut HashMap<&'a [u8], u64>, event: &'a EventEntry) -> Result<(), AllocError>
+    ensures { (events : List Entry) → AreGreatest events greatest.old
+        → OnOk result (AreGreatest (events ++ event.entry.now ∷ []) greatest.new) }
+{
+    let node = event.node.as_slice();
+    let time = greatest_with(greatest, &node, event.time);
+    let _ = greatest.insert(node, time)?;
+    Ok(())
+}
+
+/// Notes the events of the lines before this one, of which some first ones are noted, and gives the number of those
+/// that are noted then.
+fn note_before<'a>(
+    greatest: &mut HashMap<&'a [u8], u64>,
+    events: &'a [EventEntry],
+    noted: usize,
+    line: u64,
+) -> Result<usize, AllocError>
+    ensures { noted ≤ length events.entry.now
+        → AreGreatest (take noted events.entry.now) greatest.old
+        → IsInOrder events.entry.now
+        → ((i : ℕ) (e : Entry) → i < noted → slice_get events.entry.now i ≡ Some e → e.line < line)
+        → IfOk result (λ n. (n ≤ length events.entry.now)
+        × AreGreatest (take n events.entry.now) greatest.new
+        × IsCut events.entry.now n line) }
+{
+    let mut place = noted;
+    'events: while place < events.len() && events[place].line < line {
+        note(greatest, &events[place])?;
+        place += 1;
+    }
+    Ok(place)
+}
+
+/// Whether an event was handed to a node before it fired, at this time or a later one.
+fn is_reached(event: &EventEntry, firing: &EventEntry, time: u64) -> bool
+    ensures { result ≡ is_handed_at firing.now time event.now }
+{
+    firing.node == event.node && event.line < firing.line && time <= event.time
+}
+
+/// The place of the first such event.
+fn first_reached(events: &[EventEntry], firing: &EventEntry, time: u64) -> Option<usize>
+    ensures { result ≡ position (is_handed_at firing.now time) events.now }
+{
+    events
+        .iter()
+        .position(|event| is_reached(event, firing, time))
+}
+
+/// The place of an event that the node was handed before it fired, which isn't before the time at which it fired.
+fn handed_after(
+    greatest: &HashMap<&[u8], u64>,
+    events: &[EventEntry],
+    firing: &EventEntry,
+) -> Option<usize>
+    ensures { (n : ℕ) → AreGreatest (take n events.now) greatest.now
+        → IsCut events.now n firing.now.line
+        → MatchOption result (IsLater events.now firing.now) (IsNotLater events.now firing.now) }
+{
+    match greatest.get(&firing.node.as_slice()) {
+        Some(noted) => {
+            let time = *noted;
+            if time < firing.time {
+                return None;
+            }
+            first_reached(events, firing, time)
+        }
+        None => None,
+    }
+}
+
+/// Whether entries stand in the order of their lines. Takes no memory.
+fn is_in_order(entries: &[EventEntry]) -> bool
+    ensures { IsTrue result ↔ IsInOrder entries.now }
+{
+    entries.is_sorted_by(|one, next| one.line <= next.line)
+}
+
 /// The place of the first event that a node fired at a time that is not above those of all events that it was handed on
 /// earlier lines, and the place of one of these that is not below it; `None` where each node fired only later than what
 /// it was handed before.
 ///
-/// Each entry is looked up once by its hash. Both lists are to be in the order of their lines, as
-/// [`crate::read_log`] has them: `OutOfOrder` comes just where one is not.
+/// Each entry is looked up once by its hash, and the events are walked once more where a place is given. Both lists are
+/// to be in the order of their lines, as [`crate::read_log`] has them: `OutOfOrder` comes just where one is not.
 pub fn first_not_later(
     alloc: Global,
     fired: &[EventEntry],
@@ -39,14 +133,14 @@ pub fn first_not_later(
     if !is_in_order(fired) || !is_in_order(events) {
         return Err(LaterFault::OutOfOrder);
     }
-    let mut latest = HashMap::new(alloc);
+    let mut greatest = HashMap::new(alloc);
     let mut noted: usize = 0;
     for (place, firing) in fired.iter().enumerate() {
-        noted = match note_before(&mut latest, events, noted, firing.line) {
+        noted = match note_before(&mut greatest, events, noted, firing.line) {
             Ok(noted) => noted,
             Err(_) => return Err(LaterFault::OutOfMemory),
         };
-        if let Some(event) = handed_after(&latest, firing) {
+        if let Some(event) = handed_after(&greatest, events, firing) {
             return Ok(Some((place, event)));
         }
     }

@@ -1,6 +1,6 @@
 //! A whole log.
 
-ghost use Rattle.std.specs.Prelude.{◌≡◌, ◌++◌, None, Err, Ok, List, ℕ, IfErr, IfOk, OnOk, map};
+ghost use Rattle.std.specs.Prelude.{◌≡◌, ◌++◌, None, List, ℕ, IfErr, IfOk, OnOk, map};
 ghost use Rattle.std.specs.Io.KnownBytes.{Consumes, IsAtEnd};
 ghost use Rattle.serf_text.specs.Words.{words_of};
 ghost use Rattle.serf_text.specs.Lines.{lines_of};
@@ -14,7 +14,7 @@ use crate::happening::{Happening, happening_in};
 use serf_text::{Cause, LineJob, StreamFault, StreamLineFault, answer_lines, cut};
 use std::alloc::{AllocError, Global};
 use std::io;
-use std::io::{Read, Write};
+use std::io::Read;
 
 /// What a log says: events that were fired, and events and queries that were handed out; and its lines that are not
 /// sound, and the dates of those that have one. Each is in the log's order.
@@ -62,20 +62,14 @@ fn is_comment_line(line: &[u8]) -> bool
 fn cut_return(line: &[u8]) -> &[u8]
     ensures { result.now ≡ without_return line.entry.now }
 {
-    match line.strip_suffix(&[b'\r']) {
-        Some(front) => front,
-        None => line,
-    }
+    line.strip_suffix(&[b'\r']).unwrap_or(line)
 }
 
 /// A line without the byte order mark of UTF-8 at its start, where it has one.
 fn cut_mark(line: &[u8]) -> &[u8]
     ensures { result.now ≡ without_mark line.entry.now }
 {
-    match line.strip_prefix(&[0xef, 0xbb, 0xbf]) {
-        Some(rest) => rest,
-        None => line,
-    }
+    line.strip_prefix(&[0xef, 0xbb, 0xbf]).unwrap_or(line)
 }
 
 /// A line without what may stand around its text. A byte order mark is cut off a log's first line alone.
@@ -108,11 +102,10 @@ fn happening_on(
 
 impl Log {
     /// Puts what a line says after the others.
-    fn add(&mut self, number: u64, happening: Happening) -> Result<(), StreamLineFault<Cause>>
+    fn add(&mut self, number: u64, happening: Happening) -> Result<(), AllocError>
         requires { IsAt number happening }
-        ensures added { OnOk result (log_view self.new
+        ensures { OnOk result (log_view self.new
             ≡ with_happening (log_view self.old) number (happening_view happening)) }
-        ensures memory { IfErr result (λ fault. fault ≡ StreamLineFault.OutOfMemory) }
     {
         let pushed = match happening {
             Happening::Nothing => return Ok(()),
@@ -120,30 +113,15 @@ impl Log {
             Happening::Event(event) => self.events.push(event).is_ok(),
             Happening::Query(query) => self.queries.push(query).is_ok(),
         };
-        if pushed {
-            Ok(())
-        } else {
-            Err(StreamLineFault::OutOfMemory)
-        }
+        if pushed { Ok(()) } else { Err(AllocError) }
     }
 
-    /// Puts the line of this number after the other bad ones.
-    fn add_bad(&mut self, line: u64, cause: Cause) -> Result<(), StreamLineFault<Cause>>
-        ensures added { OnOk result (log_view self.new
-            ≡ with_said (log_view self.old) line (Err cause)) }
-        ensures memory { IfErr result (λ fault. fault ≡ StreamLineFault.OutOfMemory) }
-    {
-        match self.bad.push(BadLine { line, cause }) {
-            Ok(()) => Ok(()),
-            Err(_) => Err(StreamLineFault::OutOfMemory),
-        }
-    }
-
-    /// Puts the date of the line of this number after the others, where it has one.
-    fn add_date(&mut self, line: u64, date: Vec<u8>) -> Result<(), AllocError>
+    /// Adds the date that the words of line number `line` begin with, if they do.
+    fn add_date(&mut self, alloc: Global, line: u64, words: &[&[u8]]) -> Result<(), AllocError>
         ensures { OnOk result (log_view self.new
-            ≡ with_date (log_view self.old) line date.items) }
+            ≡ with_date (log_view self.old) line (date_text (map (λ w. w.now) words.now))) }
     {
+        let date = date_of(alloc, words)?;
         if date.as_slice().is_empty() {
             return Ok(());
         }
@@ -151,109 +129,59 @@ impl Log {
         Ok(())
     }
 
-    /// Puts the date of these words, which are those of the line of this number, after the others.
-    fn add_date_of(
-        &mut self,
-        alloc: Global,
-        line: u64,
-        words: &[&[u8]],
-    ) -> Result<(), StreamLineFault<Cause>>
-        ensures added { OnOk result (log_view self.new
-            ≡ with_date (log_view self.old) line (date_text (map (λ w. w.now) words.now))) }
-        ensures memory { IfErr result (λ fault. fault ≡ StreamLineFault.OutOfMemory) }
-    {
-        let Ok(date) = date_of(alloc, words) else {
-            return Err(StreamLineFault::OutOfMemory);
-        };
-        match self.add_date(line, date) {
-            Ok(()) => Ok(()),
-            Err(_) => Err(StreamLineFault::OutOfMemory),
-        }
-    }
-
-    /// Puts what the words of the line of this number say after the others.
-    fn add_words(
-        &mut self,
-        alloc: Global,
-        number: u64,
-        words: &[&[u8]],
-    ) -> Result<(), StreamLineFault<Cause>>
-        ensures added { OnOk result (log_view self.new ≡ with_said (log_view self.old) number
+    /// Adds what the words of line number `line` say, or the line to the bad ones.
+    fn add_words(&mut self, alloc: Global, line: u64, words: &[&[u8]]) -> Result<(), AllocError>
+        ensures { OnOk result (log_view self.new ≡ with_said (log_view self.old) line
             (words_said (behind_date (map (λ w. w.now) words.now)))) }
-        ensures memory { IfErr result (λ fault. fault ≡ StreamLineFault.OutOfMemory) }
     {
-        match happening_on(alloc, number, words) {
-            Ok(happening) => self.add(number, happening),
-            Err(StreamLineFault::Bad(cause)) => self.add_bad(number, cause),
-            Err(StreamLineFault::OutOfMemory) => Err(StreamLineFault::OutOfMemory),
+        match happening_on(alloc, line, words) {
+            Ok(happening) => self.add(line, happening),
+            Err(StreamLineFault::Bad(cause)) => {
+                self.bad.push(BadLine { line, cause })?;
+                Ok(())
+            }
+            Err(StreamLineFault::OutOfMemory) => Err(AllocError),
         }
     }
 
     /// Puts the date of the line of this number, and what it says, after the others.
-    fn add_line(
-        &mut self,
-        alloc: Global,
-        number: u64,
-        line: &[u8],
-    ) -> Result<(), StreamLineFault<Cause>>
-        ensures added { OnOk result (log_view self.new
+    fn add_line(&mut self, alloc: Global, number: u64, line: &[u8]) -> Result<(), AllocError>
+        ensures { OnOk result (log_view self.new
             ≡ with_line (log_view self.old) number line.now) }
-        ensures memory { IfErr result (λ fault. fault ≡ StreamLineFault.OutOfMemory) }
     {
         if is_comment_line(line) {
             return Ok(());
         }
-        let Ok(words) = words_in(alloc, line) else {
-            return Err(StreamLineFault::OutOfMemory);
-        };
-        match self.add_date_of(alloc, number, words.as_slice()) {
-            Ok(()) => self.add_words(alloc, number, words.as_slice()),
-            Err(fault) => Err(fault),
-        }
+        let words = words_in(alloc, line)?;
+        self.add_date(alloc, number, words.as_slice())?;
+        self.add_words(alloc, number, words.as_slice())
     }
 }
 
-/// Reads a log, line by line.
-#[derive(Drop)]
-struct LogLines {
-    log: Log,
-}
-
-impl LineJob for LogLines {
+impl LineJob for Log {
     ghost use Rattle.std.specs.Prelude.{◌≡◌, List, ℕ};
     ghost use Rattle.serf_judge.specs.Said.{log_answer, log_of, log_view};
 
     type Fault = Cause;
 
-    ghost follows = { λ job lines. log_view job.log ≡ log_of lines };
+    ghost follows = { λ log lines. log_view log ≡ log_of lines };
 
     ghost answer = { log_answer };
 
+    /// Reads one more line.
     fn read_line(
         &mut self,
         alloc: Global,
         line: &[u8],
         _text: &mut Vec<u8>,
     ) -> Result<(), StreamLineFault<Cause>> {
-        let before = self.log.lines;
+        let before = self.lines;
         let number = before.saturating_add(1);
-        let bare = bare_line(line, before == 0);
-        self.log.lines = number;
-        self.log.add_line(alloc, number, bare)
-    }
-}
-
-/// Takes what is written, and keeps nothing.
-#[derive(Drop)]
-struct Nowhere;
-
-impl Write for Nowhere {
-    fn write(&mut self, buf: &[u8]) -> io::Result<usize> {
-        Ok(buf.len())
-    }
-
-    fn flush(&mut self) -> io::Result<()> {
-        Ok(())
+        self.lines = number;
+        match self.add_line(alloc, number, bare_line(line, before == 0)) {
+            Ok(()) => Ok(()),
+            Err(_) => Err(StreamLineFault::OutOfMemory),
+        }
     }
 }
 
@@ -262,8 +190,8 @@ impl Write for Nowhere {
 /// A line is `fired NODE TIME NAME PAYLOAD`, `event NODE TIME NAME PAYLOAD`, `query NODE TIME ID` or `restarted NODE`, by
 /// words between spaces, or a line of a trace of `serf-replay`. A comment (`#`) and a line without words say nothing.
 /// A date and a time of day before the other words are kept in `dates`. A carriage return at a line's end and a byte
-/// order mark of UTF-8 at the log's start say nothing. A line may have 16,777,216 bytes. A line that is not sound is kept in `bad`, with its
-/// cause, and says nothing else.
+/// order mark of UTF-8 at the log's start say nothing. A line may have 16,777,216 bytes. A line that is not sound is kept
+/// in `bad`, with its cause, and says nothing else.
 ///
 /// It is `ReadFault` where a read fails, `LineTooLong` with the number of the first longer line, and `OutOfMemory`.
 pub fn read_log<R: Read>(alloc: Global, reader: &mut R) -> Result<Log, StreamFault<Cause>>
@@ -276,21 +204,16 @@ pub fn read_log<R: Read>(alloc: Global, reader: &mut R) -> Result<Log, StreamFau
         × Consumes (R.remaining reader.old) (R.remaining reader.new) bytes
         × IsStopped log_answer fault (lines_of bytes) None None) }
 {
-    let mut job = LogLines {
-        log: Log {
-            fired: Vec::new(alloc),
-            events: Vec::new(alloc),
-            queries: Vec::new(alloc),
-            bad: Vec::new(alloc),
-            dates: Vec::new(alloc),
-            lines: 0,
-        },
+    let mut log = Log {
+        fired: Vec::new(alloc),
+        events: Vec::new(alloc),
+        queries: Vec::new(alloc),
+        bad: Vec::new(alloc),
+        dates: Vec::new(alloc),
+        lines: 0,
     };
-    match answer_lines(alloc, reader, &mut Nowhere, &mut job) {
-        Ok(()) => {
-            let LogLines { log, .. } = job;
-            Ok(log)
-        }
+    match answer_lines(alloc, reader, &mut io::sink(), &mut log) {
+        Ok(()) => Ok(log),
         Err(fault) => Err(fault),
     }
 }

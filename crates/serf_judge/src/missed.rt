@@ -1,10 +1,9 @@
 //! Which events some node was never handed.
 
-ghost use Rattle.std.specs.Prelude.{◌≡◌, ◌+◌, ◌≤◌, ◌++◌, ◌∷◌, [], IfOk, List, OnOk, filter, length, map, not, take};
-ghost use Rattle.serf_judge.specs.declared.entry.EventEntry.{EventEntry as Entry};
+ghost use Rattle.std.specs.Prelude.{◌≡◌, ◌++◌, ◌∷◌, [], IfOk, OnOk, filter, length, map, take};
 ghost use Rattle.serf_judge.specs.Fired.{content_of, key_content};
-ghost use Rattle.serf_judge.specs.Handed.{HasHanded};
-ghost use Rattle.serf_judge.specs.Missed.{contents_of, has_nodes, missed_of, missing_at, missing_view, was_handed};
+ghost use Rattle.serf_judge.specs.Noted.{HasHanded, lacks};
+ghost use Rattle.serf_judge.specs.Missed.{contents_of, has_nodes, missed_of, missing_at, missing_view};
 ghost use Rattle.serf_judge.specs.Nodes.{texts_of};
 
 use crate::again::firsts;
@@ -33,25 +32,15 @@ pub struct Missed<'a> {
     pub missed: Vec<MissedEvent<'a>>,
 }
 
-fn content_keys<'a>(
-    alloc: Global,
-    entries: &'a [EventEntry],
-) -> Result<Vec<ContentKey<'a>>, AllocError>
-    ensures { IfOk result (λ keys. map key_content keys.items ≡ map content_of entries.entry.now) }
+/// The time, name and payload of each event, each once.
+fn contents<'a>(alloc: Global, entries: &'a [EventEntry]) -> Result<Vec<ContentKey<'a>>, AllocError>
+    ensures { IfOk result (λ events. map key_content events.items
+        ≡ contents_of entries.entry.now) }
 {
     let mut keys = Vec::new(alloc);
     for entry in entries {
         keys.push(content_key(entry))?;
     }
-    Ok(keys)
-}
-
-/// Each event once.
-fn contents<'a>(alloc: Global, entries: &'a [EventEntry]) -> Result<Vec<ContentKey<'a>>, AllocError>
-    ensures { IfOk result (λ events. map key_content events.items
-        ≡ contents_of entries.entry.now) }
-{
-    let keys = content_keys(alloc, entries)?;
     firsts(alloc, keys.as_slice())
 }
 
@@ -66,9 +55,9 @@ fn handed_to<'a>(alloc: Global, entries: &'a [EventEntry]) -> Result<HashSet<Key
     Ok(handed)
 }
 
+/// Whether `node` was not handed an event.
 fn is_missing<'a>(handed: &HashSet<Key<'a>>, event: ContentKey<'a>, node: &'a [u8]) -> bool
-    ensures { (events : List Entry) → HasHanded events handed.now
-        → result ≡ not (was_handed events (key_content event.entry) node.now) }
+    ensures { result ≡ lacks handed.now event.entry node.entry }
 {
     let key = Key {
         node,
@@ -80,26 +69,6 @@ fn is_missing<'a>(handed: &HashSet<Key<'a>>, event: ContentKey<'a>, node: &'a [u
     !handed.contains(&key)
 }
 
-/// Puts a node after the others, where it was never handed an event.
-fn keep_missing<'a>(
-    handed: &HashSet<Key<'a>>,
-    missing: &mut Vec<&'a [u8]>,
-    event: ContentKey<'a>,
-    node: &'a [u8],
-) -> Result<(), AllocError>
-    ensures kept { (events : List Entry) → HasHanded events handed.now
-        → OnOk result (texts_of missing.new.items ≡ texts_of missing.old.items
-        ++ filter (λ n. not (was_handed events (key_content event.entry) n)) (node.now ∷ [])) }
-    ensures few { OnOk result (length missing.new.items ≤ length missing.old.items + 1) }
-{
-    let is_wanted = is_missing(handed, event, node);
-    if !is_wanted {
-        return Ok(());
-    }
-    missing.push(node)?;
-    Ok(())
-}
-
 /// At most so many of the nodes that were never handed an event.
 fn missing_nodes<'a>(
     alloc: Global,
@@ -108,20 +77,15 @@ fn missing_nodes<'a>(
     event: ContentKey<'a>,
     most: usize,
 ) -> Result<Vec<&'a [u8]>, AllocError>
-    ensures { (events : List Entry) → HasHanded events handed.entry.now
-        → IfOk result (λ missing. texts_of missing.items
-        ≡ take most (filter (λ n. not (was_handed events (key_content event.entry) n))
-        (texts_of nodes.entry.now))) }
+    ensures { IfOk result (λ missing. missing.items
+        ≡ take most (filter (lacks handed.entry.now event.entry) nodes.entry.now)) }
 {
-    let mut missing = Vec::new(alloc);
-    for node in nodes {
-        let is_full = missing.as_slice().len() == most;
-        if is_full {
-            return Ok(missing);
-        }
-        keep_missing(handed, &mut missing, event, *node)?;
-    }
-    Ok(missing)
+    nodes
+        .iter()
+        .copied()
+        .filter(|node| is_missing(handed, event, *node))
+        .take(most)
+        .collect(alloc)
 }
 
 /// Puts an event after the others, where some node never had it.

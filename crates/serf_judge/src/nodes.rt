@@ -10,6 +10,7 @@ use crate::key::HandedOut;
 use crate::log::Log;
 use std::alloc::{AllocError, Global};
 
+/// Adds the node of each entry.
 fn add_nodes<'a, E: HandedOut>(
     nodes: &mut Vec<&'a [u8]>,
     entries: &'a [E],

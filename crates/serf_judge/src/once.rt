@@ -1,26 +1,39 @@
-//! Whether an event, or a query, was handed to a node twice.
+//! Whether an event, or a query, was handed to a node twice: two equal keys, by their hashes.
 
 ghost use Rattle.std.specs.Prelude.{◌≡◌, ◌↔◌, IfOk, List, MatchOption, None, map};
 ghost use Rattle.serf_model.specs.Promises.{Once, QueryHandedOnce};
 ghost use Rattle.serf_model.specs.Trace.{Turn};
-ghost use Rattle.serf_judge.specs.Identity.{event_identity, key_identity, query_identity};
+ghost use Rattle.serf_judge.specs.Identity.{event_identity, query_identity};
+ghost use Rattle.serf_judge.specs.Pairs.{HasNoPair, IsFirstPair};
 ghost use Rattle.serf_judge.specs.Stands.{AreEventsOf, AreQueriesOf};
 ghost use Rattle.serf_judge.specs.Twice.{AreFirstTwo, HasNoTwo};
 
 use crate::entry::{EventEntry, QueryEntry};
-use crate::key::{HandedOut, Key};
-use crate::pairs::first_pair;
+use crate::key::HandedOut;
 use std::alloc::{AllocError, Global};
+use std::collections::HashMap;
+use std::hash::Hash;
 
-fn keys_of<'a, E: HandedOut>(alloc: Global, entries: &'a [E]) -> Result<Vec<Key<'a>>, AllocError>
-    ensures { IfOk result (λ keys. map key_identity keys.items
-        ≡ map (λ e. (E.seen e).1) entries.entry.now) }
+/// The places of the first two equal keys: no two equal keys have their later place before this one's, and none with
+/// the same later place has an earlier one. `None` where no two are equal.
+///
+/// Each key is looked up once by its hash. It is an `AllocError` only where there is no memory for the keys.
+pub fn first_pair<K: Eq + Hash + Copy>(
+    alloc: Global,
+    keys: &[K],
+) -> Result<Option<(usize, usize)>, AllocError>
+    ensures { IfOk result (λ pair. MatchOption pair (HasNoPair K.eq keys.now)
+        (λ places. IsFirstPair K.eq keys.now places.0 places.1)) }
 {
-    let mut keys = Vec::new(alloc);
-    for entry in entries {
-        keys.push(entry.handed().key)?;
+    let mut places = HashMap::new(alloc);
+    for (place, key) in keys.iter().enumerate() {
+        match places.insert(*key, place) {
+            Ok(None) => {}
+            Ok(Some(earlier)) => return Ok(Some((earlier, place))),
+            Err(_) => return Err(AllocError),
+        }
     }
-    Ok(keys)
+    Ok(None)
 }
 
 /// The places of the first two entries that hand one thing to one node.
@@ -32,7 +45,10 @@ fn first_twice<E: HandedOut>(
         (HasNoTwo (map (λ e. (E.seen e).1) entries.now))
         (λ places. AreFirstTwo (map (λ e. (E.seen e).1) entries.now) places.0 places.1)) }
 {
-    let keys = keys_of(alloc, entries)?;
+    let mut keys = Vec::new(alloc);
+    for entry in entries {
+        keys.push(entry.handed().key)?;
+    }
     first_pair(alloc, keys.as_slice())
 }
 

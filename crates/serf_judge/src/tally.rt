@@ -4,10 +4,10 @@ ghost use Rattle.std.specs.Prelude.{◌≡◌, ℕ, ◌++◌, ◌∷◌, [], IfO
 ghost use Rattle.serf_judge.specs.Nodes.{texts_of};
 ghost use Rattle.serf_judge.specs.Identity.{Identity, handed_seen};
 ghost use Rattle.serf_judge.specs.Tallies.{lines_to, nodes_of, repeats_among, tallies_of, tally_of, told_of};
-ghost use Rattle.serf_judge.specs.Tallied.{AreTallied};
+ghost use Rattle.serf_judge.specs.Noted.{AreTallied};
 
 use crate::again::repeats;
-use crate::key::{Handed, HandedOut, handed_lines};
+use crate::key::{Handed, HandedOut};
 use crate::nodes::each_once;
 use std::alloc::{AllocError, Global};
 use std::collections::HashMap;
@@ -75,10 +75,8 @@ fn add_line<'a>(table: &mut HashMap<&'a [u8], Tally>, line: Handed<'a>) -> Resul
         → OnOk result (AreTallied (lines ++ handed_seen line.entry ∷ []) table.new) }
 {
     let tally = one_more(tally_at(table, line.key.node), line);
-    match table.insert(line.key.node, tally) {
-        Ok(_) => Ok(()),
-        Err(_) => Err(AllocError),
-    }
+    let _ = table.insert(line.key.node, tally)?;
+    Ok(())
 }
 
 /// What each node's lines come to.
@@ -134,7 +132,6 @@ pub fn tally_repeats<'a, E: HandedOut>(
     ensures { IfOk result (λ told. map told_of told.items
         ≡ tallies_of (repeats_among (map E.seen entries.entry.now))) }
 {
-    let lines = handed_lines(alloc, entries)?;
-    let again = repeats(alloc, lines.as_slice())?;
+    let again = repeats(alloc, entries)?;
     tallies(alloc, again.as_slice())
 }

@@ -1,4 +1,4 @@
-//! A clock.
+//! A Lamport clock: it draws times, and is kept later than the times that come from elsewhere.
 
 ghost use Rattle.std.specs.Prelude.{◌≡◌, ◌<◌, ◌+◌, ◌↔◌, IfOk, OnOk, OnErr, IsErr};
 ghost use Rattle.serf_lamport.specs.Clock.{greatest_clock, observed, observed_before};
@@ -46,8 +46,8 @@ impl Clock {
         value
     }
 
-    /// Makes the clock later than a time (`LamportClock.Witness`): nothing where the time is below the
-    /// clock, else the clock becomes the time plus one. Takes no memory.
+    /// Makes the clock later than `time` (`LamportClock.Witness`): nothing where `time` is below the
+    /// clock, else the clock becomes `time` plus one. Takes no memory.
     pub fn observe(&mut self, time: Time)
         ensures { self.new ≡ observed self.old time }
     {
@@ -56,7 +56,7 @@ impl Clock {
         }
     }
 
-    /// Observes the number before this one, which is what a push/pull says of a peer's clock
+    /// Observes the number before `value`, which is what a push/pull says of a peer's clock
     /// (`delegate.go`, `MergeRemoteState`): nothing at 0. Takes no memory.
     pub fn observe_before(&mut self, value: u64)
         ensures { self.new ≡ observed_before self.old value }

@@ -1,4 +1,4 @@
-//! A time.
+//! A Lamport time, as clocks draw it and messages carry it.
 
 ghost use Rattle.std.specs.Prelude.{◌≡◌, ◌<◌};
 ghost use Rattle.std.specs.Option.{SomeIff};
@@ -28,7 +28,7 @@ impl Model for Time {
 }
 
 impl Time {
-    /// The time of this number, or `None` at 2^64 - 1. Takes no memory.
+    /// The time of the number `value`, or `None` at 2^64 - 1. Takes no memory.
     pub fn new(value: u64) -> Option<Time>
         ensures { SomeIff result (value < greatest_clock) value }
     {

@@ -90,25 +90,42 @@ abbrev per_time : Option IdealNode → ℕ
 per_time None = 0
 per_time (Some m) = m.agent.config.per_time
 
--- what an agent entered in its life begins with what was taken back as the life began, if there was some; then comes this
-abbrev EndsIn : {K : Type 0} → List (TimedEntry K) → List (TimedEntry K) → Type 0
-EndsIn {K} all entered = (taken : List (TimedEntry K)) × (all ≡ taken ++ entered)
+-- What an agent entered of a track in its life begins with what was taken back as the life began, if there was some; then comes
+-- this. And few of it are of one time.
+record IsLivedIn {K : Type 0} (k : ℕ) (all entered : List (TimedEntry K)) : Type 0 where
+  taken : List (TimedEntry K)
+  ends : all ≡ taken ++ entered
+  few : AtMostOfOneTime k all
 
 record IsLivedAt (configs : List Config) (turns : List Turn) (a : ℕ) (r : Option IdealNode) : Type 0 where
   config : option_map (λ m. m.agent.config) r ≡ slice_get configs a
-  events : EndsIn (life_events r) (events_of_life a turns)
-  queries : EndsIn (life_queries r) (queries_of_life a turns)
-  few_events : AtMostOfOneTime (per_time r) (life_events r)
-  few_queries : AtMostOfOneTime (per_time r) (life_queries r)
+  events : IsLivedIn (per_time r) (life_events r) (events_of_life a turns)
+  queries : IsLivedIn (per_time r) (life_queries r) (queries_of_life a turns)
+
+few-in : {K : Type 0} (life life' k k' : ℕ) (h : List (Past K)) → life' ≡ life → k' ≡ k → AtMostOfOneTime k (of_life life h) → AtMostOfOneTime k' (of_life life' h)
+few-in life life' k k' h same per few = subst (λ (n : ℕ). AtMostOfOneTime n (of_life life' h)) (sym per) (subst (λ (l : ℕ). AtMostOfOneTime k (of_life l h)) (sym same) few)
+
+-- a life goes on
+lives-on : {K : Type 0} (life life' k k' : ℕ) (old new : List (Past K)) (entered more : List (TimedEntry K)) → life' ≡ life → k' ≡ k → Enters life k old new more → IsLivedIn k (of_life life old) entered → IsLivedIn k' (of_life life' new) (entered ++ more)
+lives-on life life' k k' old new entered more same per enters h = record {
+  taken = h.taken;
+  ends = ap (λ l. of_life l new) same ∙ enters-life enters ∙ ap (λ l. l ++ more) h.ends ∙ append_assoc h.taken entered more;
+  few = few-in life life' k k' new same per (enters.bounded h.few);
+}
+
+-- or it has entered nothing yet: all was taken back
+lives-anew : {K : Type 0} (k : ℕ) (all entered : List (TimedEntry K)) → entered ≡ [] → AtMostOfOneTime k all → IsLivedIn k all entered
+lives-anew k all entered none few = record { taken = all; ends = sym (append-nil all) ∙ ap (λ l. all ++ l) (sym none); few = few }
+
+lives-first : {K : Type 0} (k : ℕ) (all : List (TimedEntry K)) → all ≡ [] → IsLivedIn k all []
+lives-first k all none = record { taken = []; ends = none; few = subst (AtMostOfOneTime k) (sym none) (λ t. omega arith) }
 
 -- a turn of another agent
 lived-other : (configs : List Config) (turns : List Turn) (turn : Turn) (a : ℕ) (r : Option IdealNode) → IsLivedAt configs turns a r → reopens a turn ≡ false → handed a turn ≡ [] → added entered a turn ≡ [] → IsLivedAt configs (turns ++ turn ∷ []) a r
 lived-other configs turns turn a r h goes none no_query = record {
   config = h.config;
-  events = (h.events.0, h.events.1 ∙ ap (λ l. h.events.0 ++ l) (sym (events-on a turns turn goes ∙ ap (λ l. events_of_life a turns ++ l) none ∙ append-nil (events_of_life a turns))));
-  queries = (h.queries.0, h.queries.1 ∙ ap (λ l. h.queries.0 ++ l) (sym (queries-on a turns turn goes ∙ ap (λ l. queries_of_life a turns ++ l) no_query ∙ append-nil (queries_of_life a turns))));
-  few_events = h.few_events;
-  few_queries = h.few_queries;
+  events = subst (IsLivedIn (per_time r) (life_events r)) (sym (events-on a turns turn goes ∙ ap (λ l. events_of_life a turns ++ l) none ∙ append-nil (events_of_life a turns))) h.events;
+  queries = subst (IsLivedIn (per_time r) (life_queries r)) (sym (queries-on a turns turn goes ∙ ap (λ l. queries_of_life a turns ++ l) no_query ∙ append-nil (queries_of_life a turns))) h.queries;
 }
 
 -- a turn of this agent, in the same life
@@ -118,37 +135,22 @@ lived-same : (configs : List Config) (turns : List Turn) (turn : Turn) (a : ℕ)
 lived-same configs turns turn a m n h same life config events queries =
     let i : IdealAgent = m.agent in
     let j : IdealAgent = n.agent in
+    let per : j.config.per_time ≡ i.config.per_time = ap (λ (c : Config). c.per_time) config in
     record {
       config = ap (λ (c : Config). Some c) config ∙ h.config;
-      events = (
-        h.events.0,
-        ap (λ l. of_life l j.events.history) life ∙ enters-life events ∙ ap (λ l. l ++ handed a turn) h.events.1 ∙ append_assoc h.events.0 (events_of_life a turns) (handed a turn)
-            ∙ ap (λ l. h.events.0 ++ l) (sym (events-on a turns turn same)),
-      );
-      queries = (
-        h.queries.0,
-        ap (λ l. of_life l j.queries.history) life ∙ enters-life queries ∙ ap (λ l. l ++ added entered a turn) h.queries.1 ∙ append_assoc h.queries.0 (queries_of_life a turns) (added entered a turn)
-            ∙ ap (λ l. h.queries.0 ++ l) (sym (queries-on a turns turn same)),
-      );
-      few_events = subst (λ (c : Config). AtMostOfOneTime c.per_time (of_life j.life j.events.history)) (sym config)
-          (subst (λ (l : ℕ). AtMostOfOneTime i.config.per_time (of_life l j.events.history)) (sym life) (events.bounded h.few_events));
-      few_queries = subst (λ (c : Config). AtMostOfOneTime c.per_time (of_life j.life j.queries.history)) (sym config)
-          (subst (λ (l : ℕ). AtMostOfOneTime i.config.per_time (of_life l j.queries.history)) (sym life) (queries.bounded h.few_queries));
+      events = subst (IsLivedIn j.config.per_time (of_life j.life j.events.history)) (sym (events-on a turns turn same))
+          (lives-on i.life j.life i.config.per_time j.config.per_time i.events.history j.events.history (events_of_life a turns) (handed a turn) life per events h.events);
+      queries = subst (IsLivedIn j.config.per_time (of_life j.life j.queries.history)) (sym (queries-on a turns turn same))
+          (lives-on i.life j.life i.config.per_time j.config.per_time i.queries.history j.queries.history (queries_of_life a turns) (added entered a turn) life per queries h.queries);
     }
-
--- all that a life has entered at its beginning was taken back
-ends-none : {K : Type 0} (all entered : List (TimedEntry K)) → entered ≡ [] → EndsIn all entered
-ends-none {K} all entered none = (all, sym (append-nil all) ∙ ap (λ l. all ++ l) (sym none))
 
 -- a turn that opens this agent again
 lived-anew : (configs : List Config) (turns : List Turn) (turn : Turn) (a : ℕ) (m n : IdealNode) → IsLivedAt configs turns a (Some m) → reopens a turn ≡ true → n.agent.config ≡ m.agent.config
     → AtMostOfOneTime n.agent.config.per_time (life_events (Some n)) → AtMostOfOneTime n.agent.config.per_time (life_queries (Some n)) → IsLivedAt configs (turns ++ turn ∷ []) a (Some n)
 lived-anew configs turns turn a m n h anew config events queries = record {
   config = ap (λ (c : Config). Some c) config ∙ h.config;
-  events = ends-none (life_events (Some n)) (events_of_life a (turns ++ turn ∷ [])) (ap (events_to a) (life-new a turns turn anew));
-  queries = ends-none (life_queries (Some n)) (queries_of_life a (turns ++ turn ∷ [])) (ap (queries_at a) (life-new a turns turn anew));
-  few_events = events;
-  few_queries = queries;
+  events = lives-anew n.agent.config.per_time (life_events (Some n)) (events_of_life a (turns ++ turn ∷ [])) (ap (events_to a) (life-new a turns turn anew)) events;
+  queries = lives-anew n.agent.config.per_time (life_queries (Some n)) (queries_of_life a (turns ++ turn ∷ [])) (ap (queries_at a) (life-new a turns turn anew)) queries;
 }
 
 -- ---- a step
@@ -195,13 +197,10 @@ own-act lower configs c turns b act m representable h = by (is_restarted o.done.
         → (let o = apply m c.sent act in IsLivedAt configs (turns ++ (applied c b act o).turn ∷ []) b (Some (with_handed o.done.handed o.node)))
     by true opening =
         let life = k.life ∙ ap (λ x. cond x (m.agent.life + 1) m.agent.life) opening in
-        let few_events : AtMostOfOneTime m.agent.config.per_time (of_life o.node.agent.life o.node.agent.events.history) =
-        subst (λ (l : ℕ). AtMostOfOneTime m.agent.config.per_time (of_life l o.node.agent.events.history)) (sym life) (k.events_begin opening).few in
-        let few_queries : AtMostOfOneTime m.agent.config.per_time (of_life o.node.agent.life o.node.agent.queries.history) =
-        subst (λ (l : ℕ). AtMostOfOneTime m.agent.config.per_time (of_life l o.node.agent.queries.history)) (sym life) (k.queries_begin opening).few in
+        let per : o.node.agent.config.per_time ≡ m.agent.config.per_time = ap (λ (c : Config). c.per_time) k.config in
         lived-anew configs turns turn b m _ h (ap (λ x. (b == b) && x) opening ∙ ap (λ x. x && true) mine) k.config
-        (subst (λ (c : Config). AtMostOfOneTime c.per_time (of_life o.node.agent.life o.node.agent.events.history)) (sym k.config) few_events)
-        (subst (λ (c : Config). AtMostOfOneTime c.per_time (of_life o.node.agent.life o.node.agent.queries.history)) (sym k.config) few_queries)
+        (few-in (m.agent.life + 1) o.node.agent.life m.agent.config.per_time o.node.agent.config.per_time o.node.agent.events.history life per (k.events_begin opening).few)
+        (few-in (m.agent.life + 1) o.node.agent.life m.agent.config.per_time o.node.agent.config.per_time o.node.agent.queries.history life per (k.queries_begin opening).few)
     by false goes =
         lived-same configs turns turn b m _ h (ap (λ x. (b == b) && x) goes ∙ and-false (b == b)) (k.life ∙ ap (λ x. cond x (m.agent.life + 1) m.agent.life) goes) k.config
         (subst (Enters m.agent.life m.agent.config.per_time m.agent.events.history o.node.agent.events.history) (sym (lines-same b b o.done.events (eq-eqb b b refl))) (k.events goes))
@@ -248,17 +247,12 @@ lived-start : (configs : List Config) → IsLived configs (start configs).cluste
 lived-start configs a = subst (IsLivedAt configs [] a) (sym (first_node-at configs a)) (by (slice_get configs a) refl)
   where
     by : (r : Option Config) → slice_get configs a ≡ r → IsLivedAt configs [] a (option_map first_node r)
-    by None at = record { config = sym at; events = ([], refl); queries = ([], refl); few_events = λ t. omega arith; few_queries = λ t. omega arith }
-    by (Some c) at =
-        let none_events : [] ≡ of_life 1 (opened_first c).events.history = ap (of_life 1) (sym (first-events c)) in
-        let none_queries : [] ≡ of_life 1 (opened_first c).queries.history = ap (of_life 1) (sym (first-queries c)) in
-        record {
-          config = sym at;
-          events = ([], sym none_events);
-          queries = ([], sym none_queries);
-          few_events = subst (AtMostOfOneTime c.per_time) none_events (λ t. omega arith);
-          few_queries = subst (AtMostOfOneTime c.per_time) none_queries (λ t. omega arith);
-        }
+    by None at = record { config = sym at; events = lives-first 0 [] refl; queries = lives-first 0 [] refl }
+    by (Some c) at = record {
+      config = sym at;
+      events = lives-first c.per_time (of_life 1 (opened_first c).events.history) (ap (of_life 1) (first-events c));
+      queries = lives-first c.per_time (of_life 1 (opened_first c).queries.history) (ap (of_life 1) (first-queries c));
+    }
 
 -- ---- every run
 
@@ -284,25 +278,24 @@ all-behind : {X : Type 0} (P : X → Type 0) (front xs : List X) → All P (fron
 all-behind P [] xs all = all
 all-behind P (x ∷ front) xs all = all-behind P front xs (All-tail P x (front ++ xs) all)
 
+lived-bounded : {K : Type 0} → SlotLaws K → (n k k' : ℕ) (all entered : List (TimedEntry K)) → k ≡ k' → IsLivedIn k all entered → IsBounded n k' entered
+lived-bounded laws n k k' all entered same h = is-bounded laws n k' entered (subst (λ (j : ℕ). AtMostOfOneTime j entered) same (few-behind k h.taken entered (subst (AtMostOfOneTime k) h.ends h.few)))
+
 bounded-events : SlotLaws EventBody → (configs : List Config) (turns : List Turn) (a : ℕ) (r : Option IdealNode) (c : Config) → IsLivedAt configs turns a r → ((m : IdealNode) → r ≡ Some m → IsRepresentable m.agent) → slice_get configs a ≡ Some c
     → AreEventsBounded c.event_buffer c.per_time (events_of_life a turns)
 bounded-events laws configs turns a None c h representable at = absurd (let no : None ≡ Some c = h.config ∙ at in cc)
 bounded-events laws configs turns a (Some m) c h representable at =
     let same : m.agent.config ≡ c = let e : Some m.agent.config ≡ Some c = h.config ∙ at in cc in
     record {
-      bounded = is-bounded laws c.event_buffer c.per_time (events_of_life a turns)
-          (subst (λ (x : Config). AtMostOfOneTime x.per_time (events_of_life a turns)) same
-          (few-behind m.agent.config.per_time h.events.0 (events_of_life a turns) (subst (AtMostOfOneTime m.agent.config.per_time) h.events.1 h.few_events)));
-      short = all-behind IsShort h.events.0 (events_of_life a turns) (subst (All IsShort) h.events.1 (short-life m.agent.life m.agent.events.history (representable m refl).consistent.sound.short));
+      bounded = lived-bounded laws c.event_buffer m.agent.config.per_time c.per_time (life_events (Some m)) (events_of_life a turns) (ap (λ (x : Config). x.per_time) same) h.events;
+      short = all-behind IsShort h.events.taken (events_of_life a turns) (subst (All IsShort) h.events.ends (short-life m.agent.life m.agent.events.history (representable m refl).consistent.sound.short));
     }
 
 bounded-queries : SlotLaws ℕ → (configs : List Config) (turns : List Turn) (a : ℕ) (r : Option IdealNode) (c : Config) → IsLivedAt configs turns a r → slice_get configs a ≡ Some c → IsBounded c.query_buffer c.per_time (queries_of_life a turns)
 bounded-queries laws configs turns a None c h at = absurd (let no : None ≡ Some c = h.config ∙ at in cc)
 bounded-queries laws configs turns a (Some m) c h at =
     let same : m.agent.config ≡ c = let e : Some m.agent.config ≡ Some c = h.config ∙ at in cc in
-    is-bounded laws c.query_buffer c.per_time (queries_of_life a turns)
-    (subst (λ (x : Config). AtMostOfOneTime x.per_time (queries_of_life a turns)) same
-    (few-behind m.agent.config.per_time h.queries.0 (queries_of_life a turns) (subst (AtMostOfOneTime m.agent.config.per_time) h.queries.1 h.few_queries)))
+    lived-bounded laws c.query_buffer m.agent.config.per_time c.per_time (life_queries (Some m)) (queries_of_life a turns) (ap (λ (x : Config). x.per_time) same) h.queries
 
 abbrev EventsAt : List Config → List Turn → Turn → Type 0
 EventsAt configs before turn = (a : ℕ) (c : Config) → slice_get configs a ≡ Some c → AreEventsBounded c.event_buffer c.per_time (events_of_life a (before ++ turn ∷ []))
@@ -346,8 +339,8 @@ queries-bounded lower event_laws query_laws configs actions ok told = (kept-run 
 windows-of : SlotLaws EventBody → SlotLaws ℕ → (configs : List Config) (turns : List Turn) (a : ℕ) (r : Option IdealNode) (m : IdealNode) → IsLivedAt configs turns a r → r ≡ Some m → All IsShort (of_life m.agent.life m.agent.events.history) → AreWindowsBounded m.agent
 windows-of event_laws query_laws configs turns a r m h at short =
     let i = m.agent in
-    let few_events : AtMostOfOneTime i.config.per_time (of_life i.life i.events.history) = subst (λ (o : Option IdealNode). AtMostOfOneTime (per_time o) (life_events o)) at h.few_events in
-    let few_queries : AtMostOfOneTime i.config.per_time (of_life i.life i.queries.history) = subst (λ (o : Option IdealNode). AtMostOfOneTime (per_time o) (life_queries o)) at h.few_queries in
+    let few_events : AtMostOfOneTime i.config.per_time (of_life i.life i.events.history) = subst (λ (o : Option IdealNode). AtMostOfOneTime (per_time o) (life_events o)) at h.events.few in
+    let few_queries : AtMostOfOneTime i.config.per_time (of_life i.life i.queries.history) = subst (λ (o : Option IdealNode). AtMostOfOneTime (per_time o) (life_queries o)) at h.queries.few in
     record {
       events = record { bounded = is-bounded event_laws i.config.event_buffer i.config.per_time (of_life i.life i.events.history) few_events; short = short };
       queries = is-bounded query_laws i.config.query_buffer i.config.per_time (of_life i.life i.queries.history) few_queries;

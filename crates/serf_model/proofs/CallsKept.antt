@@ -1,5 +1,5 @@
 -- What a call, an event and a query leave sound, over a sink with a plan.
-use Rattle.serf_model.proofs.Names.{◌≡◌, ◌≢◌, ℕ, ◌-◌, ◌^◌, ◌<◌, ◌≤◌, ◌==◌, nat_lt, nat_le, Bool, true, false, cond, List, Option, Some, None, IsSome, Ok, Err, refl, sym, ap, subst, arith, length, inl, inr, All, not, is_some, All-weaker, append-nil, and_parts, or_parts, leb-true, leb-false, ltb-false, EventBody, Query, query, ClockKind, clock_line, FailurePlan, SnapshotView, Writing, Kept, Failed, IsObservable, MayWrite, will_write, written, last_line, note_fails, durable_left_by, Notes, Step, MayNote, planned, ended, will_note, IdealAgent, with_snapshot, Past, IsSound, canonical, TimedEntry, Config, Event, QueryFault, QueryParams, Reason, is_sound, query_fired_as, query_fault, query_asked, query_admission, query_received_as, query_entered, handed_if_passed, ack_if_passed, has_flag, no_broadcast_flag, is_no_timeout, is_too_large_query, FireFault, texts_len, admission, received_as, event_entered, fired_as, fire_fault, event_packet, event_out, drawn, is_too_large}
+use Rattle.serf_model.proofs.Names.{Call, will, ◌≡◌, ◌≢◌, ℕ, ◌-◌, ◌^◌, ◌<◌, ◌≤◌, ◌==◌, nat_lt, nat_le, Bool, true, false, cond, List, Option, Some, None, IsSome, Ok, Err, refl, sym, ap, subst, arith, length, inl, inr, All, not, is_some, All-weaker, append-nil, and_parts, or_parts, leb-true, leb-false, ltb-false, EventBody, Query, query, ClockKind, clock_line, FailurePlan, SnapshotView, Writing, Kept, Failed, IsObservable, MayWrite, will_write, written, last_line, note_fails, durable_left_by, Notes, Step, MayNote, planned, ended, will_note, IdealAgent, with_snapshot, Past, IsSound, canonical, TimedEntry, Config, Event, QueryFault, QueryParams, Reason, is_sound, query_fired_as, query_fault, query_asked, query_admission, query_received_as, query_entered, handed_if_passed, ack_if_passed, has_flag, no_broadcast_flag, is_no_timeout, is_too_large_query, FireFault, texts_len, admission, received_as, event_entered, fired_as, fire_fault, event_packet, event_out, drawn, is_too_large}
 use Rattle.serf_snap.specs.declared.kind.ClockKind.TheVariants as kinds
 use Rattle.serf_snap.specs.KeptNotes.{kept_bytes}
 use Rattle.serf_snap.specs.Notes.{MayReplaceBy, text_replaced, will_put}
@@ -214,3 +214,11 @@ ready-query_fired lower tags i now q None g at may =
       events = g.events;
       queries = omega (arith, g.queries, m.clock);
     })
+
+-- a call ends as its line is kept, or as the sink fails
+pub kept-or-failed : {R : Type 0} (Goal : Step R → Type 0) (i : IdealAgent) (call : Call R) → Goal (ended i call Kept) → ((durable : Option (List ℕ)) → Goal (ended i call (Failed durable))) → Goal (planned i call)
+kept-or-failed {R} Goal i call kept failed = by (will i call)
+  where
+    by : (w : Writing) → Goal (ended i call w)
+    by Kept = kept
+    by (Failed durable) = failed durable

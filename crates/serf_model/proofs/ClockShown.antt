@@ -1,7 +1,6 @@
--- An agent's event clock is no higher than its turns show it.
-use Rattle.serf_model.proofs.Names.{◌≡◌, ℕ, ◌≤◌, Bool, true, false, cond, List, [], ◌∷◌, Option, Some, None, Result, Ok, Err, refl, sym, subst, arith, slice_get, fold, observed, WireFault, EventBody, decoded, Message, PushPull, Query, QueryResponse, user_event, query, query_response, push_pull, foreign, TimedEntry, event_of, Writing, Kept, Failed, OpenQuery, Call, Step, answers, ended, planned, will, IdealAgent, FireFault, MergeFault, NoteFault, Outcome, QueryFault, Reason, ReceiveFault, Handed, RespondFault, respond_fault, admission, fire_fault, fired_as, received_as, answer_ignore_reason, asked_at, is_ack, is_full, query_admission, query_at, query_fault, query_fired_as, query_received_as, response_received_as, response_received_at, receive_read, events_of, merge_refusal, receive_one}
+-- An agent's clocks, of events and of queries, are no higher than its turns show them.
+use Rattle.serf_model.proofs.Names.{◌≡◌, ℕ, ◌≤◌, Bool, true, false, cond, List, [], ◌∷◌, Option, Some, None, Result, Ok, Err, refl, arith, slice_get, fold, observed, WireFault, EventBody, decoded, Message, PushPull, Query, QueryResponse, user_event, query, query_response, push_pull, foreign, TimedEntry, event_of, OpenQuery, Call, Step, answers, planned, IdealAgent, FireFault, MergeFault, NoteFault, Outcome, QueryFault, Reason, ReceiveFault, Handed, RespondFault, respond_fault, admission, fire_fault, fired_as, received_as, answer_ignore_reason, asked_at, is_ack, is_full, query_admission, query_at, query_fault, query_fired_as, query_received_as, response_received_as, response_received_at, receive_read, events_of, merge_refusal, receive_one}
 use Rattle.std.specs.Prelude.{max}
-use Rattle.serf_agent.specs.declared.outcome.FiredQuery.{FiredQuery}
 use Rattle.serf_agent.specs.declared.outcome.Outcome.TheVariants as outcomes
 use Rattle.serf_agent.specs.declared.outcome.PushPullFault.{PushPullFault}
 use Rattle.serf_agent.specs.declared.outcome.ReceiveFault.TheVariants as receives
@@ -16,11 +15,23 @@ use Rattle.serf_model.specs.declared.action.Action.TheVariants.{Of}
 use Rattle.serf_model.specs.declared.line.Answer.{Answer}
 use Rattle.serf_model.specs.declared.line.Answer.TheVariants as lines
 use Rattle.serf_model.specs.declared.line.Refusal.TheVariants as refusals
-use Rattle.serf_model.specs.Bounds.{is_restarted}
-use Rattle.serf_model.specs.Cluster.{Applied, IdealNode, Merged, apply, delivers, fire_gives, fires_event, merges_as, merges_events, merges_given, merges_heard, merges_on, note_gives, query_gives, receive_gives, responds, responds_as, state_gives}
-use Rattle.serf_model.specs.NotMissed.{clock_given, clock_shown, clock_told}
+use Rattle.serf_model.specs.Cluster.{Applied, IdealNode, Merged, apply, delivers, fire_gives, merges_as, merges_events, merges_given, merges_heard, merges_on, note_gives, query_gives, receive_gives, responds, responds_as, state_gives}
+use Rattle.serf_model.specs.NotMissed.{clock_given, clock_shown, clock_told, query_clock_given, query_clock_shown, query_clock_told}
 use Rattle.serf_model.specs.Trace.{given_by}
 use Rattle.serf_model.proofs.InvariantKept.{compacting, saving}
+use Rattle.serf_model.proofs.CallsKept.{kept-or-failed}
+
+-- its clock of events is no higher than the first, and that of queries no higher than the second
+abbrev pub AreLow : IdealAgent → ℕ → ℕ → Type 0
+AreLow i events queries = (i.events.clock ≤ events) × (i.queries.clock ≤ queries)
+
+-- and so what a message that it is told raises them to
+abbrev AreTold : IdealAgent → ℕ → ℕ → Act → Result Message WireFault → Type 0
+AreTold i e q act r = AreLow i (clock_told e act r) (query_clock_told q act r)
+
+-- and so what a turn shows
+abbrev pub AreShown : IdealAgent → ℕ → ℕ → Action → Option (List ℕ) → Answer → Type 0
+AreShown i e q action given answer = AreLow i (clock_shown e action given answer) (query_clock_shown q action given answer)
 
 -- ---- what is told raises a clock
 
@@ -31,228 +42,219 @@ pub rising-up : (clock : ℕ) (es : List (TimedEntry EventBody)) → clock ≤ r
 rising-up clock [] = omega arith
 rising-up clock (e ∷ es) = let more = rising-up (observed clock e.time) es in omega (arith, more)
 
-told-up : (clock : ℕ) (act : Act) (r : Result Message WireFault) → clock ≤ clock_told clock act r
-told-up clock (acts.Deliver number now) (Ok (user_event e)) = omega arith
-told-up clock (acts.Merge number join) (Ok (push_pull m)) = let more = rising-up (max clock m.event_clock) (events_of m.slots) in omega (arith, more)
-told-up clock _ _ = omega arith
+told-up : (e q : ℕ) (act : Act) (r : Result Message WireFault) → (e ≤ clock_told e act r) × (q ≤ query_clock_told q act r)
+told-up e q (acts.Deliver number now) (Ok (user_event x)) = (omega arith, omega arith)
+told-up e q (acts.Deliver number now) (Ok (query x)) = (omega arith, omega arith)
+told-up e q (acts.Merge number join) (Ok (push_pull m)) = let more = rising-up (max e m.event_clock) (events_of m.slots) in (omega (arith, more), omega arith)
+told-up e q _ _ = (omega arith, omega arith)
 
-given-up : (clock : ℕ) (action : Action) (given : Option (List ℕ)) → clock ≤ clock_given clock action given
-given-up clock (Of a act) (Some packet) = told-up clock act (decoded packet)
-given-up clock _ _ = omega arith
+given-up : (e q : ℕ) (action : Action) (given : Option (List ℕ)) → (e ≤ clock_given e action given) × (q ≤ query_clock_given q action given)
+given-up e q (Of a act) (Some packet) = told-up e q act (decoded packet)
+given-up e q _ _ = (omega arith, omega arith)
 
--- whatever is answered, where it isn't a restart
-shown-up : (clock : ℕ) (action : Action) (given : Option (List ℕ)) (answer : Answer) → is_restarted answer ≡ false → clock ≤ clock_shown clock action given answer
-shown-up clock action given (lines.Restarted member_clock event_clock query_clock) on = absurd (cc on)
-shown-up clock action given (lines.Fired t) on = omega arith
-shown-up clock action given _ on = given-up clock action given
+told-low : (i : IdealAgent) (e q : ℕ) (act : Act) (r : Result Message WireFault) → AreLow i e q → AreTold i e q act r
+told-low i e q act r low = let up = told-up e q act r in (omega (arith, low.0, up.0), omega (arith, low.1, up.1))
 
--- a clock that stays
-stays : (clock : ℕ) (action : Action) (given : Option (List ℕ)) (answer : Answer) (j : IdealAgent) → j.events.clock ≤ clock → is_restarted answer ≡ false → j.events.clock ≤ clock_shown clock action given answer
-stays clock action given answer j low on = let up = shown-up clock action given answer on in omega (arith, low, up)
+-- ---- what an answer shows
 
--- ---- events that come
+-- an answer that says a clock
+abbrev says_clock : Answer → Bool
+says_clock (lines.Restarted member_clock event_clock query_clock) = true
+says_clock (lines.Fired t) = true
+says_clock (lines.Queried t) = true
+says_clock _ = false
 
-pub received-low : (i : IdealAgent) (t clock : ℕ) (what : EventBody) (coalesce : Bool) (r : Option Reason) → i.events.clock ≤ clock → (planned i (received_as r i t what coalesce)).agent.events.clock ≤ observed clock t
-received-low i t clock what coalesce (Some reason) low = omega (arith, low)
-received-low i t clock what coalesce None low = by (will i (received_as None i t what coalesce))
+-- with any other, the clocks stand as what was given raises them
+silent : (i : IdealAgent) (e q : ℕ) (action : Action) (given : Option (List ℕ)) (answer : Answer) → AreLow i (clock_given e action given) (query_clock_given q action given) → says_clock answer ≡ false → AreShown i e q action given answer
+silent i e q action given (lines.Restarted member_clock event_clock query_clock) low on = absurd (cc on)
+silent i e q action given (lines.Fired t) low on = absurd (cc on)
+silent i e q action given (lines.Queried t) low on = absurd (cc on)
+silent i e q action given _ low on = low
+
+-- clocks that stay
+stays : (i : IdealAgent) (e q : ℕ) (action : Action) (given : Option (List ℕ)) (answer : Answer) → AreLow i e q → says_clock answer ≡ false → AreShown i e q action given answer
+stays i e q action given answer low on = let up = given-up e q action given in silent i e q action given answer (omega (arith, low.0, up.0), omega (arith, low.1, up.1)) on
+
+-- ---- what comes in packets
+
+pub received-low : (i : IdealAgent) (t e q : ℕ) (what : EventBody) (coalesce : Bool) (r : Option Reason) → AreLow i e q → AreLow (planned i (received_as r i t what coalesce)).agent (observed e t) q
+received-low i t e q what coalesce (Some reason) low = (omega (arith, low.0), low.1)
+received-low i t e q what coalesce None low =
+    kept-or-failed (λ o. AreLow o.agent (observed e t) q) i (received_as None i t what coalesce) (omega (arith, low.0), low.1) (λ d. (omega (arith, low.0), low.1))
+
+query-low : (i : IdealAgent) (now e q : ℕ) (x : Query) (r : Option Reason) → AreLow i e q → AreLow (planned i (query_received_as false r i now x)).agent e (observed q x.time)
+query-low i now e q x (Some reason) low = (low.0, omega (arith, low.1))
+query-low i now e q x None low =
+    kept-or-failed (λ o. AreLow o.agent e (observed q x.time)) i (query_received_as false None i now x) (low.0, omega (arith, low.1)) (λ d. (low.0, omega (arith, low.1)))
+
+response-low : (i : IdealAgent) (now e q : ℕ) (r : QueryResponse) (o : Option OpenQuery) → AreLow i e q → AreLow (planned i (response_received_at o i now r)).agent e q
+response-low i now e q r None low = low
+response-low i now e q r (Some x) low = by (answer_ignore_reason now r x)
   where
-    by : (w : Writing) → (ended i (received_as None i t what coalesce) w).agent.events.clock ≤ observed clock t
-    by Kept = omega (arith, low)
-    by (Failed durable) = omega (arith, low)
-
-query-low : (i : IdealAgent) (now clock : ℕ) (q : Query) (r : Option Reason) → i.events.clock ≤ clock → (planned i (query_received_as false r i now q)).agent.events.clock ≤ clock
-query-low i now clock q (Some reason) low = low
-query-low i now clock q None low = by (will i (query_received_as false None i now q))
-  where
-    by : (w : Writing) → (ended i (query_received_as false None i now q) w).agent.events.clock ≤ clock
-    by Kept = low
-    by (Failed durable) = low
-
-response-low : (i : IdealAgent) (now clock : ℕ) (r : QueryResponse) (o : Option OpenQuery) → i.events.clock ≤ clock → (planned i (response_received_at o i now r)).agent.events.clock ≤ clock
-response-low i now clock r None low = low
-response-low i now clock r (Some q) low = by (answer_ignore_reason now r q)
-  where
-    full : (b : Bool) → (planned i (counts_where b (is_ack r) i r q)).agent.events.clock ≤ clock
+    full : (b : Bool) → AreLow (planned i (counts_where b (is_ack r) i r x)).agent e q
     full true = low
     full false = low
 
-    by : (x : Option Reason) → (planned i (response_received_as x i r q)).agent.events.clock ≤ clock
+    by : (reason : Option Reason) → AreLow (planned i (response_received_as reason i r x)).agent e q
     by (Some reason) = low
-    by None = full (is_full i.config.responders r q)
+    by None = full (is_full i.config.responders r x)
 
-read-low : (i : IdealAgent) (number now clock : ℕ) (r : Result Message WireFault) → i.events.clock ≤ clock → (planned i (receive_read false i now r)).agent.events.clock ≤ clock_told clock (acts.Deliver number now) r
-read-low i number now clock (Ok (user_event e)) low = received-low i e.time clock (event_of e.name e.payload) e.coalesce (admission i e.time (event_of e.name e.payload)) low
-read-low i number now clock (Ok (query q)) low = query-low i now clock q (query_admission i q.time q.id) low
-read-low i number now clock (Ok (query_response r)) low = response-low i now clock r (asked_at r.time i.asked) low
-read-low i number now clock (Ok (push_pull m)) low = low
-read-low i number now clock (Ok (foreign kind)) low = low
-read-low i number now clock (Err fault) low = low
+read-low : (i : IdealAgent) (number now e q : ℕ) (r : Result Message WireFault) → AreLow i e q → AreTold (planned i (receive_read false i now r)).agent e q (acts.Deliver number now) r
+read-low i number now e q (Ok (user_event x)) low = received-low i x.time e q (event_of x.name x.payload) x.coalesce (admission i x.time (event_of x.name x.payload)) low
+read-low i number now e q (Ok (query x)) low = query-low i now e q x (query_admission i x.time x.id) low
+read-low i number now e q (Ok (query_response r)) low = response-low i now e q r (asked_at r.time i.asked) low
+read-low i number now e q (Ok (push_pull m)) low = low
+read-low i number now e q (Ok (foreign kind)) low = low
+read-low i number now e q (Err fault) low = low
 
 -- a delivery answers no clock
-pub receive-shown : (clock : ℕ) (action : Action) (given : Option (List ℕ)) (packet : List ℕ) (x : Result Outcome ReceiveFault) → clock_shown clock action given (receive_gives packet x).answer ≡ clock_given clock action given
-receive-shown clock action given packet (Ok (outcomes.Event out)) = refl
-receive-shown clock action given packet (Ok (outcomes.Query handed ack rebroadcast)) = refl
-receive-shown clock action given packet (Ok outcomes.Ack) = refl
-receive-shown clock action given packet (Ok outcomes.Response) = refl
-receive-shown clock action given packet (Ok (outcomes.Ignored reason)) = refl
-receive-shown clock action given packet (Ok (outcomes.Foreign kind)) = refl
-receive-shown clock action given packet (Ok outcomes.PushPull) = refl
-receive-shown clock action given packet (Err fault) = refl
+receive-silent : (packet : List ℕ) (x : Result Outcome ReceiveFault) → says_clock (receive_gives packet x).answer ≡ false
+receive-silent packet (Ok (outcomes.Event out)) = refl
+receive-silent packet (Ok (outcomes.Query handed ack rebroadcast)) = refl
+receive-silent packet (Ok outcomes.Ack) = refl
+receive-silent packet (Ok outcomes.Response) = refl
+receive-silent packet (Ok (outcomes.Ignored reason)) = refl
+receive-silent packet (Ok (outcomes.Foreign kind)) = refl
+receive-silent packet (Ok outcomes.PushPull) = refl
+receive-silent packet (Err fault) = refl
 
-delivers-low : (m : IdealNode) (a number now clock : ℕ) (given : Option (List ℕ)) → m.agent.events.clock ≤ clock → (delivers m now given).node.agent.events.clock ≤ clock_shown clock (Of a (acts.Deliver number now)) given (delivers m now given).done.answer
-delivers-low m a number now clock None low = low
-delivers-low m a number now clock (Some packet) low = by m.agent.snapshot.stopped
+delivers-low : (m : IdealNode) (a number now e q : ℕ) (given : Option (List ℕ)) → AreLow m.agent e q → (let o = delivers m now given in AreShown o.node.agent e q (Of a (acts.Deliver number now)) given o.done.answer)
+delivers-low m a number now e q None low = low
+delivers-low m a number now e q (Some packet) low = by m.agent.snapshot.stopped
   where
-    at : (call : Call (Result Outcome ReceiveFault)) → (planned m.agent call).agent.events.clock ≤ clock_told clock (acts.Deliver number now) (decoded packet)
-        → (planned m.agent call).agent.events.clock ≤ clock_shown clock (Of a (acts.Deliver number now)) (Some packet) (receive_gives packet (planned m.agent call).answer).answer
-    at call under = subst (λ (n : ℕ). (planned m.agent call).agent.events.clock ≤ n) (sym (receive-shown clock (Of a (acts.Deliver number now)) (Some packet) packet (planned m.agent call).answer)) under
+    at : (call : Call (Result Outcome ReceiveFault)) → AreTold (planned m.agent call).agent e q (acts.Deliver number now) (decoded packet)
+        → AreShown (planned m.agent call).agent e q (Of a (acts.Deliver number now)) (Some packet) (receive_gives packet (planned m.agent call).answer).answer
+    at call told = silent (planned m.agent call).agent e q (Of a (acts.Deliver number now)) (Some packet) (receive_gives packet (planned m.agent call).answer).answer told (receive-silent packet (planned m.agent call).answer)
 
     by : (b : Bool) → (let call = cond b (answers m.agent (Err receives.Stopped)) (receive_read false m.agent now (decoded packet)) in
-        (planned m.agent call).agent.events.clock ≤ clock_shown clock (Of a (acts.Deliver number now)) (Some packet) (receive_gives packet (planned m.agent call).answer).answer)
-    by true = at (answers m.agent (Err receives.Stopped)) (let up = told-up clock (acts.Deliver number now) (decoded packet) in omega (arith, low, up))
-    by false = at (receive_read false m.agent now (decoded packet)) (read-low m.agent number now clock (decoded packet) low)
+        AreShown (planned m.agent call).agent e q (Of a (acts.Deliver number now)) (Some packet) (receive_gives packet (planned m.agent call).answer).answer)
+    by true = at (answers m.agent (Err receives.Stopped)) (told-low m.agent e q (acts.Deliver number now) (decoded packet) low)
+    by false = at (receive_read false m.agent now (decoded packet)) (read-low m.agent number now e q (decoded packet) low)
 
 -- ---- merges
 
-on-low : (o : Step (Result Outcome ReceiveFault)) (rest : IdealAgent → Merged) (top : ℕ) → o.agent.events.clock ≤ top → (rest o.agent).agent.events.clock ≤ top → (merges_on o rest).agent.events.clock ≤ top
-on-low o rest top first more = by o.answer
+on-low : (o : Step (Result Outcome ReceiveFault)) (rest : IdealAgent → Merged) (e q : ℕ) → AreLow o.agent e q → AreLow (rest o.agent).agent e q → AreLow (merges_on o rest).agent e q
+on-low o rest e q first more = by o.answer
   where
-    by : (r : Result Outcome ReceiveFault) → (merges_on (record { agent = o.agent; answer = r }) rest).agent.events.clock ≤ top
+    by : (r : Result Outcome ReceiveFault) → AreLow (merges_on (record { agent = o.agent; answer = r }) rest).agent e q
     by (Ok outcome) = more
     by (Err fault) = first
 
-merges-low : (es : List (TimedEntry EventBody)) (i : IdealAgent) (clock : ℕ) → i.events.clock ≤ clock → (merges_events es i).agent.events.clock ≤ rising clock es
-merges-low [] i clock low = low
-merges-low (e ∷ es) i clock low =
-    let first = received-low i e.time clock e.key false (admission i e.time e.key) low in
-    let up = rising-up (observed clock e.time) es in
-    on-low (planned i (receive_one i e)) (merges_events es) (rising (observed clock e.time) es) (omega (arith, first, up)) (merges-low es (planned i (receive_one i e)).agent (observed clock e.time) first)
+merges-low : (es : List (TimedEntry EventBody)) (i : IdealAgent) (e q : ℕ) → AreLow i e q → AreLow (merges_events es i).agent (rising e es) q
+merges-low [] i e q low = low
+merges-low (x ∷ es) i e q low =
+    let first = received-low i x.time e q x.key false (admission i x.time x.key) low in
+    let up = rising-up (observed e x.time) es in
+    on-low (planned i (receive_one i x)) (merges_events es) (rising (observed e x.time) es) q (omega (arith, first.0, up), first.1) (merges-low es (planned i (receive_one i x)).agent (observed e x.time) q first)
 
-pub heard-low : (i : IdealAgent) (s : PushPull) (join : Bool) (clock : ℕ) → i.events.clock ≤ clock → (planned i (hear i s join)).agent.events.clock ≤ max clock s.event_clock
-heard-low i s join clock low = by (told_least i.config s join)
+pub heard-low : (i : IdealAgent) (s : PushPull) (join : Bool) (e q : ℕ) → AreLow i e q → AreLow (planned i (hear i s join)).agent (max e s.event_clock) (max q s.query_clock)
+heard-low i s join e q low = by (told_least i.config s join)
   where
-    line-on : (line : List ℕ) (w : Writing) → (ended i (heard_by (Some line) i s join) w).agent.events.clock ≤ max clock s.event_clock
-    line-on line Kept = omega (arith, low)
-    line-on line (Failed k) = omega (arith, low)
+    by : (line : Option (List ℕ)) → AreLow (planned i (heard_by line i s join)).agent (max e s.event_clock) (max q s.query_clock)
+    by None = (omega (arith, low.0), omega (arith, low.1))
+    by (Some line) =
+        kept-or-failed (λ o. AreLow o.agent (max e s.event_clock) (max q s.query_clock)) i (heard_by (Some line) i s join) (omega (arith, low.0), omega (arith, low.1)) (λ d. (omega (arith, low.0), omega (arith, low.1)))
 
-    by : (line : Option (List ℕ)) → (planned i (heard_by line i s join)).agent.events.clock ≤ max clock s.event_clock
-    by None = omega (arith, low)
-    by (Some line) = line-on line (will i (heard_by (Some line) i s join))
+-- what a merge leaves of the clocks, and that it answers none
+abbrev MergesLow : Applied → ℕ → ℕ → Type 0
+MergesLow o e q = AreLow o.node.agent e q × (says_clock o.done.answer ≡ false)
 
--- what a merge leaves of the clock, and that it answers none
-abbrev pub IsLow : ℕ → Applied → ℕ → Type 0
-IsLow clock o top = (o.node.agent.events.clock ≤ top) × ((action : Action) (given : Option (List ℕ)) → clock_shown clock action given o.done.answer ≡ clock_given clock action given)
-
-pub merged-low : (m : IdealNode) (s : PushPull) (join : Bool) (clock : ℕ) → m.agent.events.clock ≤ clock → IsLow clock (merges_heard m (events_of s.slots) (planned m.agent (hear m.agent s join))) (rising (max clock s.event_clock) (events_of s.slots))
-merged-low m s join clock low = by (planned m.agent (hear m.agent s join)).answer
+merged-low : (m : IdealNode) (s : PushPull) (join : Bool) (e q : ℕ) → AreLow m.agent e q → MergesLow (merges_heard m (events_of s.slots) (planned m.agent (hear m.agent s join))) (rising (max e s.event_clock) (events_of s.slots)) (max q s.query_clock)
+merged-low m s join e q low = by (planned m.agent (hear m.agent s join)).answer
   where
-    heard : (planned m.agent (hear m.agent s join)).agent.events.clock ≤ max clock s.event_clock
-    heard = heard-low m.agent s join clock low
+    heard : AreLow (planned m.agent (hear m.agent s join)).agent (max e s.event_clock) (max q s.query_clock)
+    heard = heard-low m.agent s join e q low
 
-    failed : (b : Bool) (action : Action) (given : Option (List ℕ)) → clock_shown clock action given (cond b (lines.Refused refusals.SinkFault) lines.Merged) ≡ clock_given clock action given
-    failed true action given = refl
-    failed false action given = refl
+    failed : (b : Bool) → says_clock (cond b (lines.Refused refusals.SinkFault) lines.Merged) ≡ false
+    failed true = refl
+    failed false = refl
 
-    by : (r : Result (Unit {0}) MergeFault) → IsLow clock (merges_heard m (events_of s.slots) (record { agent = (planned m.agent (hear m.agent s join)).agent; answer = r })) (rising (max clock s.event_clock) (events_of s.slots))
+    by : (r : Result (Unit {0}) MergeFault) → MergesLow (merges_heard m (events_of s.slots) (record { agent = (planned m.agent (hear m.agent s join)).agent; answer = r })) (rising (max e s.event_clock) (events_of s.slots)) (max q s.query_clock)
     by (Ok done) =
         let agent : IdealAgent = (planned m.agent (hear m.agent s join)).agent in
-        (merges-low (events_of s.slots) agent (max clock s.event_clock) heard, λ action given. failed (merges_events (events_of s.slots) agent).failed action given)
-    by (Err fault) = (let up = rising-up (max clock s.event_clock) (events_of s.slots) in omega (arith, heard, up), λ action given. refl)
+        (merges-low (events_of s.slots) agent (max e s.event_clock) (max q s.query_clock) heard, failed (merges_events (events_of s.slots) agent).failed)
+    by (Err fault) = (let up = rising-up (max e s.event_clock) (events_of s.slots) in (omega (arith, heard.0, up), heard.1), refl)
 
-merge-low : (m : IdealNode) (number : ℕ) (join : Bool) (clock : ℕ) (f : Option MergeFault) (r : Result Message WireFault) → m.agent.events.clock ≤ clock → IsLow clock (merges_as f m join r) (clock_told clock (acts.Merge number join) r)
-merge-low m number join clock None (Ok (push_pull s)) low = merged-low m s join clock low
-merge-low m number join clock (Some fault) r low = (let up = told-up clock (acts.Merge number join) r in omega (arith, low, up), λ action given. refl)
-merge-low m number join clock None (Ok (user_event e)) low = (low, λ action given. refl)
-merge-low m number join clock None (Ok (query q)) low = (low, λ action given. refl)
-merge-low m number join clock None (Ok (query_response r)) low = (low, λ action given. refl)
-merge-low m number join clock None (Ok (foreign kind)) low = (low, λ action given. refl)
-merge-low m number join clock None (Err fault) low = (low, λ action given. refl)
+merge-low : (m : IdealNode) (number : ℕ) (join : Bool) (e q : ℕ) (f : Option MergeFault) (r : Result Message WireFault) → AreLow m.agent e q
+    → MergesLow (merges_as f m join r) (clock_told e (acts.Merge number join) r) (query_clock_told q (acts.Merge number join) r)
+merge-low m number join e q None (Ok (push_pull s)) low = merged-low m s join e q low
+merge-low m number join e q (Some fault) r low = (told-low m.agent e q (acts.Merge number join) r low, refl)
+merge-low m number join e q None _ low = (low, refl)
 
-merges_given-low : (m : IdealNode) (a number : ℕ) (join : Bool) (clock : ℕ) (given : Option (List ℕ)) → m.agent.events.clock ≤ clock
-    → (merges_given m join given).node.agent.events.clock ≤ clock_shown clock (Of a (acts.Merge number join)) given (merges_given m join given).done.answer
-merges_given-low m a number join clock None low = low
-merges_given-low m a number join clock (Some packet) low =
-    let h = merge-low m number join clock (merge_refusal m.agent.snapshot (decoded packet)) (decoded packet) low in
-    subst (λ (n : ℕ). (merges_given m join (Some packet)).node.agent.events.clock ≤ n) (sym (h.1 (Of a (acts.Merge number join)) (Some packet))) h.0
+merges_given-low : (m : IdealNode) (a number : ℕ) (join : Bool) (e q : ℕ) (given : Option (List ℕ)) → AreLow m.agent e q → (let o = merges_given m join given in AreShown o.node.agent e q (Of a (acts.Merge number join)) given o.done.answer)
+merges_given-low m a number join e q None low = low
+merges_given-low m a number join e q (Some packet) low =
+    let o : Applied = merges_given m join (Some packet) in
+    let h = merge-low m number join e q (merge_refusal m.agent.snapshot (decoded packet)) (decoded packet) low in
+    silent (merges_given m join (Some packet)).node.agent e q (Of a (acts.Merge number join)) (Some packet) (merges_given m join (Some packet)).done.answer h.0 h.1
 
 -- ---- the other acts
 
-fires-low : (m : IdealNode) (action : Action) (given : Option (List ℕ)) (clock : ℕ) (what : EventBody) (coalesce : Bool) → m.agent.events.clock ≤ clock → (let o = fires_event m what coalesce in o.node.agent.events.clock ≤ clock_shown clock action given o.done.answer)
-fires-low m action given clock what coalesce low = by (fire_fault m.agent what coalesce)
+fired-low : (i : IdealAgent) (action : Action) (given : Option (List ℕ)) (e q : ℕ) (what : EventBody) (coalesce : Bool) (r : Option FireFault) → AreLow i e q
+    → (let step = planned i (fired_as r i what coalesce) in AreShown step.agent e q action given (fire_gives step.answer).answer)
+fired-low i action given e q what coalesce (Some fault) low = stays i e q action given (fire_gives (Err fault)).answer low refl
+fired-low i action given e q what coalesce None low =
+    let up = given-up e q action given in
+    kept-or-failed (λ o. AreShown o.agent e q action given (fire_gives o.answer).answer) i (fired_as None i what coalesce) (omega (arith, low.0), omega (arith, low.1, up.1))
+    (λ d. stays i e q action given (lines.Refused refusals.SinkFault) low refl)
+
+query_fired-low : (i : IdealAgent) (action : Action) (given : Option (List ℕ)) (tags : Bool) (now e q : ℕ) (x : Query) (r : Option QueryFault) → AreLow i e q
+    → (let step = planned i (query_fired_as tags r i now x) in AreShown step.agent e q action given (query_gives step.answer).answer)
+query_fired-low i action given tags now e q x (Some fault) low = stays i e q action given (query_gives (Err fault)).answer low refl
+query_fired-low i action given tags now e q x None low =
+    let up = given-up e q action given in
+    kept-or-failed (λ o. AreShown o.agent e q action given (query_gives o.answer).answer) i (query_fired_as tags None i now x) (omega (arith, low.0, up.0), omega (arith, low.1))
+    (λ d. stays i e q action given (lines.Refused refusals.SinkFault) low refl)
+
+state-silent : (r : Result (List ℕ) PushPullFault) → says_clock (state_gives r).answer ≡ false
+state-silent (Ok packet) = refl
+state-silent (Err fault) = refl
+
+responds-low : (m : IdealNode) (action : Action) (given : Option (List ℕ)) (e q number now : ℕ) (payload : List ℕ) (h : Option (Option Handed)) → AreLow m.agent e q → (let o = responds m number h now payload in AreShown o.node.agent e q action given o.done.answer)
+responds-low m action given e q number now payload None low = stays m.agent e q action given (lines.Refused refusals.NoQuery) low refl
+responds-low m action given e q number now payload (Some None) low = stays m.agent e q action given (lines.Refused refusals.NoQuery) low refl
+responds-low m action given e q number now payload (Some (Some h)) low = by (respond_fault h now payload)
   where
-    line-on : (w : Writing) → (let step = ended m.agent (fired_as None m.agent what coalesce) w in step.agent.events.clock ≤ clock_shown clock action given (fire_gives step.answer).answer)
-    line-on Kept = omega (arith, low)
-    line-on (Failed durable) = stays clock action given (lines.Refused refusals.SinkFault) m.agent low refl
+    by : (r : Option RespondFault) → (let o = responds_as r m number h payload in AreShown o.node.agent e q action given o.done.answer)
+    by (Some fault) = stays m.agent e q action given (responds_as (Some fault) m number h payload).done.answer low refl
+    by None = stays m.agent e q action given lines.Replied low refl
 
-    by : (r : Option FireFault) → (let step = planned m.agent (fired_as r m.agent what coalesce) in step.agent.events.clock ≤ clock_shown clock action given (fire_gives step.answer).answer)
-    by (Some fault) = stays clock action given (fire_gives (Err fault)).answer m.agent low refl
-    by None = line-on (will m.agent (fired_as None m.agent what coalesce))
-
-query_gives-on : (r : Result FiredQuery QueryFault) → is_restarted (query_gives r).answer ≡ false
-query_gives-on (Ok f) = refl
-query_gives-on (Err fault) = refl
-
-query_fired-low : (tags : Bool) (i : IdealAgent) (now clock : ℕ) (q : Query) (r : Option QueryFault) → i.events.clock ≤ clock → (planned i (query_fired_as tags r i now q)).agent.events.clock ≤ clock
-query_fired-low tags i now clock q (Some fault) low = low
-query_fired-low tags i now clock q None low = by (will i (query_fired_as tags None i now q))
+-- a save or a compaction
+note-low : (i : IdealAgent) (action : Action) (given : Option (List ℕ)) (e q : ℕ) (says : Answer) (call : Call (Result (Unit {0}) NoteFault)) → says_clock says ≡ false → AreLow (planned i call).agent e q
+    → (let step = planned i call in AreShown step.agent e q action given (note_gives says step.answer).answer)
+note-low i action given e q says call on low = stays (planned i call).agent e q action given (note_gives says (planned i call).answer).answer low (by (planned i call).answer)
   where
-    by : (w : Writing) → (ended i (query_fired_as tags None i now q) w).agent.events.clock ≤ clock
-    by Kept = low
-    by (Failed durable) = low
-
-state_gives-on : (r : Result (List ℕ) PushPullFault) → is_restarted (state_gives r).answer ≡ false
-state_gives-on (Ok packet) = refl
-state_gives-on (Err fault) = refl
-
-responds-low : (m : IdealNode) (action : Action) (given : Option (List ℕ)) (clock number now : ℕ) (payload : List ℕ) (q : Option (Option Handed)) → m.agent.events.clock ≤ clock
-    → (let o = responds m number q now payload in o.node.agent.events.clock ≤ clock_shown clock action given o.done.answer)
-responds-low m action given clock number now payload None low = stays clock action given (lines.Refused refusals.NoQuery) m.agent low refl
-responds-low m action given clock number now payload (Some None) low = stays clock action given (lines.Refused refusals.NoQuery) m.agent low refl
-responds-low m action given clock number now payload (Some (Some h)) low = by (respond_fault h now payload)
-  where
-    by : (r : Option RespondFault) → (let o = responds_as r m number h payload in o.node.agent.events.clock ≤ clock_shown clock action given o.done.answer)
-    by (Some fault) = stays clock action given (responds_as (Some fault) m number h payload).done.answer m.agent low refl
-    by None = stays clock action given lines.Replied m.agent low refl
-
-note-low : (i : IdealAgent) (action : Action) (given : Option (List ℕ)) (clock : ℕ) (says : Answer) (call : Call (Result (Unit {0}) NoteFault)) → is_restarted says ≡ false → ((w : Writing) → (ended i call w).agent.events.clock ≤ clock)
-    → (planned i call).agent.events.clock ≤ clock_shown clock action given (note_gives says (planned i call).answer).answer
-note-low i action given clock says call on low = stays clock action given (note_gives says (planned i call).answer).answer (planned i call).agent (low (will i call)) (by (planned i call).answer)
-  where
-    by : (r : Result (Unit {0}) NoteFault) → is_restarted (note_gives says r).answer ≡ false
+    by : (r : Result (Unit {0}) NoteFault) → says_clock (note_gives says r).answer ≡ false
     by (Ok done) = on
     by (Err fault) = refl
 
-saves-low : (i : IdealAgent) (clock : ℕ) → i.events.clock ≤ clock → (w : Writing) → (ended i (save i) w).agent.events.clock ≤ clock
-saves-low i clock low w = by i.snapshot.stopped w
+saves-low : (i : IdealAgent) (e q : ℕ) → AreLow i e q → AreLow (planned i (save i)).agent e q
+saves-low i e q low = by i.snapshot.stopped
   where
-    by : (b : Bool) (w : Writing) → (ended i (cond b (answers i (Err notes.Stopped)) (saving i)) w).agent.events.clock ≤ clock
-    by true w = low
-    by false Kept = low
-    by false (Failed durable) = low
+    by : (b : Bool) → AreLow (planned i (cond b (answers i (Err notes.Stopped)) (saving i))).agent e q
+    by true = low
+    by false = kept-or-failed (λ o. AreLow o.agent e q) i (saving i) low (λ d. low)
 
-compacts-low : (i : IdealAgent) (clock : ℕ) → i.events.clock ≤ clock → (w : Writing) → (ended i (compact i) w).agent.events.clock ≤ clock
-compacts-low i clock low w = by i.snapshot.stopped w
+compacts-low : (i : IdealAgent) (e q : ℕ) → AreLow i e q → AreLow (planned i (compact i)).agent e q
+compacts-low i e q low = by i.snapshot.stopped
   where
-    by : (b : Bool) (w : Writing) → (ended i (cond b (answers i (Err notes.Stopped)) (compacting i)) w).agent.events.clock ≤ clock
-    by true w = low
-    by false Kept = low
-    by false (Failed durable) = low
+    by : (b : Bool) → AreLow (planned i (cond b (answers i (Err notes.Stopped)) (compacting i))).agent e q
+    by true = low
+    by false = kept-or-failed (λ o. AreLow o.agent e q) i (compacting i) low (λ d. low)
 
 -- ---- each act
 
-pub clock-apply : (m : IdealNode) (sent : List (List ℕ)) (a clock : ℕ) (act : Act) → m.agent.events.clock ≤ clock → (let o = apply m sent act in o.node.agent.events.clock ≤ clock_shown clock (Of a act) (given_by sent act) o.done.answer)
-clock-apply m sent a clock (acts.Fire name payload coalesce) low = fires-low m (Of a (acts.Fire name payload coalesce)) None clock (event_of name payload) coalesce low
-clock-apply m sent a clock (acts.Deliver number now) low = delivers-low m a number now clock (slice_get sent number) low
-clock-apply m sent a clock acts.State low = let r = send_state (view_of m.agent) [] [] in stays clock (Of a acts.State) None (state_gives r).answer m.agent low (state_gives-on r)
-clock-apply m sent a clock (acts.Merge number join) low = merges_given-low m a number join clock (slice_get sent number) low
-clock-apply m sent a clock (acts.Query q) low =
-    let message : Query = query_at m.agent.queries.clock m.agent.config.name q.id q.name q.payload q.params in
-    let call : Call (Result FiredQuery QueryFault) = query_fired_as q.params.tags_pass (query_fault m.agent q.id q.name q.payload q.params) m.agent q.moment message in
-    stays clock (Of a (acts.Query q)) None (query_gives (planned m.agent call).answer).answer (planned m.agent call).agent (query_fired-low q.params.tags_pass m.agent q.moment clock message (query_fault m.agent q.id q.name q.payload q.params) low)
-    (query_gives-on (planned m.agent call).answer)
-clock-apply m sent a clock (acts.Respond number now payload) low = responds-low m (Of a (acts.Respond number now payload)) None clock number now payload (slice_get m.handed number) low
-clock-apply m sent a clock (acts.Restart tail) low = omega arith
-clock-apply m sent a clock (acts.Break call n) low = low
-clock-apply m sent a clock (acts.Close now) low = low
-clock-apply m sent a clock acts.Save low = note-low m.agent (Of a acts.Save) None clock lines.Saved (save m.agent) refl (saves-low m.agent clock low)
-clock-apply m sent a clock acts.Compact low = note-low m.agent (Of a acts.Compact) None clock lines.Compacted (compact m.agent) refl (compacts-low m.agent clock low)
+pub clocks-apply : (m : IdealNode) (sent : List (List ℕ)) (a e q : ℕ) (act : Act) → AreLow m.agent e q → (let o = apply m sent act in AreShown o.node.agent e q (Of a act) (given_by sent act) o.done.answer)
+clocks-apply m sent a e q (acts.Fire name payload coalesce) low =
+    fired-low m.agent (Of a (acts.Fire name payload coalesce)) None e q (event_of name payload) coalesce (fire_fault m.agent (event_of name payload) coalesce) low
+clocks-apply m sent a e q (acts.Deliver number now) low = delivers-low m a number now e q (slice_get sent number) low
+clocks-apply m sent a e q acts.State low = let r = send_state (view_of m.agent) [] [] in stays m.agent e q (Of a acts.State) None (state_gives r).answer low (state-silent r)
+clocks-apply m sent a e q (acts.Merge number join) low = merges_given-low m a number join e q (slice_get sent number) low
+clocks-apply m sent a e q (acts.Query n) low =
+    query_fired-low m.agent (Of a (acts.Query n)) None n.params.tags_pass n.moment e q (query_at m.agent.queries.clock m.agent.config.name n.id n.name n.payload n.params) (query_fault m.agent n.id n.name n.payload n.params) low
+clocks-apply m sent a e q (acts.Respond number now payload) low = responds-low m (Of a (acts.Respond number now payload)) None e q number now payload (slice_get m.handed number) low
+clocks-apply m sent a e q (acts.Restart tail) low = (omega arith, omega arith)
+clocks-apply m sent a e q (acts.Break call n) low = low
+clocks-apply m sent a e q (acts.Close now) low = low
+clocks-apply m sent a e q acts.Save low = note-low m.agent (Of a acts.Save) None e q lines.Saved (save m.agent) refl (saves-low m.agent e q low)
+clocks-apply m sent a e q acts.Compact low = note-low m.agent (Of a acts.Compact) None e q lines.Compacted (compact m.agent) refl (compacts-low m.agent e q low)

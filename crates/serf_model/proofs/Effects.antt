@@ -1,5 +1,5 @@
 -- What each action does to the node that acts, said once: its effect, and that its agent stays sound.
-use Rattle.serf_model.proofs.Names.{◌≡◌, Past, PushPull, ℕ, Bool, true, false, cond, List, [], ◌∷◌, ◌++◌, Option, Some, None, Result, Ok, Err, refl, sym, ap, subst, ◌∙◌, map, All, Contains, slice_get, map-append, All-nil, All-cons, All-append, All-weaker, All-contains_itself, All-head, Contains-append_right, WireFault, EventBody, canonical, has_long, decoded, Message, UserEvent, Query, QueryResponse, user_event, query, query_response, push_pull, event_of, TimedEntry, SnapshotView, Writing, Kept, Failed, Config, OpenQuery, EventOut, FireFault, MergeFault, Outcome, QueryFault, Reason, ReceiveFault, RespondFault, Call, Step, answers, ended, planned, will, admission, fire_fault, fired_as, received_as, Handed, IdealAgent, with_asked, with_snapshot, answer_ignore_reason, asked_at, counted, is_ack, is_full, query_admission, query_at, query_fault, query_fired_as, query_received_as, respond_fault, response_received_as, response_received_at, with_asked_at, receive_read, events_of, handed_by, merge_refusal, receive_one, state_of, view_of}
+use Rattle.serf_model.proofs.Names.{◌≡◌, Past, PushPull, ℕ, Bool, true, false, cond, List, [], ◌∷◌, ◌++◌, Option, Some, None, Result, Ok, Err, refl, sym, ap, subst, ◌∙◌, map, All, Contains, slice_get, map-append, All-nil, All-cons, All-append, All-weaker, All-contains_itself, All-head, Contains-append_right, WireFault, EventBody, canonical, has_long, decoded, Message, UserEvent, Query, QueryResponse, user_event, query, query_response, push_pull, event_of, TimedEntry, SnapshotView, Kept, Config, OpenQuery, EventOut, FireFault, MergeFault, Outcome, QueryFault, Reason, ReceiveFault, RespondFault, Step, answers, ended, planned, admission, fire_fault, fired_as, received_as, Handed, IdealAgent, with_asked, with_snapshot, answer_ignore_reason, asked_at, counted, is_ack, is_full, query_admission, query_at, query_fault, query_fired_as, query_received_as, respond_fault, response_received_as, response_received_at, with_asked_at, receive_read, events_of, handed_by, merge_refusal, receive_one, state_of, view_of}
 use Rattle.serf_snap.specs.declared.snapshot.NoteFault.TheVariants as notes
 use Rattle.serf_agent.specs.declared.outcome.PushPullFault.TheVariants as states
 use Rattle.serf_agent.specs.declared.outcome.ReceiveFault.TheVariants as receives
@@ -20,7 +20,7 @@ use Rattle.serf_model.specs.HandOuts.{events_given}
 use Rattle.serf_model.specs.Ready.{IsRepresentable}
 use Rattle.serf_model.specs.Tails.{CanTellAct}
 use Rattle.serf_model.specs.Trace.{entered_by, events_brought, given_by}
-use Rattle.serf_model.proofs.CallsKept.{may-ask, ready-fired, ready-query_fired, ready-query_received, ready-received}
+use Rattle.serf_model.proofs.CallsKept.{kept-or-failed, may-ask, ready-fired, ready-query_fired, ready-query_received, ready-received}
 use Rattle.serf_model.proofs.InvariantKept.{compacting, ready-compacted, ready-merged, ready-opened, ready-planned, ready-saved, saving, text-past}
 use Rattle.serf_model.proofs.DurableKept.{durable-apply}
 use Rattle.serf_model.proofs.ReadyLaws.{IsReady, ready}
@@ -121,14 +121,6 @@ stays {action} {given} {answer} m idle = record { effect = idles m action given 
 -- only its snapshot differs
 snaps : {action : Action} {given : Option (List ℕ)} {answer : Answer} {s : SnapshotView} (m : IdealNode) → IsIdle m.agent given answer → Effect m action given (record { node = record { agent = with_snapshot s m.agent; handed = m.handed }; done = only answer })
 snaps {action} {given} {answer} {s} m idle = idles m action given (with_snapshot s m.agent) answer refl refl refl refl refl idle
-
--- a call ends as its line is kept, or as the sink fails
-kept-or-failed : {R : Type 0} (Goal : Step R → Type 0) (i : IdealAgent) (call : Call R) → Goal (ended i call Kept) → ((durable : Option (List ℕ)) → Goal (ended i call (Failed durable))) → Goal (planned i call)
-kept-or-failed {R} Goal i call kept failed = by (will i call)
-  where
-    by : (w : Writing) → Goal (ended i call w)
-    by Kept = kept
-    by (Failed durable) = failed durable
 
 -- ---- events
 
@@ -293,13 +285,10 @@ hears-from i j k es outs r h = record {
 rested-heard : (i : IdealAgent) (s : PushPull) (join : Bool) → Rested i (planned i (hear i s join)).agent
 rested-heard i s join = by (told_least i.config s join)
   where
-    line-rested : (line : List ℕ) (w : Writing) → Rested i (ended i (heard_by (Some line) i s join) w).agent
-    line-rested line Kept = record { config = refl; life = refl; events = refl; queries = refl; asked = refl }
-    line-rested line (Failed k) = record { config = refl; life = refl; events = refl; queries = refl; asked = refl }
-
     by : (line : Option (List ℕ)) → Rested i (planned i (heard_by line i s join)).agent
     by None = record { config = refl; life = refl; events = refl; queries = refl; asked = refl }
-    by (Some line) = line-rested line (will i (heard_by (Some line) i s join))
+    by (Some line) =
+        kept-or-failed (λ o. Rested i o.agent) i (heard_by (Some line) i s join) (record { config = refl; life = refl; events = refl; queries = refl; asked = refl }) (λ d. record { config = refl; life = refl; events = refl; queries = refl; asked = refl })
 
 pub heard-config : (i : IdealAgent) (s : PushPull) (join : Bool) → (planned i (hear i s join)).agent.config ≡ i.config
 heard-config i s join = (rested-heard i s join).config

@@ -1,5 +1,5 @@
 -- Where the events come from that are handed out and sent.
-use Rattle.serf_model.proofs.Names.{◌≡◌, ℕ, inl, inr, true, false, cond, List, [], ◌∷◌, ◌++◌, Option, Some, None, refl, sym, ap, subst, ◌∙◌, arith, map, All, Contains, slice_get, flat_map, flat_map-append, All-nil, All-cons, All-head, All-tail, All-weaker, All-contains_itself, Contains-append_left, Contains-append_right, EventBody, TimedEntry, Config, EventOut}
+use Rattle.serf_model.proofs.Names.{◌≡◌, ℕ, inl, inr, true, false, cond, List, [], ◌∷◌, ◌++◌, Option, Some, None, refl, sym, ap, subst, ◌∙◌, arith, map, All, Contains, slice_get, flat_map, All-nil, All-cons, All-head, All-tail, All-weaker, EventBody, TimedEntry, Config, EventOut}
 use Rattle.serf_model.specs.Below.{Below}
 use Rattle.serf_model.specs.declared.action.Action.{Action}
 use Rattle.serf_model.specs.declared.action.Act.{Act}
@@ -8,43 +8,28 @@ use Rattle.serf_model.specs.Cluster.{IdealNode, Cluster, Applied, Run, apply, ap
 use Rattle.serf_model.specs.Promises.{WasFired, WasFiredOrTailed, OnlyFired, OnlyFiredOrTailed, CarriesOnlyFired, CarriesOnlyFiredOrTailed}
 use Rattle.serf_model.specs.Ready.{IsRepresentable}
 use Rattle.serf_model.specs.Tails.{NoneKeeps, actor_keeps, keeps, tail_events, tailed_by, tailed_in}
-use Rattle.serf_model.specs.Trace.{Turn, actor_of, event_in, events_in_packet, fired_by, fired_in, injected_events, injected_in, injects_of}
+use Rattle.serf_model.specs.Trace.{Turn, actor_of, event_in, events_in_packet, fired_by, injects_of}
 use Rattle.serf_model.proofs.PacketsHave.{AllHave, Carries}
 use Rattle.serf_model.proofs.PerTimeBound.{out_in}
 use Rattle.serf_model.proofs.RunLaws.{CanTellIt, IsAfter, all-at, none-keeps, settings-at, tells-at}
 use Rattle.serf_model.proofs.Spreading.{Spreads, spreads-applied, spreads-injected, spreads-weaker}
 use Rattle.serf_model.proofs.StartLaws.{spreads-start}
-use Rattle.serf_model.proofs.TurnLaws.{at_each_nil, at_each_push, flat_map-push}
+use Rattle.serf_model.proofs.TurnLaws.{all-in, at_each_nil, at_each_push, in-before, in-now, in-parts_before, in-parts_now}
 
 -- ---- what was fired stays fired
 
-fired-push : (turns : List Turn) (turn : Turn) → fired_in (turns ++ turn ∷ []) ≡ fired_in turns ++ fired_by turn.action turn.line.answer
-fired-push turns turn = flat_map-push (λ t. fired_by t.action t.line.answer) turns turn
-
-injected-push : (turns : List Turn) (turn : Turn) → injected_events (turns ++ turn ∷ []) ≡ injected_events turns ++ flat_map events_in_packet (injects_of turn.action)
-injected-push turns turn = ap (flat_map events_in_packet) (flat_map-push (λ t. injects_of t.action) turns turn) ∙ flat_map-append events_in_packet (injected_in turns) (injects_of turn.action)
-
 was-fired-more : (turns : List Turn) (turn : Turn) (e : TimedEntry EventBody) → WasFired turns e → WasFired (turns ++ turn ∷ []) e
-was-fired-more turns turn e (inl h) = inl (subst (λ (l : List (TimedEntry EventBody)). Contains l e) (sym (fired-push turns turn)) (Contains-append_left (fired_in turns) (fired_by turn.action turn.line.answer) e h))
-was-fired-more turns turn e (inr h) = inr (subst (λ (l : List (TimedEntry EventBody)). Contains l e) (sym (injected-push turns turn)) (Contains-append_left (injected_events turns) (flat_map events_in_packet (injects_of turn.action)) e h))
+was-fired-more turns turn e (inl h) = inl (in-before (λ t. fired_by t.action t.line.answer) turns turn e h)
+was-fired-more turns turn e (inr h) = inr (in-parts_before events_in_packet (λ t. injects_of t.action) turns turn e h)
 
 -- what a turn fires was fired, and what it injects was injected
 fires-now : (turns : List Turn) (turn : Turn) → All (WasFired (turns ++ turn ∷ [])) (fired_by turn.action turn.line.answer)
-fires-now turns turn =
-    let es = fired_by turn.action turn.line.answer in
-    All-weaker (Contains es) (WasFired (turns ++ turn ∷ []))
-    (λ e h. inl (subst (λ (l : List (TimedEntry EventBody)). Contains l e) (sym (fired-push turns turn)) (Contains-append_right (fired_in turns) es e h))) es (All-contains_itself es)
+fires-now turns turn = all-in (WasFired (turns ++ turn ∷ [])) (fired_by turn.action turn.line.answer) (λ e h. inl (in-now (λ t. fired_by t.action t.line.answer) turns turn e h))
 
 forges-now : (turns : List Turn) (turn : Turn) → All (WasFired (turns ++ turn ∷ [])) (flat_map events_in_packet (injects_of turn.action))
-forges-now turns turn =
-    let es = flat_map events_in_packet (injects_of turn.action) in
-    All-weaker (Contains es) (WasFired (turns ++ turn ∷ []))
-    (λ e h. inr (subst (λ (l : List (TimedEntry EventBody)). Contains l e) (sym (injected-push turns turn)) (Contains-append_right (injected_events turns) es e h))) es (All-contains_itself es)
+forges-now turns turn = all-in (WasFired (turns ++ turn ∷ [])) (flat_map events_in_packet (injects_of turn.action)) (λ e h. inr (in-parts_now events_in_packet (λ t. injects_of t.action) turns turn e h))
 
 -- ---- tails
-
-tails-push : (configs : List Config) (turns : List Turn) (turn : Turn) → tail_events configs (turns ++ turn ∷ []) ≡ tail_events configs turns ++ tailed_in configs turn
-tails-push configs turns turn = flat_map-push (tailed_in configs) turns turn
 
 -- an agent that keeps its events takes its tail back
 pub tailed-is : (configs : List Config) (b : ℕ) (config : Config) (turn : Turn) → actor_of turn.action ≡ Some b → slice_get configs b ≡ Some config → config.keep_events ≡ true → tailed_in configs turn ≡ tailed_by turn.action
@@ -71,13 +56,11 @@ no-tails configs (t ∷ ts) none = ap (λ l. l ++ tail_events configs ts) (none-
 
 was-more : (configs : List Config) (turns : List Turn) (turn : Turn) (e : TimedEntry EventBody) → WasFiredOrTailed configs turns e → WasFiredOrTailed configs (turns ++ turn ∷ []) e
 was-more configs turns turn e (inl h) = inl (was-fired-more turns turn e h)
-was-more configs turns turn e (inr h) = inr (subst (λ (l : List (TimedEntry EventBody)). Contains l e) (sym (tails-push configs turns turn)) (Contains-append_left (tail_events configs turns) (tailed_in configs turn) e h))
+was-more configs turns turn e (inr h) = inr (in-before (tailed_in configs) turns turn e h)
 
 tails-now : (configs : List Config) (turns : List Turn) (turn : Turn) → tailed_in configs turn ≡ tailed_by turn.action → All (WasFiredOrTailed configs (turns ++ turn ∷ [])) (tailed_by turn.action)
 tails-now configs turns turn is =
-    let es = tailed_by turn.action in
-    All-weaker (Contains es) (WasFiredOrTailed configs (turns ++ turn ∷ []))
-    (λ e h. inr (subst (λ (l : List (TimedEntry EventBody)). Contains l e) (sym (tails-push configs turns turn ∙ ap (λ l. tail_events configs turns ++ l) is)) (Contains-append_right (tail_events configs turns) es e h))) es (All-contains_itself es)
+    all-in (WasFiredOrTailed configs (turns ++ turn ∷ [])) (tailed_by turn.action) (λ e h. inr (in-now (tailed_in configs) turns turn e (subst (λ (l : List (TimedEntry EventBody)). Contains l e) (sym is) h)))
 
 -- ---- after a run all that agents entered, and all that packets carry, was fired, or a tail brought it
 

@@ -1,5 +1,5 @@
 -- Which queries an agent can answer, and which it acked.
-use Rattle.serf_model.proofs.Names.{zero, suc, ◌≡◌, ◌≢◌, ℕ, ◌⊎◌, inl, inr, true, false, cond, List, [], ◌∷◌, ◌++◌, length, Option, Some, None, refl, sym, ap, subst, ◌∙◌, map, set, AllPairs, Contains, slice_get, flat_map, option_map, option_to_list, append-nil, map-append, Contains-append_left, Contains-push, filter-append, fold_push, Query, QueryResponse, TimedEntry, Config, Handed, deadline_of, is_ack}
+use Rattle.serf_model.proofs.Names.{Bool, zero, suc, ◌≡◌, ◌≢◌, ℕ, ◌⊎◌, inl, inr, true, false, cond, List, [], ◌∷◌, ◌++◌, length, Option, Some, None, refl, sym, ap, subst, ◌∙◌, map, set, AllPairs, Contains, slice_get, flat_map, option_map, option_to_list, append-nil, map-append, Contains-append_left, Contains-push, filter-append, fold_push, Query, QueryResponse, TimedEntry, Config, Handed, deadline_of, is_ack}
 use Rattle.std.specs.Prelude.{filter}
 use Rattle.serf_model.specs.Below.{Below}
 use Rattle.serf_model.specs.declared.action.Action.{Action}
@@ -98,11 +98,12 @@ deadline-effect m action given o _ h is = absurd (cc is)
 abbrev pub acked_in : List Turn → List (TimedEntry ℕ)
 acked_in ts = map query_answered (filter is_ack (flat_map (λ t. answers_in t.packets) ts))
 
-acked-push : (ts : List Turn) (t : Turn) → acked_in (ts ++ t ∷ []) ≡ acked_in ts ++ map query_answered (filter is_ack (answers_in t.packets))
-acked-push ts t =
+-- what one more turn adds to the queries that an agent answered, by answers of this kind
+pub answered-push : (kind : QueryResponse → Bool) (ts : List Turn) (t : Turn)
+    → map query_answered (filter kind (flat_map (λ t. answers_in t.packets) (ts ++ t ∷ []))) ≡ map query_answered (filter kind (flat_map (λ t. answers_in t.packets) ts)) ++ map query_answered (filter kind (answers_in t.packets))
+answered-push kind ts t =
     let sent : List QueryResponse = flat_map (λ t. answers_in t.packets) ts in
-    ap (λ l. map query_answered (filter is_ack l)) (flat_map-push (λ t. answers_in t.packets) ts t) ∙ ap (map query_answered) (filter-append is_ack sent (answers_in t.packets))
-    ∙ map-append query_answered (filter is_ack sent) (filter is_ack (answers_in t.packets))
+    ap (λ l. map query_answered (filter kind l)) (flat_map-push (λ t. answers_in t.packets) ts t) ∙ ap (map query_answered) (filter-append kind sent (answers_in t.packets)) ∙ map-append query_answered (filter kind sent) (filter kind (answers_in t.packets))
 
 -- what is true of an agent of these settings, where these are its turns
 pub record HasHanded (configs : List Config) (a : ℕ) (ts : List Turn) (m : IdealNode) : Type 0 where
@@ -175,7 +176,7 @@ has-handed-more lower c configs ts b act m hands sends config once =
       handable = λ number h is. subst (λ (c : Config). IsHandable c h) (sym config) (slots.each number h is).0;
       shown = λ number h is. (slots.each number h is).1;
       acked = subst (λ l. IsWithin l (acked_in (ts ++ (applied c b act (apply m c.sent act)).turn ∷ []))) (sym queries)
-          (subst (IsWithin (queries_in ts ++ entered_by (Of b act) (given_by c.sent act) (apply m c.sent act).done.answer)) (sym (acked-push ts (applied c b act (apply m c.sent act)).turn))
+          (subst (IsWithin (queries_in ts ++ entered_by (Of b act) (given_by c.sent act) (apply m c.sent act).done.answer)) (sym (answered-push is_ack ts (applied c b act (apply m c.sent act)).turn))
           (within-more (queries_in ts) (acked_in ts) (entered_by (Of b act) (given_by c.sent act) (apply m c.sent act).done.answer) (map query_answered (filter is_ack (answers_in (apply m c.sent act).done.packets)))
           hands.acked (subst (AllPairs (λ x y. x ≢ y)) queries once) (adds lower m c.sent b act sends.makes)));
     }

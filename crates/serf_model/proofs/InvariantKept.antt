@@ -1,5 +1,5 @@
 -- A merge, a snapshot and a restart leave their agent sound, with clocks that are 64 bits, over a sink that tells and has a plan.
-use Rattle.serf_model.proofs.Names.{◌≡◌, ◌⊎◌, Contains, MergeFault, Past, ℕ, ◌-◌, ◌^◌, ◌<◌, ◌≤◌, Bool, true, false, nat_le, List, [], ◌∷◌, ◌++◌, Option, Some, None, IsSome, unwrap_or, Result, Ok, Err, inl, inr, refl, subst, ◌∙◌, arith, AllByRecursion, option_map, cases_Bool, All-nil, All-weaker, EventBody, decoded, PushPull, push_pull, IsRangedPushPull, IsTimed, TimedEntry, ClockKind, is_whole, last_clock, FailurePlan, fresh_device, SnapshotView, Writing, Kept, Failed, IsObservable, last_line, opened, Call, Notes, Replaces, Step, planned, ended, will, IdealAgent, IsSound, Config, Outcome, ReceiveFault, Reason, is_sound, unopened, IsInText, view_of, events_of, events_of_slot, receive_one, joined, merge_refusal, admission, received_as, SlotContent, empty, held, NoteFault}
+use Rattle.serf_model.proofs.Names.{◌≡◌, ◌⊎◌, Contains, MergeFault, Past, ℕ, ◌-◌, ◌^◌, ◌<◌, ◌≤◌, Bool, true, false, nat_le, List, [], ◌∷◌, ◌++◌, Option, Some, None, IsSome, unwrap_or, Result, Ok, Err, inl, inr, refl, subst, ◌∙◌, arith, AllByRecursion, option_map, cases_Bool, All-nil, All-weaker, EventBody, decoded, PushPull, push_pull, IsRangedPushPull, IsTimed, TimedEntry, ClockKind, is_whole, last_clock, FailurePlan, fresh_device, SnapshotView, Writing, Kept, Failed, IsObservable, last_line, opened, Call, Notes, Replaces, Step, planned, ended, IdealAgent, IsSound, Config, Outcome, ReceiveFault, Reason, is_sound, unopened, IsInText, view_of, events_of, events_of_slot, receive_one, joined, merge_refusal, admission, received_as, SlotContent, empty, held, NoteFault}
 use Rattle.serf_snap.specs.declared.kind.ClockKind.TheVariants as kinds
 use Rattle.serf_snap.specs.declared.snapshot.NoteFault.TheVariants as notes
 use Rattle.serf_agent.specs.declared.outcome.MergeFault.TheVariants as merges
@@ -15,7 +15,7 @@ use Rattle.serf_model.specs.Below.{Below}
 use Rattle.serf_model.specs.Ready.{IsConsistent, IsRepresentable}
 use Rattle.serf_model.proofs.ReadyLaws.{IsReady}
 use Rattle.serf_model.specs.Cluster.{IdealNode, Merged, merges_events, merges_heard, merges_on, reopened, text_after, opened_first, with_plan}
-use Rattle.serf_model.proofs.CallsKept.{DoesReplace, does-replace, ready-notes, ready-received}
+use Rattle.serf_model.proofs.CallsKept.{kept-or-failed, DoesReplace, does-replace, ready-notes, ready-received}
 use Rattle.serf_model.proofs.PerTimeBound.{none-if}
 
 stopped-noted : (kind : ClockKind) (t : ℕ) (line : Option (List ℕ)) (s : SnapshotView) → (noted_with kind t line s Kept).stopped ≡ s.stopped
@@ -36,11 +36,8 @@ ready-joined lower m join i g r = record {
 pub runs-on : (i : IdealAgent) (t : ℕ) (what : EventBody) (coalesce : Bool) (r : Option Reason) (outcome : Outcome) → i.snapshot.stopped ≡ false → (planned i (received_as r i t what coalesce)).answer ≡ Ok outcome
     → (planned i (received_as r i t what coalesce)).agent.snapshot.stopped ≡ false
 runs-on i t what coalesce (Some reason) outcome runs is = runs
-runs-on i t what coalesce None outcome runs is = by (will i (received_as None i t what coalesce)) is
-  where
-    by : (w : Writing) → (ended i (received_as None i t what coalesce) w).answer ≡ Ok outcome → (ended i (received_as None i t what coalesce) w).agent.snapshot.stopped ≡ false
-    by Kept is = stopped-noted kinds.Event t (told_event i.config t what) i.snapshot ∙ runs
-    by (Failed k) is = absurd (cc is)
+runs-on i t what coalesce None outcome runs is =
+    kept-or-failed (λ o. o.answer ≡ Ok outcome → o.agent.snapshot.stopped ≡ false) i (received_as None i t what coalesce) (λ is. stopped-noted kinds.Event t (told_event i.config t what) i.snapshot ∙ runs) (λ d is. absurd (cc is)) is
 
 ready-on : (o : Step (Result Outcome ReceiveFault)) (rest : IdealAgent → Merged) → IsReady o.agent → ((outcome : Outcome) → o.answer ≡ Ok outcome → IsReady (rest o.agent).agent) → IsReady (merges_on o rest).agent
 ready-on o rest g more = by o.answer refl
@@ -70,9 +67,6 @@ times-of (empty ∷ ss) times = times-of ss times.1
 times-of (held t es ∷ ss) times = all-append (λ (e : TimedEntry EventBody). e.time < 2 ^ 64 - 1) (events_of_slot (held t es)) (events_of ss) (times-slot t es times.0) (times-of ss times.1)
 
 -- and so of what a packet spells
-pub joined-spelled : Below → (i : IdealAgent) (packet : List ℕ) (m : PushPull) (join : Bool) → IsReady i → decoded packet ≡ Ok (push_pull m) → IsReady (joined m join i)
-joined-spelled lower i packet m join g is = ready-joined lower m join i g (lower.in_range packet (push_pull m) is)
-
 pub times-spelled : Below → (packet : List ℕ) (m : PushPull) → decoded packet ≡ Ok (push_pull m) → AllByRecursion (λ (e : TimedEntry EventBody). e.time < 2 ^ 64 - 1) (events_of m.slots)
 times-spelled lower packet m is = let ranged = lower.in_range packet (push_pull m) is in times-of m.slots ranged.slots
 
@@ -101,13 +95,9 @@ ready-heard lower i m join g runs r = by (told_least i.config m join) refl
 pub hears-on : (i : IdealAgent) (m : PushPull) (join : Bool) (done : Unit {0}) → i.snapshot.stopped ≡ false → (planned i (hear i m join)).answer ≡ Ok done → (planned i (hear i m join)).agent.snapshot.stopped ≡ false
 hears-on i m join done runs is = by (told_least i.config m join) is
   where
-    line-on : (line : List ℕ) (w : Writing) → (ended i (heard_by (Some line) i m join) w).answer ≡ Ok done → (ended i (heard_by (Some line) i m join) w).agent.snapshot.stopped ≡ false
-    line-on line Kept is = runs
-    line-on line (Failed k) is = absurd (cc is)
-
     by : (line : Option (List ℕ)) → (planned i (heard_by line i m join)).answer ≡ Ok done → (planned i (heard_by line i m join)).agent.snapshot.stopped ≡ false
     by None is = runs
-    by (Some line) is = line-on line (will i (heard_by (Some line) i m join)) is
+    by (Some line) is = kept-or-failed (λ o. o.answer ≡ Ok done → o.agent.snapshot.stopped ≡ false) i (heard_by (Some line) i m join) (λ is. runs) (λ d is. absurd (cc is)) is
 
 pub ready-merged : Below → (m : IdealNode) (join : Bool) (packet : List ℕ) (s : PushPull) → IsReady m.agent → decoded packet ≡ Ok (push_pull s) → merge_refusal m.agent.snapshot (Ok (push_pull s)) ≡ None
     → IsReady (merges_heard m (events_of s.slots) (planned m.agent (hear m.agent s join))).node.agent

@@ -7,6 +7,7 @@ pub mod CallsKept
 pub mod OpenQueriesKept
 pub mod ReadyLaws
 pub mod InvariantKept
+pub mod LifeActs
 pub mod DurableKept
 pub mod Effects
 pub mod PacketEvents
@@ -30,10 +31,8 @@ pub mod HandedLaws
 pub mod QueryOrigins
 pub mod TakesKept
 pub mod ClockShown
-pub mod MergesTake
 pub mod NotMissedLaws
-pub mod QueryActs
-pub mod QueryClock
+pub mod EventsNotMissed
 pub mod QueriesNotMissed
 pub mod PromiseLaws
 pub mod BoundLaws

@@ -17,7 +17,7 @@ use Rattle.serf_model.proofs.PerTimeBound.{entries, none-if}
 use Rattle.serf_model.proofs.PresentLife.{last_life, lives_on}
 use Rattle.serf_model.proofs.Effects.{Effect, IsIdle, asks, closes_due, counts, hears, idle-enters, reopens}
 use Rattle.serf_model.proofs.OpenQueriesKept.{fresh-name}
-use Rattle.serf_model.proofs.TurnLaws.{flat_map-push}
+use Rattle.serf_model.proofs.TurnLaws.{flat_map-push, in-before}
 use Rattle.serf_model.proofs.AnswersByTime.{asked-found, asked-replaced, none-to_time, passing, to_time-other, to_time-same}
 
 -- ---- one more turn of an agent
@@ -36,7 +36,7 @@ queries-push : (ts : List Turn) (t : Turn) → queries_in (ts ++ t ∷ []) ≡ q
 queries-push ts t = flat_map-push (λ t. entered_by t.action t.given t.line.answer) ts t
 
 queries-more : (ts : List Turn) (t : Turn) (x : TimedEntry ℕ) → Contains (queries_in ts) x → Contains (queries_in (ts ++ t ∷ [])) x
-queries-more ts t x h = subst (λ l. Contains l x) (sym (queries-push ts t)) (Contains-append_left (queries_in ts) (entered t) x h)
+queries-more ts t x h = in-before entered ts t x h
 
 own-push : (ts : List Turn) (t : Turn) → is_restarted t.line.answer ≡ false → own_queries (last_life (ts ++ t ∷ [])) ≡ own_queries (last_life ts) ++ own_query t.action t.line.answer
 own-push ts t on =

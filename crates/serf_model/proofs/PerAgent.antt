@@ -1,5 +1,5 @@
 -- What holds of each agent, where these are the turns that it took.
-use Rattle.serf_model.proofs.Names.{zero, suc, ◌≡◌, ℕ, ◌==◌, Bool, true, false, cond, List, [], ◌∷◌, ◌++◌, Some, None, refl, sym, ap, subst, ◌∙◌, map, set, All, slice_get, eqb-true, eqb-false, eq-eqb, ne_eqb, append-nil, All-nil, All-push, filter-append, Config}
+use Rattle.serf_model.proofs.Names.{Contains, Contains-append_left, flat_map, zero, suc, ◌≡◌, ℕ, ◌==◌, Bool, true, false, cond, List, [], ◌∷◌, ◌++◌, Some, None, refl, sym, ap, subst, ◌∙◌, map, set, All, slice_get, eqb-true, eqb-false, eq-eqb, ne_eqb, append-nil, All-nil, All-push, filter-append, Config}
 use Rattle.serf_model.specs.declared.action.Action.{Action}
 use Rattle.serf_model.specs.declared.action.Act.{Act}
 use Rattle.serf_model.specs.declared.action.Action.TheVariants.{Of}
@@ -8,11 +8,8 @@ use Rattle.serf_model.specs.declared.line.Refusal.TheVariants.{NoAgent}
 use Rattle.serf_model.specs.Cluster.{IdealNode, Cluster, Applied, Run, Stepped, applied, apply, after, first_node, injects, on_agent, start, with_handed}
 use Rattle.serf_model.specs.Trace.{Turn, actor_of, is_agent, turns_by}
 use Rattle.serf_model.proofs.StepCases.{step-cases}
-use Rattle.serf_model.proofs.RunLaws.{slice_get-set_same, slice_get-set_other}
-
--- this holds of each agent and its turns
-abbrev pub Each : (ℕ → List Turn → IdealNode → Type 0) → Cluster → List Turn → Type 0
-Each P c turns = (a : ℕ) (m : IdealNode) → slice_get c.nodes a ≡ Some m → P a (turns_by a turns) m
+use Rattle.serf_model.proofs.RunLaws.{added, by-push, slice_get-set_same, slice_get-set_other}
+use Rattle.serf_model.proofs.TurnLaws.{in-now}
 
 pub turns-mine : (a : ℕ) (turns : List Turn) (turn : Turn) → is_agent a (actor_of turn.action) ≡ true → turns_by a (turns ++ turn ∷ []) ≡ turns_by a turns ++ turn ∷ []
 turns-mine a turns turn mine = filter-append (λ (t : Turn). is_agent a (actor_of t.action)) turns (turn ∷ []) ∙ ap (λ b. turns_by a turns ++ cond b (turn ∷ []) []) mine
@@ -20,31 +17,50 @@ turns-mine a turns turn mine = filter-append (λ (t : Turn). is_agent a (actor_o
 pub turns-other : (a : ℕ) (turns : List Turn) (turn : Turn) → is_agent a (actor_of turn.action) ≡ false → turns_by a (turns ++ turn ∷ []) ≡ turns_by a turns
 turns-other a turns turn other = filter-append (λ (t : Turn). is_agent a (actor_of t.action)) turns (turn ∷ []) ∙ ap (λ b. turns_by a turns ++ cond b (turn ∷ []) []) other ∙ append-nil (turns_by a turns)
 
-each-applied : (P : ℕ → List Turn → IdealNode → Type 0) (c : Cluster) (turns : List Turn) (b : ℕ) (act : Act) (m : IdealNode) (o : Applied) → Each P c turns → slice_get c.nodes b ≡ Some m
-    → P b (turns_by b turns ++ (applied c b act o).turn ∷ []) (with_handed o.done.handed o.node) → Each P (applied c b act o).cluster (turns ++ (applied c b act o).turn ∷ [])
-each-applied P c turns b act m o all at new a n is = by (b == a) refl
-  where
-    turn : Turn
-    turn = (applied c b act o).turn
+-- what stood in an agent's turns stands there still, and so does what one more turn of its own adds
+pub by-more : {X : Type 0} (f : Turn → List X) (a : ℕ) (turns : List Turn) (turn : Turn) (x : X) → Contains (flat_map f (turns_by a turns)) x → Contains (flat_map f (turns_by a (turns ++ turn ∷ []))) x
+by-more {X} f a turns turn x h = subst (λ (l : List X). Contains l x) (sym (by-push f a turns turn)) (Contains-append_left (flat_map f (turns_by a turns)) (added f a turn) x h)
 
-    by : (t : Bool) → (b == a) ≡ t → P a (turns_by a (turns ++ (applied c b act o).turn ∷ [])) n
+pub by-now : {X : Type 0} (f : Turn → List X) (a : ℕ) (turns : List Turn) (turn : Turn) (x : X) → is_agent a (actor_of turn.action) ≡ true → Contains (f turn) x → Contains (flat_map f (turns_by a (turns ++ turn ∷ []))) x
+by-now f a turns turn x mine h = subst (λ (ts : List Turn). Contains (flat_map f ts) x) (sym (turns-mine a turns turn mine)) (in-now f (turns_by a turns) turn x h)
+
+-- ---- each agent, and the turns of a run
+
+-- this holds of each agent, where these are the turns of the run
+abbrev pub EachIn : (ℕ → List Turn → IdealNode → Type 0) → Cluster → List Turn → Type 0
+EachIn P c turns = (a : ℕ) (m : IdealNode) → slice_get c.nodes a ≡ Some m → P a turns m
+
+-- the turn of another leaves it so
+abbrev pub StaysBeside : (ℕ → List Turn → IdealNode → Type 0) → Type 0
+StaysBeside P = (a : ℕ) (turns : List Turn) (turn : Turn) (m : IdealNode) → is_agent a (actor_of turn.action) ≡ false → P a turns m → P a (turns ++ turn ∷ []) m
+
+each_in-applied : (P : ℕ → List Turn → IdealNode → Type 0) (c : Cluster) (turns : List Turn) (b : ℕ) (act : Act) (m : IdealNode) (o : Applied) → StaysBeside P → EachIn P c turns → slice_get c.nodes b ≡ Some m
+    → P b (turns ++ (applied c b act o).turn ∷ []) (with_handed o.done.handed o.node) → EachIn P (applied c b act o).cluster (turns ++ (applied c b act o).turn ∷ [])
+each_in-applied P c turns b act m o beside all at new a n is = by (b == a) refl
+  where
+    by : (t : Bool) → (b == a) ≡ t → P a (turns ++ (applied c b act o).turn ∷ []) n
     by true t =
         let same : b ≡ a = eqb-true b a t in
         let found : slice_get (set c.nodes b (with_handed o.done.handed o.node)) b ≡ Some (with_handed o.done.handed o.node) = slice_get-set_same c.nodes b m (with_handed o.done.handed o.node) at in
         let both : Some (with_handed o.done.handed o.node) ≡ Some n = sym found ∙ ap (slice_get (set c.nodes b (with_handed o.done.handed o.node))) same ∙ is in
         let here : with_handed o.done.handed o.node ≡ n = cc both in
-        subst (λ (j : ℕ). P j (turns_by j (turns ++ (applied c b act o).turn ∷ [])) n) same
-        (subst (λ l. P b l n) (sym (turns-mine b turns (applied c b act o).turn (eq-eqb b b refl))) (subst (P b (turns_by b turns ++ (applied c b act o).turn ∷ [])) here new))
-    by false t =
-        let found : slice_get c.nodes a ≡ Some n = sym (slice_get-set_other c.nodes b a (with_handed o.done.handed o.node) (eqb-false b a t)) ∙ is in
-        subst (λ l. P a l n) (sym (turns-other a turns (applied c b act o).turn t)) (all a n found)
+        subst (λ (j : ℕ). P j (turns ++ (applied c b act o).turn ∷ []) n) same (subst (P b (turns ++ (applied c b act o).turn ∷ [])) here new)
+    by false t = beside a turns (applied c b act o).turn n t (all a n (sym (slice_get-set_other c.nodes b a (with_handed o.done.handed o.node) (eqb-false b a t)) ∙ is))
 
--- a turn of no agent
-each-still : (P : ℕ → List Turn → IdealNode → Type 0) (c : Cluster) (turns : List Turn) (s : Stepped) → Each P c turns → s.cluster.nodes ≡ c.nodes → ((a : ℕ) (m : IdealNode) → slice_get c.nodes a ≡ Some m → is_agent a (actor_of s.turn.action) ≡ false)
-    → Each P s.cluster (turns ++ s.turn ∷ [])
-each-still P c turns s all nodes other a m is =
-    let at : slice_get c.nodes a ≡ Some m = ap (λ l. slice_get l a) (sym nodes) ∙ is in
-    subst (λ l. P a l m) (sym (turns-other a turns s.turn (other a m at))) (all a m at)
+pub each_in-step : (P : ℕ → List Turn → IdealNode → Type 0) (r : Run) (action : Action) → StaysBeside P → EachIn P r.cluster r.turns
+    → ((b : ℕ) (act : Act) (m : IdealNode) → action ≡ Of b act → slice_get r.cluster.nodes b ≡ Some m → P b r.turns m → (let o = apply m r.cluster.sent act in P b (r.turns ++ (applied r.cluster b act o).turn ∷ []) (with_handed o.done.handed o.node)))
+    → EachIn P (after r action).cluster (after r action).turns
+each_in-step P r action beside all keeps =
+    let c : Cluster = r.cluster in
+    step-cases (λ s. EachIn P s.cluster (r.turns ++ s.turn ∷ [])) c action (λ bytes a m is. beside a r.turns (injects c bytes).turn m refl (all a m is))
+    (λ b act at a m is. beside a r.turns (on_agent c b act None).turn m (ne_eqb b a (λ e. let no : None ≡ Some m = sym at ∙ ap (slice_get c.nodes) e ∙ is in cc)) (all a m is))
+    (λ b act m is at. each_in-applied P c r.turns b act m (apply m c.sent act) beside all at (keeps b act m is at (all b m at)))
+
+-- ---- each agent, and its own turns
+
+-- this holds of each agent and its turns
+abbrev pub Each : (ℕ → List Turn → IdealNode → Type 0) → Cluster → List Turn → Type 0
+Each P c turns = EachIn (λ a turns m. P a (turns_by a turns) m) c turns
 
 -- what the turn of an agent has to keep
 abbrev pub Keeps : (ℕ → List Turn → IdealNode → Type 0) → Cluster → List Turn → Action → Type 0
@@ -53,10 +69,9 @@ Keeps P c turns action = (b : ℕ) (act : Act) (m : IdealNode) → action ≡ Of
 
 pub each-step : (P : ℕ → List Turn → IdealNode → Type 0) (r : Run) (action : Action) → Each P r.cluster r.turns → Keeps P r.cluster r.turns action → Each P (after r action).cluster (after r action).turns
 each-step P r action all keeps =
-    let c : Cluster = r.cluster in
-    step-cases (λ s. Each P s.cluster (r.turns ++ s.turn ∷ [])) c action (λ bytes. each-still P c r.turns (injects c bytes) all refl (λ a m is. refl))
-    (λ b act at. each-still P c r.turns (on_agent c b act None) all refl (λ a m is. ne_eqb b a (λ e. let no : None ≡ Some m = sym at ∙ ap (slice_get c.nodes) e ∙ is in cc)))
-    (λ b act m is at. each-applied P c r.turns b act m (apply m c.sent act) all at (keeps b act m is at (all b m at)))
+    each_in-step (λ a turns m. P a (turns_by a turns) m) r action (λ a turns turn m other h. subst (λ l. P a l m) (sym (turns-other a turns turn other)) h) all
+    (λ b act m is at h. let o : Applied = apply m r.cluster.sent act in
+    subst (λ l. P b l (with_handed o.done.handed o.node)) (sym (turns-mine b r.turns (applied r.cluster b act o).turn (eq-eqb b b refl))) (keeps b act m is at h))
 
 pub joined-at : (configs : List Config) (a : ℕ) (m : IdealNode) → slice_get (map first_node configs) a ≡ Some m → (config : Config) × (slice_get configs a ≡ Some config) × (first_node config ≡ m)
 joined-at [] a m is = absurd (cc is)

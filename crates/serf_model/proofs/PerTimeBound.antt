@@ -1,5 +1,5 @@
 -- What an agent enters in one life: at most as many of one time as its settings say.
-use Rattle.serf_model.proofs.Names.{◌≡◌, ℕ, ◌+◌, ◌<◌, ◌≤◌, ◌==◌, nat_le, nat_lt, Bool, true, false, cond, List, [], ◌∷◌, ◌++◌, Option, Some, None, refl, sym, ap, subst, ◌∙◌, arith, map, length, length-append, append_assoc, inl, inr, All, filter, and_parts, cases_Bool, eq-eqb, eqb-true, leb-true, leb-false, ne_eqb, append-nil, map-append, All-append, All-head, All-map, All-tail, filter-append, observed, EventBody, event_of, same_texts, same_id, TimedEntry, count_at, held_at, Config, EventOut, Reason, BelowMinimum, TooOld, Seen, TimeFull, is_sound, admission, texts_len, IdealAgent, Past, Track, query_admission, of_life, track_reason, was_ever_entered}
+use Rattle.serf_model.proofs.Names.{◌≡◌, ℕ, ◌+◌, ◌<◌, ◌≤◌, ◌==◌, nat_le, nat_lt, Bool, true, false, cond, List, [], ◌∷◌, ◌++◌, Option, Some, None, refl, sym, ap, subst, ◌∙◌, arith, map, length, length-append, append_assoc, inl, inr, All, filter, and_parts, cases_Bool, eq-eqb, eqb-true, leb-true, leb-false, ne_eqb, append-nil, map-append, All-head, All-tail, filter-append, observed, EventBody, event_of, same_texts, same_id, TimedEntry, count_at, held_at, Config, EventOut, Reason, BelowMinimum, TooOld, Seen, TimeFull, is_sound, admission, texts_len, IdealAgent, Past, Track, query_admission, of_life, track_reason, was_ever_entered}
 use Rattle.serf_model.specs.Bounds.{AtMostOfOneTime}
 
 -- a reason that isn't given
@@ -134,9 +134,3 @@ none-of-next {K} life (p ∷ h) all =
     let old : p.life ≤ life = All-head (λ p. p.life ≤ life) p h all in
     let other : (p.life == life + 1) ≡ false = ne_eqb p.life (life + 1) (λ q. omega arith) in
     rw other (none-of-next life h (All-tail (λ p. p.life ≤ life) p h all))
-
--- a new life has entered nothing
-pub enters-next : {K : Type 0} {life k : ℕ} {old new : List (Past K)} {more : List (TimedEntry K)} → All (λ p. p.life ≤ life) old → Enters life k old new more → of_life (life + 1) new ≡ []
-enters-next {K} {life} {k} {old} {new} {more} lives h =
-    ap (of_life (life + 1)) h.grows ∙ none-of-next life (old ++ map (past life) more)
-    (All-append (λ (p : Past K). p.life ≤ life) old (map (past life) more) lives (All-map (λ (p : Past K). p.life ≤ life) (past life) more (λ k d within. omega arith)))

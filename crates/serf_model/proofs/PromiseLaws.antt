@@ -14,9 +14,10 @@ use Rattle.serf_model.proofs.StartLaws.{after-start}
 use Rattle.serf_model.proofs.OnceLaws.{once, query-once, later-step, query-later-step, later-start, query-later-start}
 use Rattle.serf_model.proofs.FiredLaws.{IsFired, carries-alone, fired-alone, fired-step, fired-start}
 use Rattle.serf_model.proofs.SeenLaws.{IsHere, here-start, here-step, seen-alone, seen-step, seen-start}
-use Rattle.serf_model.proofs.NotMissedLaws.{AreTaking, kept-step, missed-start, taking-start, taking-step}
-use Rattle.serf_model.proofs.PerAgent.{Each}
-use Rattle.serf_model.proofs.QueriesNotMissed.{IsAsking, asking-start, asking-step, queries-start, queries-step}
+use Rattle.serf_model.proofs.NotMissedLaws.{IsTaking, kept-start, kept-step, taking-start, taking-step}
+use Rattle.serf_model.proofs.EventsNotMissed.{event_run}
+use Rattle.serf_model.proofs.PerAgent.{EachIn}
+use Rattle.serf_model.proofs.QueriesNotMissed.{QueriesSay, query_run, saying-start, saying-step}
 use Rattle.serf_model.proofs.HandedLaws.{IsHanded, handed-step, handed-start}
 use Rattle.serf_model.proofs.QueryOrigins.{IsAsked, asked-step, asked-start}
 use Rattle.serf_model.proofs.TraceLaws.{IsRead, sent-step, read-step, read-start, reads, actions-of}
@@ -30,9 +31,10 @@ record IsGoing (configs : List Config) (r : Run) : Type 0 where
   here : IsHere configs r.cluster r.turns
   seen : SeenWasHandedOrTailed configs r.turns
   handed : IsHanded r.turns
-  taking : AreTaking configs r.cluster r.turns
+  taking : EachIn (IsTaking event_run configs) r.cluster r.turns
   kept : Kept configs r.turns
-  asking : Each (λ a ts m. IsAsking ts m) r.cluster r.turns
+  queries_say : EachIn (QueriesSay configs) r.cluster r.turns
+  queries_taking : EachIn (IsTaking query_run configs) r.cluster r.turns
   queries_kept : QueriesKept configs r.turns
 
 going-step : Below → (configs : List Config) (r : Run) (action : Action) → CanTellIt configs action → IsGoing configs r → IsGoing configs (after r action)
@@ -44,10 +46,11 @@ going-step lower configs r action tells h = record {
   here = here-step lower configs r action tells h.after h.here;
   seen = seen-step lower configs r action h.here h.seen;
   handed = handed-step lower configs r action tells h.after h.handed;
-  taking = taking-step lower configs r action tells h.after h.here h.taking;
-  kept = kept-step lower configs r action tells h.after h.taking h.kept;
-  asking = asking-step lower configs r action tells h.after h.asking;
-  queries_kept = queries-step lower configs r action h.after h.asking h.queries_kept;
+  taking = taking-step lower event_run configs r action tells h.after h.here h.taking;
+  kept = kept-step lower event_run configs r action tells h.after h.taking h.kept;
+  queries_say = saying-step lower configs r action tells h.after h.queries_say;
+  queries_taking = taking-step lower query_run configs r action tells h.after h.queries_say h.queries_taking;
+  queries_kept = kept-step lower query_run configs r action tells h.after h.queries_taking h.queries_kept;
 }
 
 going-start : Below → (configs : List Config) → AreConfigs configs → IsGoing configs (start configs)
@@ -59,10 +62,11 @@ going-start lower configs ok = record {
   here = here-start lower configs;
   seen = seen-start configs;
   handed = handed-start;
-  taking = taking-start lower configs;
-  kept = missed-start configs;
-  asking = asking-start lower configs;
-  queries_kept = queries-start configs;
+  taking = taking-start lower event_run configs;
+  kept = kept-start event_run configs;
+  queries_say = saying-start lower configs;
+  queries_taking = taking-start lower query_run configs;
+  queries_kept = kept-start query_run configs;
 }
 
 going-run : Below → (configs : List Config) (actions : List Action) → AreConfigs configs → CanTell configs actions → IsGoing configs (run_of configs actions)

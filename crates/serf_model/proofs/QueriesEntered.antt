@@ -1,5 +1,5 @@
 -- Each query that enters was fired, or an injected packet brings it.
-use Rattle.serf_model.proofs.Names.{Ok, ◌≡◌, ℕ, ◌<◌, ◌≤◌, ◌^◌, inl, inr, Bool, true, false, List, [], ◌∷◌, ◌++◌, Option, Some, None, refl, sym, ap, subst, ◌∙◌, arith, length, All, Contains, fold, flat_map, ltb-false, flat_map-append, All-nil, All-cons, All-head, All-tail, All-append, All-contains, All-contains_itself, All-weaker, Contains-append_left, Contains-append_right, canonical, decoded, Query, query, IsRangedQuery, TimedEntry, Config, QueryParams, drawn, IdealAgent, flags_of, is_too_large_query, query_at, query_fault}
+use Rattle.serf_model.proofs.Names.{Ok, ◌≡◌, ℕ, ◌<◌, ◌≤◌, ◌^◌, inl, inr, Bool, true, false, List, [], ◌∷◌, ◌++◌, Option, Some, None, refl, sym, ap, subst, arith, length, All, Contains, fold, ltb-false, All-nil, All-cons, All-head, All-tail, All-append, All-contains, All-contains_itself, All-weaker, canonical, decoded, Query, query, IsRangedQuery, TimedEntry, Config, QueryParams, drawn, IdealAgent, flags_of, is_too_large_query, query_at, query_fault}
 use Rattle.serf_agent.specs.declared.outcome.QueryFault.TheVariants as asks
 use Rattle.serf_model.specs.Below.{Below}
 use Rattle.serf_model.specs.declared.action.Action.{Action}
@@ -20,7 +20,7 @@ use Rattle.serf_model.proofs.Effects.{Effect, asks, counts, effect, hears, as_me
 use Rattle.serf_model.proofs.PerAgent.{Each}
 use Rattle.serf_model.proofs.SettingsKept.{HasSettings, settings-start, settings-step, short-at}
 use Rattle.serf_model.proofs.StepCases.{step-cases}
-use Rattle.serf_model.proofs.TurnLaws.{at_each_nil, at_each_push, flat_map-push}
+use Rattle.serf_model.proofs.TurnLaws.{all-in, at_each_nil, at_each_push, flat_map-push, in-before, in-now, in-parts_before}
 
 -- ---- what a query's packet brings
 
@@ -103,23 +103,6 @@ entered-from P action given _ fired brought = All-nil P
 abbrev OwnPackets : List Turn → Type 0
 OwnPackets turns = All (Brings (Contains (queries_fired turns))) (queried_in turns)
 
-fired-push : (turns : List Turn) (turn : Turn) → queries_fired (turns ++ turn ∷ []) ≡ queries_fired turns ++ queried_by turn.action turn.line.answer
-fired-push turns turn = flat_map-push (λ t. queried_by t.action t.line.answer) turns turn
-
-fired-before : (turns : List Turn) (turn : Turn) (q : TimedEntry ℕ) → Contains (queries_fired turns) q → Contains (queries_fired (turns ++ turn ∷ [])) q
-fired-before turns turn q h = subst (λ (l : List (TimedEntry ℕ)). Contains l q) (sym (fired-push turns turn)) (Contains-append_left (queries_fired turns) (queried_by turn.action turn.line.answer) q h)
-
-fired-now : (turns : List Turn) (turn : Turn) (q : TimedEntry ℕ) → Contains (queried_by turn.action turn.line.answer) q → Contains (queries_fired (turns ++ turn ∷ [])) q
-fired-now turns turn q h = subst (λ (l : List (TimedEntry ℕ)). Contains l q) (sym (fired-push turns turn)) (Contains-append_right (queries_fired turns) (queried_by turn.action turn.line.answer) q h)
-
-injected-push : (turns : List Turn) (turn : Turn) → queries_injected (turns ++ turn ∷ []) ≡ queries_injected turns ++ flat_map (λ p. query_brought (decoded p)) (injects_of turn.action)
-injected-push turns turn =
-    ap (flat_map (λ p. query_brought (decoded p))) (flat_map-push (λ t. injects_of t.action) turns turn) ∙ flat_map-append (λ p. query_brought (decoded p)) (injected_in turns) (injects_of turn.action)
-
-injected-before : (turns : List Turn) (turn : Turn) (q : TimedEntry ℕ) → Contains (queries_injected turns) q → Contains (queries_injected (turns ++ turn ∷ [])) q
-injected-before turns turn q h =
-    subst (λ (l : List (TimedEntry ℕ)). Contains l q) (sym (injected-push turns turn)) (Contains-append_left (queries_injected turns) (flat_map (λ p. query_brought (decoded p)) (injects_of turn.action)) q h)
-
 more-brought : (P Q : TimedEntry ℕ → Type 0) → ((q : TimedEntry ℕ) → P q → Q q) → (ps : List (List ℕ)) → All (Brings P) ps → All (Brings Q) ps
 more-brought P Q up ps all = All-weaker (Brings P) (Brings Q) (λ p h. All-weaker P Q up (query_brought (decoded p)) h) ps all
 
@@ -129,8 +112,8 @@ own-push turns turn all own =
     let ps = query_packets turn.line.answer turn.packets in
     subst (All (Brings F)) (sym (flat_map-push (λ t. query_packets t.line.answer t.packets) turns turn))
     (All-append (Brings F) (queried_in turns) ps
-    (more-brought (Contains (queries_fired turns)) F (fired-before turns turn) (queried_in turns) all)
-    (more-brought (Contains (queried_by turn.action turn.line.answer)) F (fired-now turns turn) ps own))
+    (more-brought (Contains (queries_fired turns)) F (in-before (λ t. queried_by t.action t.line.answer) turns turn) (queried_in turns) all)
+    (more-brought (Contains (queried_by turn.action turn.line.answer)) F (in-now (λ t. queried_by t.action t.line.answer) turns turn) ps own))
 
 -- a packet that was sent as a fired query's own, or injected, brings only what was fired or injected
 asked-brings : (turns : List Turn) (packet : List ℕ) → OwnPackets turns → WasAsked turns packet → Brings (WasQueried turns) packet
@@ -142,8 +125,8 @@ asked-brings turns packet own (inr h) =
     All-weaker (Contains injected) (WasQueried turns) (λ q c. inr c) (query_brought (decoded packet)) (All-contains (Brings (Contains injected)) (injected_in turns) packet all h)
 
 was-queried-more : (turns : List Turn) (turn : Turn) (q : TimedEntry ℕ) → WasQueried turns q → WasQueried (turns ++ turn ∷ []) q
-was-queried-more turns turn q (inl h) = inl (fired-before turns turn q h)
-was-queried-more turns turn q (inr h) = inr (injected-before turns turn q h)
+was-queried-more turns turn q (inl h) = inl (in-before (λ t. queried_by t.action t.line.answer) turns turn q h)
+was-queried-more turns turn q (inr h) = inr (in-parts_before (λ p. query_brought (decoded p)) (λ t. injects_of t.action) turns turn q h)
 
 abbrev OnlyAt : List Turn → Turn → Type 0
 OnlyAt before turn = All (WasQueried (before ++ turn ∷ [])) (entered_by turn.action turn.given turn.line.answer)
@@ -159,7 +142,7 @@ only-now turns turn own asked =
     let W : TimedEntry ℕ → Type 0 = WasQueried (turns ++ turn ∷ []) in
     let fired = queried_by turn.action turn.line.answer in
     entered-from W turn.action turn.given turn.line.answer
-    (All-weaker (Contains fired) W (λ q h. inl (fired-now turns turn q h)) fired (All-contains_itself fired))
+    (all-in W fired (λ q h. inl (in-now (λ t. queried_by t.action t.line.answer) turns turn q h)))
     (λ packet says given. All-weaker (WasQueried turns) W (was-queried-more turns turn) (query_brought (decoded packet)) (asked-brings turns packet own (asked packet says given)))
 
 queried-step : Below → (configs : List Config) (r : Run) (action : Action) → All HasShortQueries configs → HasSizes action → IsQueried configs r → IsQueried configs (after r action)

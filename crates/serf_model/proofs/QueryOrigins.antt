@@ -1,5 +1,5 @@
 -- Where the queries come from that enter as packets.
-use Rattle.serf_model.proofs.Names.{◌≡◌, ℕ, ◌⊎◌, inl, inr, true, List, [], ◌∷◌, ◌++◌, Option, Some, None, refl, sym, ap, subst, ◌∙◌, All, Contains, not, option_to_list, append-nil, All-nil, All-cons, All-head, All-append, All-weaker, All-contains_itself, Contains-append_left, Contains-append_right, canonical, decoded, PushPull, Query, query, push_pull, event_of, Config, event_packet, ack_if_passed, ack_packet, ack_flag, has_flag, no_broadcast_flag, response_packet, state_of, view_of}
+use Rattle.serf_model.proofs.Names.{◌≡◌, ℕ, ◌⊎◌, inl, inr, true, List, [], ◌∷◌, ◌++◌, Option, Some, None, refl, sym, ap, subst, ◌∙◌, All, Contains, not, option_to_list, append-nil, All-nil, All-cons, All-head, All-append, All-weaker, canonical, decoded, PushPull, Query, query, push_pull, event_of, Config, event_packet, ack_if_passed, ack_packet, ack_flag, has_flag, no_broadcast_flag, response_packet, state_of, view_of}
 use Rattle.serf_model.specs.Below.{Below}
 use Rattle.serf_model.specs.declared.action.Action.{Action}
 use Rattle.serf_model.specs.declared.action.Act.{Act}
@@ -10,7 +10,7 @@ use Rattle.serf_model.specs.Promises.{QueryFired}
 use Rattle.serf_model.specs.Trace.{Turn, injected_in, injects_of, queried_in, query_brought, query_packets, given_by}
 use Rattle.serf_model.proofs.Effects.{Effect, IsIdle, asks, counts, effect, fires, hears, is_asked, passes_on, replies, tells, as_message}
 use Rattle.serf_model.proofs.StepCases.{step-cases}
-use Rattle.serf_model.proofs.TurnLaws.{at_each_nil, at_each_push, flat_map-push}
+use Rattle.serf_model.proofs.TurnLaws.{all-in, at_each_nil, at_each_push, in-before, in-now}
 use Rattle.serf_model.proofs.PacketEvents.{no-query-event, no-query-state, no-query-response}
 use Rattle.serf_model.proofs.PacketsHave.{ack-has, entered-has, given-sent, one}
 
@@ -62,26 +62,16 @@ pub record IsAsked (c : Cluster) (turns : List Turn) : Type 0 where
   pub packets : All (IsOf (WasAsked turns)) c.sent
   pub fired : QueryFired turns
 
-queried-push : (turns : List Turn) (turn : Turn) → queried_in (turns ++ turn ∷ []) ≡ queried_in turns ++ query_packets turn.line.answer turn.packets
-queried-push turns turn = flat_map-push (λ t. query_packets t.line.answer t.packets) turns turn
-
-injected-push : (turns : List Turn) (turn : Turn) → injected_in (turns ++ turn ∷ []) ≡ injected_in turns ++ injects_of turn.action
-injected-push turns turn = flat_map-push (λ t. injects_of t.action) turns turn
-
 asked-more : (turns : List Turn) (turn : Turn) (packet : List ℕ) → IsOf (WasAsked turns) packet → IsOf (WasAsked (turns ++ turn ∷ [])) packet
 asked-more turns turn packet (inl none) = inl none
-asked-more turns turn packet (inr (inl h)) = inr (inl (subst (λ l. Contains l packet) (sym (queried-push turns turn)) (Contains-append_left (queried_in turns) (query_packets turn.line.answer turn.packets) packet h)))
-asked-more turns turn packet (inr (inr h)) = inr (inr (subst (λ l. Contains l packet) (sym (injected-push turns turn)) (Contains-append_left (injected_in turns) (injects_of turn.action) packet h)))
+asked-more turns turn packet (inr (inl h)) = inr (inl (in-before (λ t. query_packets t.line.answer t.packets) turns turn packet h))
+asked-more turns turn packet (inr (inr h)) = inr (inr (in-before (λ t. injects_of t.action) turns turn packet h))
 
 asks-now : (turns : List Turn) (turn : Turn) → All (WasAsked (turns ++ turn ∷ [])) (query_packets turn.line.answer turn.packets)
-asks-now turns turn =
-    let ps = query_packets turn.line.answer turn.packets in
-    All-weaker (Contains ps) (WasAsked (turns ++ turn ∷ [])) (λ p h. inl (subst (λ l. Contains l p) (sym (queried-push turns turn)) (Contains-append_right (queried_in turns) ps p h))) ps (All-contains_itself ps)
+asks-now turns turn = all-in (WasAsked (turns ++ turn ∷ [])) (query_packets turn.line.answer turn.packets) (λ p h. inl (in-now (λ t. query_packets t.line.answer t.packets) turns turn p h))
 
 injects-now : (turns : List Turn) (turn : Turn) → All (IsOf (WasAsked (turns ++ turn ∷ []))) (injects_of turn.action)
-injects-now turns turn =
-    let ps = injects_of turn.action in
-    All-weaker (Contains ps) (IsOf (WasAsked (turns ++ turn ∷ []))) (λ p h. inr (inr (subst (λ l. Contains l p) (sym (injected-push turns turn)) (Contains-append_right (injected_in turns) ps p h)))) ps (All-contains_itself ps)
+injects-now turns turn = all-in (IsOf (WasAsked (turns ++ turn ∷ []))) (injects_of turn.action) (λ p h. inr (inr (in-now (λ t. injects_of t.action) turns turn p h)))
 
 abbrev FiredAt : List Turn → Turn → Type 0
 FiredAt before turn = (packet : List ℕ) → turn.line.answer ≡ lines.Query → turn.given ≡ Some packet → WasAsked before packet

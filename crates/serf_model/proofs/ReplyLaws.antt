@@ -1,5 +1,5 @@
 -- Which queries an agent answered: each of them is taken out of those that it can answer.
-use Rattle.serf_model.proofs.Names.{zero, suc, ◌≡◌, ◌≢◌, ℕ, inl, inr, true, false, List, [], ◌∷◌, ◌++◌, Option, Some, None, refl, sym, ap, subst, ◌∙◌, arith, map, set, All, AllPairs, Contains, not, slice_get, flat_map, option_to_list, append-nil, map-append, All-nil, All-push, All-weaker, Contains-append_left, Contains-push, filter-append, all_pairs_push, QueryResponse, TimedEntry, Handed, is_ack}
+use Rattle.serf_model.proofs.Names.{zero, suc, ◌≡◌, ◌≢◌, ℕ, inl, inr, true, false, List, [], ◌∷◌, ◌++◌, Option, Some, None, refl, sym, ap, subst, ◌∙◌, arith, map, set, All, AllPairs, Contains, not, slice_get, flat_map, option_to_list, append-nil, All-nil, All-push, All-weaker, Contains-append_left, Contains-push, all_pairs_push, TimedEntry, Handed, is_ack}
 use Rattle.std.specs.Prelude.{filter}
 use Rattle.serf_model.specs.Below.{Below}
 use Rattle.serf_model.specs.declared.action.Action.{Action}
@@ -11,7 +11,7 @@ use Rattle.serf_model.specs.Trace.{Turn, entered_by, given_by}
 use Rattle.serf_model.proofs.Effects.{Effect, counts, effect, hears, replies}
 use Rattle.serf_model.proofs.HandedLaws.{hands-apply}
 use Rattle.serf_model.proofs.Within.{IsWithin, fresh-last}
-use Rattle.serf_model.proofs.HandedQueries.{pushed-at, stood}
+use Rattle.serf_model.proofs.HandedQueries.{answered-push, pushed-at, stood}
 use Rattle.serf_model.proofs.OpenQueryContents.{queries_in}
 use Rattle.serf_model.proofs.SendLaws.{Makes, makes_ack, makes_none, makes_reply}
 use Rattle.serf_model.proofs.TurnLaws.{flat_map-push}
@@ -28,12 +28,6 @@ replies_in packets = map query_answered (filter (λ r. not (is_ack r)) (answers_
 -- the queries that an agent answered by a response
 abbrev pub replied_in : List Turn → List (TimedEntry ℕ)
 replied_in ts = map query_answered (filter (λ r. not (is_ack r)) (flat_map (λ t. answers_in t.packets) ts))
-
-replied-push : (ts : List Turn) (t : Turn) → replied_in (ts ++ t ∷ []) ≡ replied_in ts ++ replies_in t.packets
-replied-push ts t =
-    let sent : List QueryResponse = flat_map (λ t. answers_in t.packets) ts in
-    ap (λ l. map query_answered (filter (λ r. not (is_ack r)) l)) (flat_map-push (λ t. answers_in t.packets) ts t) ∙ ap (map query_answered) (filter-append (λ r. not (is_ack r)) sent (answers_in t.packets))
-    ∙ map-append query_answered (filter (λ r. not (is_ack r)) sent) (filter (λ r. not (is_ack r)) (answers_in t.packets))
 
 -- this query can be answered under this number
 abbrev Waits : List (Option Handed) → ℕ → Handed → Type 0
@@ -84,7 +78,7 @@ awaiting-old ts t m action given o e h r packets new queries = record {
 }
   where
     grown : replied_in (ts ++ t ∷ []) ≡ replied_in ts ++ replies_in o.done.packets
-    grown = replied-push ts t ∙ ap (λ ps. replied_in ts ++ replies_in ps) packets
+    grown = answered-push (λ r. not (is_ack r)) ts t ∙ ap (λ ps. replied_in ts ++ replies_in ps) packets
 
     still : Replies m o → (number : ℕ) (q : Handed) → Waits o.node.handed number q → All (λ x. x ≢ key_of q) (replied_in ts) → All (λ x. x ≢ key_of q) (replied_in ts ++ replies_in o.done.packets)
     still (none empty) number q is all = subst (All (λ x. x ≢ key_of q)) (sym (ap (λ l. replied_in ts ++ l) empty ∙ append-nil (replied_in ts))) all
@@ -166,7 +160,7 @@ awaiting-more lower c ts b act m h makes once = by (apply m c.sent act).done.han
     by None is = subst (IsAwaiting (ts ++ (applied c b act (apply m c.sent act)).turn ∷ [])) (sym (append-nil (apply m c.sent act).node.handed)) old
     by (Some q) is =
         awaiting-new ts (ts ++ (applied c b act (apply m c.sent act)).turn ∷ []) (apply m c.sent act).node.handed q old
-        (replied-push ts (applied c b act (apply m c.sent act)).turn ∙ ap (λ l. replied_in ts ++ l) (none-handed m (apply m c.sent act) q r is) ∙ append-nil (replied_in ts))
+        (answered-push (λ r. not (is_ack r)) ts (applied c b act (apply m c.sent act)).turn ∙ ap (λ l. replied_in ts ++ l) (none-handed m (apply m c.sent act) q r is) ∙ append-nil (replied_in ts))
         (queries ∙ ap (λ l. queries_in ts ++ l) (hands-apply lower m c.sent b act q is)) h.replied
         (λ number g waits. h.entered number g (stood m (Of b act) (given_by c.sent act) (apply m c.sent act) (effect lower m c.sent b act) number g waits).at) once
 

@@ -1,22 +1,22 @@
 -- What is ignored as seen was handed to the agent before.
-use Rattle.serf_model.proofs.Names.{suc, ◌≡◌, ◌⊎◌, inl, inr, ◌++◌, map, set, filter, All, All-contains, All-contains_itself, All-map, All-weaker, Contains-append_left, Contains-append_right, Config, EventOut, TimedEntry, eq-eqb, eqb-false, ℕ, ◌==◌, ◌&&◌, ◌||◌, ◌+◌, nat_lt, nat_le, Bool, true, false, cond, List, [], ◌∷◌, Option, Some, None, Ok, refl, sym, ap, subst, ◌∙◌, arith, Contains, slice_get, list_any, and_parts, eqb-true, bytes_eq-Decides, EventBody, decoded, UserEvent, user_event, event_of, same_texts, count_at, Reason, BelowMinimum, TooOld, Seen, TimeFull, admission, texts_len, IdealAgent, Past, of_life, was_ever_entered, observed}
+use Rattle.serf_model.proofs.Names.{suc, ◌≡◌, ◌⊎◌, inl, inr, ◌++◌, map, filter, All, All-contains, All-contains_itself, All-map, All-weaker, Contains-append_left, Contains-append_right, Config, EventOut, TimedEntry, eq-eqb, ℕ, ◌==◌, ◌&&◌, ◌||◌, ◌+◌, nat_lt, nat_le, Bool, true, false, cond, List, [], ◌∷◌, Option, Some, None, Ok, refl, sym, ap, subst, ◌∙◌, arith, Contains, slice_get, list_any, and_parts, eqb-true, bytes_eq-Decides, EventBody, decoded, UserEvent, user_event, event_of, same_texts, count_at, Reason, BelowMinimum, TooOld, Seen, TimeFull, admission, texts_len, IdealAgent, Past, of_life, was_ever_entered, observed}
 use Rattle.serf_model.specs.Below.{Below}
 use Rattle.serf_model.specs.declared.action.Action.{Action}
 use Rattle.serf_model.specs.declared.action.Act.{Act}
 use Rattle.serf_model.specs.declared.action.Action.TheVariants.{Of}
 use Rattle.serf_model.specs.declared.line.Answer.TheVariants as lines
 use Rattle.serf_model.specs.declared.line.EventLine.{EventLine}
-use Rattle.serf_model.specs.Cluster.{Applied, IdealNode, Cluster, Run, Stepped, applied, apply, after, event_line, injects, on_agent, start, step, with_handed}
+use Rattle.serf_model.specs.Cluster.{Applied, IdealNode, Cluster, Run, applied, apply, after, event_line, start, step}
 use Rattle.serf_model.specs.Promises.{SeenWasHanded, SeenWasHandedOrTailed}
 use Rattle.serf_model.specs.Trace.{Turn, actor_of, event_in, events_to, is_agent, turns_by, given_by}
 use Rattle.serf_model.proofs.Effects.{Effect, IsIdle, counts, effect, hears}
 use Rattle.serf_model.proofs.StepCases.{step-cases}
-use Rattle.serf_model.proofs.TurnLaws.{at_each_nil, at_each_push}
+use Rattle.serf_model.proofs.TurnLaws.{all-in, at_each_nil, at_each_push}
 use Rattle.serf_model.proofs.PerTimeBound.{entries, out_in}
 use Rattle.serf_model.proofs.FiredLaws.{in-none, no-tails, tailed-is}
 use Rattle.serf_model.proofs.HistoryGrowth.{Says, says-more}
-use Rattle.serf_model.proofs.PerAgent.{joined-at}
-use Rattle.serf_model.proofs.RunLaws.{CanTellIt, IsAfter, added, all-at, by-push, events_to-push, lines-same, settings-at, slice_get-set_other, slice_get-set_same, tells-at}
+use Rattle.serf_model.proofs.PerAgent.{by-more, by-now, each-start, each_in-step}
+use Rattle.serf_model.proofs.RunLaws.{CanTellIt, IsAfter, all-at, events_to-push, lines-same, settings-at, tells-at}
 use Rattle.serf_model.proofs.Spreading.{says-weaker}
 use Rattle.serf_model.proofs.StartLaws.{says-first}
 use Rattle.serf_model.specs.Ready.{IsRepresentable}
@@ -86,12 +86,13 @@ WasHere configs a turns e = Contains (events_to a turns) e ⊎ Contains (tails_t
 abbrev pub IsHere : List Config → Cluster → List Turn → Type 0
 IsHere configs c turns = (a : ℕ) (m : IdealNode) → slice_get c.nodes a ≡ Some m → Says (WasHere configs a turns) m.agent
 
+pub to-more : (a : ℕ) (turns : List Turn) (turn : Turn) (e : TimedEntry EventBody) → Contains (events_to a turns) e → Contains (events_to a (turns ++ turn ∷ [])) e
+to-more a turns turn e h =
+    subst (λ (l : List (TimedEntry EventBody)). Contains l e) (sym (events_to-push a turns turn)) (Contains-append_left (events_to a turns) (map event_in (filter (λ (e : EventLine). e.agent == a) turn.line.events)) e h)
+
 pub here-more : (configs : List Config) (a : ℕ) (turns : List Turn) (turn : Turn) (e : TimedEntry EventBody) → WasHere configs a turns e → WasHere configs a (turns ++ turn ∷ []) e
-here-more configs a turns turn e (inl h) =
-    let new = map event_in (filter (λ (e : EventLine). e.agent == a) turn.line.events) in
-    inl (subst (λ (l : List (TimedEntry EventBody)). Contains l e) (sym (events_to-push a turns turn)) (Contains-append_left (events_to a turns) new e h))
-here-more configs a turns turn e (inr h) =
-    inr (subst (λ (l : List (TimedEntry EventBody)). Contains l e) (sym (by-push (tailed_in configs) a turns turn)) (Contains-append_left (tails_to configs a turns) (added (tailed_in configs) a turn) e h))
+here-more configs a turns turn e (inl h) = inl (to-more a turns turn e h)
+here-more configs a turns turn e (inr h) = inr (by-more (tailed_in configs) a turns turn e h)
 
 -- what a turn hands out, and what its tail says, where it takes that back
 pub outs-here : (configs : List Config) (b : ℕ) (turns : List Turn) (turn : Turn) (outs : List EventOut) → turn.line.events ≡ map (event_line b) outs → All (WasHere configs b (turns ++ turn ∷ [])) (map out_in outs)
@@ -104,10 +105,8 @@ outs-here configs b turns turn outs is =
 
 pub tail-here : (configs : List Config) (b : ℕ) (turns : List Turn) (turn : Turn) → actor_of turn.action ≡ Some b → tailed_in configs turn ≡ tailed_by turn.action → All (WasHere configs b (turns ++ turn ∷ [])) (tailed_by turn.action)
 tail-here configs b turns turn actor is =
-    let es : List (TimedEntry EventBody) = tailed_by turn.action in
-    let mine : added (tailed_in configs) b turn ≡ es = ap (λ x. cond (is_agent b x) (tailed_in configs turn) []) actor ∙ ap (λ x. cond x (tailed_in configs turn) []) (eq-eqb b b refl) ∙ is in
-    All-weaker (Contains es) (WasHere configs b (turns ++ turn ∷ []))
-    (λ e h. inr (subst (λ (l : List (TimedEntry EventBody)). Contains l e) (sym (by-push (tailed_in configs) b turns turn ∙ ap (λ l. tails_to configs b turns ++ l) mine)) (Contains-append_right (tails_to configs b turns) es e h))) es (All-contains_itself es)
+    let mine : is_agent b (actor_of turn.action) ≡ true = ap (is_agent b) actor ∙ eq-eqb b b refl in
+    all-in (WasHere configs b (turns ++ turn ∷ [])) (tailed_by turn.action) (λ e h. inr (by-now (tailed_in configs) b turns turn e mine (subst (λ (l : List (TimedEntry EventBody)). Contains l e) (sym is) h)))
 
 here-acts : Below → (configs : List Config) (c : Cluster) (turns : List Turn) (b : ℕ) (act : Act) (m : IdealNode) → IsAfter configs c turns → CanTellIt configs (Of b act) → slice_get c.nodes b ≡ Some m → Says (WasHere configs b turns) m.agent
     → (let o = apply m c.sent act in Says (WasHere configs b (turns ++ (applied c b act o).turn ∷ [])) o.node.agent)
@@ -120,39 +119,13 @@ here-acts lower configs c turns b act m h tells at says =
     (outs-here configs b turns turn o.done.events refl)
     (λ keeping. tail-here configs b turns turn refl (tailed-is configs b m.agent.config turn refl (settings-at configs c turns b m h at) keeping))
 
-here-applied : Below → (configs : List Config) (c : Cluster) (turns : List Turn) (b : ℕ) (act : Act) (m : IdealNode) → IsAfter configs c turns → CanTellIt configs (Of b act) → slice_get c.nodes b ≡ Some m → IsHere configs c turns
-    → (let s = applied c b act (apply m c.sent act) in IsHere configs s.cluster (turns ++ s.turn ∷ []))
-here-applied lower configs c turns b act m h tells at here a n is = by (b == a) refl
-  where
-    by : (t : Bool) → (b == a) ≡ t → Says (WasHere configs a (turns ++ (applied c b act (apply m c.sent act)).turn ∷ [])) n.agent
-    by true t =
-        let o : Applied = apply m c.sent act in
-        let new : IdealNode = with_handed o.done.handed o.node in
-        let same : b ≡ a = eqb-true b a t in
-        let found : Some new ≡ Some n = sym (slice_get-set_same c.nodes b m new at) ∙ ap (slice_get (set c.nodes b new)) same ∙ is in
-        let one : new ≡ n = cc found in
-        subst (λ (j : ℕ). Says (WasHere configs j (turns ++ (applied c b act o).turn ∷ [])) n.agent) same
-        (subst (λ (x : IdealNode). Says (WasHere configs b (turns ++ (applied c b act o).turn ∷ [])) x.agent) one (here-acts lower configs c turns b act m h tells at (here b m at)))
-    by false t =
-        let o : Applied = apply m c.sent act in
-        let turn : Turn = (applied c b act (apply m c.sent act)).turn in
-        let found : slice_get c.nodes a ≡ Some n = sym (slice_get-set_other c.nodes b a (with_handed o.done.handed o.node) (eqb-false b a t)) ∙ is in
-        says-weaker (WasHere configs a turns) (WasHere configs a (turns ++ turn ∷ [])) n.agent (here-more configs a turns turn) (here a n found)
-
-here-still : (configs : List Config) (c : Cluster) (turns : List Turn) (s : Stepped) → s.cluster.nodes ≡ c.nodes → IsHere configs c turns → IsHere configs s.cluster (turns ++ s.turn ∷ [])
-here-still configs c turns s nodes here a n is =
-    says-weaker (WasHere configs a turns) (WasHere configs a (turns ++ s.turn ∷ [])) n.agent (here-more configs a turns s.turn) (here a n (ap (λ l. slice_get l a) (sym nodes) ∙ is))
-
 pub here-step : Below → (configs : List Config) (r : Run) (action : Action) → CanTellIt configs action → IsAfter configs r.cluster r.turns → IsHere configs r.cluster r.turns → IsHere configs (after r action).cluster (after r action).turns
 here-step lower configs r action tells h here =
-    step-cases (λ s. IsHere configs s.cluster (r.turns ++ s.turn ∷ [])) r.cluster action (λ bytes. here-still configs r.cluster r.turns (injects r.cluster bytes) refl here)
-    (λ b act at. here-still configs r.cluster r.turns (on_agent r.cluster b act None) refl here)
-    (λ b act m is at. here-applied lower configs r.cluster r.turns b act m h (subst (CanTellIt configs) is tells) at here)
+    each_in-step (λ a turns m. Says (WasHere configs a turns) m.agent) r action (λ a turns turn m other says. says-weaker (WasHere configs a turns) (WasHere configs a (turns ++ turn ∷ [])) m.agent (here-more configs a turns turn) says) here
+    (λ b act m is at says. here-acts lower configs r.cluster r.turns b act m h (subst (CanTellIt configs) is tells) at says)
 
 pub here-start : Below → (configs : List Config) → IsHere configs (start configs).cluster []
-here-start lower configs a m is =
-    let j = joined-at configs a m is in
-    subst (λ (x : IdealNode). Says (WasHere configs a []) x.agent) j.2 (says-first lower (WasHere configs a []) j.0)
+here-start lower configs = each-start (λ a turns m. Says (WasHere configs a turns) m.agent) configs (λ a config is. says-first lower (WasHere configs a []) config)
 
 -- ---- a step
 

@@ -1,5 +1,5 @@
 -- Lists of turns that grow.
-use Rattle.serf_model.proofs.Names.{◌≡◌, List, [], ◌∷◌, ◌++◌, refl, ap, subst, ◌∙◌, ◌⊎◌, inl, inr, AllByRecursion, fold, flat_map, append-nil, flat_map-append}
+use Rattle.serf_model.proofs.Names.{sym, All, Contains, All-contains_itself, All-weaker, Contains-append_left, Contains-append_right, ◌≡◌, List, [], ◌∷◌, ◌++◌, refl, ap, subst, ◌∙◌, ◌⊎◌, inl, inr, AllByRecursion, fold, flat_map, append-nil, flat_map-append}
 use Rattle.serf_model.specs.Trace.{Turn, AtEach}
 
 -- what each step keeps holds in the end
@@ -44,3 +44,24 @@ at_each_push P turns turn all p before t rest e =
 
 pub flat_map-push : {X A : Type 0} (f : X → List A) (xs : List X) (x : X) → flat_map f (xs ++ x ∷ []) ≡ flat_map f xs ++ f x
 flat_map-push f xs x = flat_map-append f xs (x ∷ []) ∙ ap (λ l. flat_map f xs ++ l) (append-nil (f x))
+
+-- what stood in the parts of a list stands there still, and so does what one more adds
+pub in-before : {X A : Type 0} (f : X → List A) (xs : List X) (x : X) (a : A) → Contains (flat_map f xs) a → Contains (flat_map f (xs ++ x ∷ [])) a
+in-before {X} {A} f xs x a h = subst (λ (l : List A). Contains l a) (sym (flat_map-push f xs x)) (Contains-append_left (flat_map f xs) (f x) a h)
+
+pub in-now : {X A : Type 0} (f : X → List A) (xs : List X) (x : X) (a : A) → Contains (f x) a → Contains (flat_map f (xs ++ x ∷ [])) a
+in-now {X} {A} f xs x a h = subst (λ (l : List A). Contains l a) (sym (flat_map-push f xs x)) (Contains-append_right (flat_map f xs) (f x) a h)
+
+-- where all in a list have P, its elements have
+pub all-in : {A : Type 0} (P : A → Type 0) (xs : List A) → ((a : A) → Contains xs a → P a) → All P xs
+all-in P xs up = All-weaker (Contains xs) P up xs (All-contains_itself xs)
+
+-- and so of the parts of parts
+pub parts-push : {X A B : Type 0} (g : A → List B) (f : X → List A) (xs : List X) (x : X) → flat_map g (flat_map f (xs ++ x ∷ [])) ≡ flat_map g (flat_map f xs) ++ flat_map g (f x)
+parts-push g f xs x = ap (flat_map g) (flat_map-push f xs x) ∙ flat_map-append g (flat_map f xs) (f x)
+
+pub in-parts_before : {X A B : Type 0} (g : A → List B) (f : X → List A) (xs : List X) (x : X) (b : B) → Contains (flat_map g (flat_map f xs)) b → Contains (flat_map g (flat_map f (xs ++ x ∷ []))) b
+in-parts_before {X} {A} {B} g f xs x b h = subst (λ (l : List B). Contains l b) (sym (parts-push g f xs x)) (Contains-append_left (flat_map g (flat_map f xs)) (flat_map g (f x)) b h)
+
+pub in-parts_now : {X A B : Type 0} (g : A → List B) (f : X → List A) (xs : List X) (x : X) (b : B) → Contains (flat_map g (f x)) b → Contains (flat_map g (flat_map f (xs ++ x ∷ []))) b
+in-parts_now {X} {A} {B} g f xs x b h = subst (λ (l : List B). Contains l b) (sym (parts-push g f xs x)) (Contains-append_right (flat_map g (flat_map f xs)) (flat_map g (f x)) b h)

@@ -129,7 +129,7 @@ receive_gives packet (Ok outcomes.PushPull) = only answers.PushPull
 receive_gives packet (Err fault) = refused (receive_refusal fault)
 
 abbrev pub receives_packet : IdealNode → ℕ → List ℕ → Applied
-receives_packet m now packet = called m (planned m.agent (receive m.agent now packet)) (receive_gives packet)
+receives_packet m now packet = called m (planned m.agent (receive false m.agent now packet)) (receive_gives packet)
 
 abbrev pub delivers : IdealNode → ℕ → Option (List ℕ) → Applied
 delivers m now None = does_nothing m (refused NoMessage)

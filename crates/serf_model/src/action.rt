@@ -125,7 +125,7 @@ impl Action {
         }
     }
 
-    /// The packet that the action gives to its agent, where these were sent. Takes no memory.
+    /// The packet of `sent` that the action gives to its agent, if it gives one. Takes no memory.
     pub fn given<'a>(&self, sent: &'a [Bytes]) -> Option<&'a [u8]>
         ensures { option_copied result ≡ packet_given sent.now self.now }
     {
@@ -152,7 +152,7 @@ impl Action {
 }
 
 impl Act {
-    /// The packet that the agent is given, where these were sent. Takes no memory.
+    /// The packet of `sent` that the agent is given, if it is given one. Takes no memory.
     pub fn given<'a>(&self, sent: &'a [Bytes]) -> Option<&'a [u8]>
         ensures { option_copied result ≡ given_by sent.now self.now }
     {
@@ -209,7 +209,7 @@ impl Act {
     }
 }
 
-/// The packet of this number, where these were sent. Takes no memory.
+/// The packet `number` of those in `sent`, from 0 on, if there is one. Takes no memory.
 pub fn packet_at(sent: &[Bytes], number: u64) -> Option<&[u8]>
     ensures { option_copied result ≡ slice_get sent.now number }
 {

@@ -9,13 +9,15 @@ use crate::action::{Act, Action};
 use crate::line::{Answer, Line, Refusal};
 use serf_agent::{Config, Reason};
 
-fn is_common_ignoring(reason: Reason) -> bool
+/// Whether Serf ignores for this reason too.
+fn is_common_reason(reason: Reason) -> bool
     ensures { result ≡ is_common_reason reason }
 {
     !matches!(reason, Reason::Oversize | Reason::TimeFull)
 }
 
-fn is_common_refusing(refusal: Refusal) -> bool
+/// Whether Serf refuses so too.
+fn is_common_refusal(refusal: Refusal) -> bool
     ensures { result ≡ is_common_refusal refusal }
 {
     match refusal {
@@ -28,19 +30,21 @@ fn is_common_refusing(refusal: Refusal) -> bool
     }
 }
 
-fn is_common_answering(answer: Answer) -> bool
+/// Whether an answer rests on no rule of this project's own.
+fn is_common_answer(answer: Answer) -> bool
     ensures { result ≡ is_common_answer answer }
 {
     match answer {
-        Answer::Ignored(reason) => is_common_ignoring(reason),
-        Answer::Refused(refusal) => is_common_refusing(refusal),
+        Answer::Ignored(reason) => is_common_reason(reason),
+        Answer::Refused(refusal) => is_common_refusal(refusal),
         Answer::Broken => false,
         Answer::Compacted => false,
         _ => true,
     }
 }
 
-fn is_restarting_commonly(keeps: bool, action: &Action) -> bool
+/// Whether an action, of an agent that keeps its events over a restart or doesn't (`keeps`), is no restart on such a rule.
+fn restarts_commonly(keeps: bool, action: &Action) -> bool
     ensures { result ≡ restarts_commonly keeps action.now }
 {
     match action {
@@ -57,7 +61,7 @@ fn is_restarting_commonly(keeps: bool, action: &Action) -> bool
 pub fn is_common_turn(keeps: bool, action: &Action, line: &Line) -> bool
     ensures { result ≡ (is_common_answer line.now.answer && restarts_commonly keeps action.now) }
 {
-    is_common_answering(line.answer) && is_restarting_commonly(keeps, action)
+    is_common_answer(line.answer) && restarts_commonly(keeps, action)
 }
 
 /// Whether the agent that acts keeps its events over a restart, by these settings. No agent injects. Takes no memory.

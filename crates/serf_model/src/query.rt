@@ -32,6 +32,7 @@ impl NewQuery {
     }
 }
 
+/// A copy of byte lists.
 fn copy_lists(alloc: Global, lists: &[Bytes]) -> Result<BytesList, AllocError>
     ensures { IfOk result (λ copies. copies ≡ lists.now) }
 {
@@ -42,6 +43,7 @@ fn copy_lists(alloc: Global, lists: &[Bytes]) -> Result<BytesList, AllocError>
     Ok(BytesList::from_vec(copies))
 }
 
+/// A copy of how a query is fired.
 fn copy_params(alloc: Global, params: &QueryParams) -> Result<QueryParams, AllocError>
     ensures { IfOk result (λ copy. copy ≡ params.now) }
 {

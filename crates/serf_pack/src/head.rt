@@ -1,4 +1,4 @@
-//! What stands before a value's parts: its first byte, and the number after it. MessagePack
+//! Reads what stands before a value's parts: its first byte, and the number after it. MessagePack
 //! specification, "Formats".
 
 ghost use Rattle.std.specs.Prelude.{◌≡◌, ◌≤◌, ◌+◌, ◌<◌, ◌^◌, length, IfOk};
@@ -46,13 +46,13 @@ pub enum Field {
 pub enum Row {
     /// The byte is the whole head.
     Whole(Head),
-    /// A number of so many bytes follows, the highest byte first.
+    /// A number follows, of as many bytes as given, the highest first.
     Number(Field, usize),
     /// No value of the profile begins with this byte.
     Unsupported,
 }
 
-/// The row of a first byte.
+/// The row of the first byte `byte`.
 #[inline(always)]
 pub fn row_for(byte: u8) -> Row
     ensures row { result ≡ row_of byte }
@@ -90,7 +90,7 @@ pub fn row_for(byte: u8) -> Row
     }
 }
 
-/// The number of so many bytes at their start, the highest first.
+/// The number in the first `width` bytes of `bytes`, the highest first.
 #[inline(always)]
 fn number(width: usize, bytes: &[u8]) -> u64
     requires low { 1 ≤ width }
@@ -107,7 +107,7 @@ fn number(width: usize, bytes: &[u8]) -> u64
     }
 }
 
-/// What the number at the start of the bytes says, which has so many of them.
+/// The head whose number stands in the first `width` bytes of `bytes`, as `field` reads it.
 #[inline(always)]
 fn meaning(field: Field, width: usize, bytes: &[u8]) -> Head
     requires low { 1 ≤ width }
@@ -125,7 +125,7 @@ fn meaning(field: Field, width: usize, bytes: &[u8]) -> Head
     }
 }
 
-/// The head at the start of the bytes, which are the last of `total`, and what follows it. `Truncated`
+/// The head at the start of `bytes`, the last ones of an input of `total` bytes, and the bytes after it. `Truncated`
 /// where the bytes end before the head does, `Unsupported` at a byte of no format, each with the offset
 /// of the first byte. Takes no memory.
 #[tactic(auto, unfolding(crate::specs::Reading::head_at))]

@@ -1,4 +1,4 @@
-//! Canonical spellings, at the end of a vector: the shortest format of each number, length and count
+//! Appends canonical spellings to a vector, `out`: the shortest format of each number, length and count
 //! (byte strings are str, and str 8 is not used). Each function answers `AllocError` only where the
 //! vector's capacity is too small and its growth was refused, and then the vector holds what it held. The capacity
 //! never falls.
@@ -12,7 +12,7 @@ ghost use Rattle.serf_pack.specs.Canonical.{map_head, array_head, raw_head, raw_
 use byteorder::{BigEndian, ByteOrder};
 use std::alloc::AllocError;
 
-/// A first byte, and a number of so many bytes, the highest first.
+/// Appends the first byte `format`, and `number` in `width` bytes, the highest first.
 fn put_number(out: &mut Vec<u8>, format: u8, number: u64, width: usize) -> Result<(), AllocError>
     requires low { 1 ≤ width }
     requires high { width ≤ 8 }
@@ -28,7 +28,7 @@ fn put_number(out: &mut Vec<u8>, format: u8, number: u64, width: usize) -> Resul
     out.extend_from_slice(&bytes[..1 + width])
 }
 
-/// A first byte that is the whole head.
+/// Appends `byte`, a first byte that is the whole head.
 fn put_byte(out: &mut Vec<u8>, byte: u8) -> Result<(), AllocError>
     ensures ok { OnOk result (out.new.items ≡ out.old.items ++ byte ∷ []) }
     ensures err { OnErr result (out.new.items ≡ out.old.items) }
@@ -77,7 +77,7 @@ pub fn put_array(out: &mut Vec<u8>, count: u32) -> Result<(), AllocError>
     }
 }
 
-/// The header of a byte string of so many bytes.
+/// Appends the header of a byte string of `len` bytes.
 fn put_raw_head(out: &mut Vec<u8>, len: u32) -> Result<(), AllocError>
     ensures ok { OnOk result (out.new.items ≡ out.old.items ++ raw_head len) }
     ensures err { OnErr result (out.new.items ≡ out.old.items) }
@@ -162,7 +162,7 @@ pub fn put_nil(out: &mut Vec<u8>) -> Result<(), AllocError>
     put_byte(out, 0xc0)
 }
 
-/// A first byte, and a number of so many bytes in two's complement, the highest first.
+/// Appends the first byte `format`, and `number` in `width` bytes in two's complement, the highest first.
 fn put_signed(out: &mut Vec<u8>, format: u8, number: i64, width: usize) -> Result<(), AllocError>
     requires low { 1 ≤ width }
     requires high { width ≤ 8 }

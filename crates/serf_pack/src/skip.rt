@@ -6,9 +6,9 @@ ghost use Rattle.serf_pack.specs.Reading.{Gives, value_at, items_at, pairs_at, r
 use crate::fault::PackFault;
 use crate::head::{Field, Head, Row, read_head, row_for};
 
-/// What follows a value of the formats that most values of a packet have: nil, a truth value, a
-/// fixint, an unsigned integer, a short byte string. `None` where another value stands, and where
-/// its bytes pass the end. So the walk over a packet is one loop with no call.
+/// The bytes after the value at the start of `bytes`, where it has a format that most values of a packet have: nil, a truth
+/// value, a fixint, an unsigned integer, a short byte string. `None` where another value stands, and where its bytes pass the
+/// end. So the walk over a packet is one loop with no call.
 #[inline(always)]
 fn skip_short(bytes: &[u8]) -> Option<&[u8]>
     ensures rest { IfSome result (λ x. (depth_left : ℕ) → (total : ℕ)
@@ -38,7 +38,7 @@ fn skip_short(bytes: &[u8]) -> Option<&[u8]>
     }
 }
 
-/// What follows the value at the start of the bytes, which are the last of `total`, or the value's
+/// The bytes after the value at the start of `bytes`, the last ones of an input of `total` bytes, or the value's
 /// first fault. Up to `depth_left` arrays and maps may stand inside one another.
 #[cycle(skip)]
 #[inline(always)]
@@ -87,7 +87,7 @@ fn skip_any(depth_left: u64, total: usize, bytes: &[u8]) -> Result<&[u8], PackFa
     }
 }
 
-/// What follows so many values, or the first fault.
+/// The bytes after `count` values at the start of `bytes`, or their first fault.
 #[cycle(skip)]
 fn skip_items(depth_left: u64, total: usize, count: u64, bytes: &[u8]) -> Result<&[u8], PackFault>
     requires { length bytes.now ≤ total }
@@ -102,7 +102,7 @@ fn skip_items(depth_left: u64, total: usize, count: u64, bytes: &[u8]) -> Result
     Ok(rest)
 }
 
-/// What follows so many pairs, or the first fault.
+/// The bytes after `count` pairs of values at the start of `bytes`, or their first fault.
 #[cycle(skip)]
 fn skip_pairs(depth_left: u64, total: usize, count: u64, bytes: &[u8]) -> Result<&[u8], PackFault>
     requires { length bytes.now ≤ total }

@@ -30,7 +30,7 @@ pub struct View<'a> {
     pub(crate) bytes: &'a [u8],
     // The length of the whole input, of which `bytes` are the last.
     pub(crate) total: usize,
-    // How many containers may stand inside one another here.
+    // How many arrays and maps may stand inside one another in the value.
     pub(crate) depth_left: u64,
     pub ghost within: { length bytes.now ≤ total },
     pub ghost small: { total < 2 ^ 63 },
@@ -44,7 +44,7 @@ impl<'a> View<'a> {
     ghost use Rattle.serf_pack.specs.View.{tree_of, kind_of, int_of, flag_of, raw_of, place_of, items_of, pairs_of, tree_by, HasParts};
     ghost use Rattle.serf_pack.specs.Walk.{items_left, pairs_left};
 
-    /// The value's head, and what follows it.
+    /// The value's head, and the bytes after it.
     #[inline(always)]
     fn head(&self) -> (Head, &'a [u8])
         ensures tree { tree_of self.now ≡ tree_by self.now.depth_left self.now.total

@@ -1,4 +1,4 @@
-//! The parts of a checked value, one after another. Nothing here takes memory.
+//! Walks over the parts of a checked value, one after another. Nothing here takes memory.
 
 ghost use Rattle.std.specs.Prelude.{◌≡◌, ◌≤◌, ◌<◌, ◌^◌, length, drop, is_ok, true};
 ghost use Rattle.serf_pack.specs.Reading.{value_at, items_at, pairs_at};
@@ -41,7 +41,7 @@ pub struct Pairs<'a> {
     pub ghost checked: { is_ok (pairs_at (value_at depth_left total) left rest.now) ≡ true },
 }
 
-/// What follows so many bytes.
+/// The bytes of `bytes` after the first `len`.
 #[inline(always)]
 fn after(bytes: &[u8], len: usize) -> &[u8]
     requires { len ≤ length bytes.now }
@@ -57,7 +57,7 @@ impl<'a> Items<'a> {
     ghost use Rattle.serf_pack.specs.Walk.{items_bytes, items_left, PacksAlone};
     ghost use Rattle.serf_pack.specs.Reading.{items_or_none};
 
-    /// So many items from the start of the bytes on, which were checked.
+    /// The first `left` items of `rest`, which were checked. `rest` are the last bytes of an input of `total`.
     #[tactic(auto, unfolding(crate::specs::Walk::items_left))]
     #[inline]
     pub(crate) fn new(rest: &'a [u8], total: usize, depth_left: u64, left: u64) -> Items<'a>
@@ -134,7 +134,7 @@ impl<'a> Pairs<'a> {
     ghost use Rattle.serf_pack.specs.Walk.{pairs_left};
     ghost use Rattle.serf_pack.specs.Reading.{pairs_or_none};
 
-    /// So many pairs from the start of the bytes on, which were checked.
+    /// The first `left` pairs of `rest`, which were checked. `rest` are the last bytes of an input of `total`.
     #[tactic(auto, unfolding(crate::specs::Walk::pairs_left))]
     #[inline]
     pub(crate) fn new(rest: &'a [u8], total: usize, depth_left: u64, left: u64) -> Pairs<'a>

@@ -1,4 +1,4 @@
-//! Checking that bytes are one value.
+//! Checks that bytes are one value.
 
 ghost use Rattle.std.specs.Prelude.{◌≡◌, ◌≤◌, length, IfOk, IfErr, IsOkAnd, Err};
 ghost use Rattle.serf_pack.specs.declared.fault.PackFault.{PackFault as Fault};
@@ -15,7 +15,7 @@ use crate::view::View;
 /// How many arrays and maps may stand inside one another.
 const MAX_NESTING: u64 = 8;
 
-/// A view of the value, or the first fault, as reading from left to right finds it.
+/// A view of the one value that `bytes` are, or their first fault, as reading from left to right finds it.
 #[tactic(auto, unfolding(crate::specs::Reading::whole_at))]
 #[inline(always)]
 fn read_whole(bytes: &[u8]) -> Result<View<'_>, PackFault>
@@ -32,7 +32,7 @@ fn read_whole(bytes: &[u8]) -> Result<View<'_>, PackFault>
     })
 }
 
-/// A view of the one value that the bytes are, or their first fault in reading order, with its offset
+/// A view of the one value that `bytes` are, or their first fault in reading order, with its offset
 /// in bytes from their start. At the place of a value it is, in this order:
 ///
 /// 1. `Truncated` where the bytes end there;
@@ -61,7 +61,7 @@ pub fn check(bytes: &[u8]) -> Result<View<'_>, PackFault>
     read_whole(bytes)
 }
 
-/// A view of the one value that the bytes are, for whoever knows that they are one: what [`check`] gives, without
+/// A view of the one value that `bytes` are, for whoever knows that they are one: what [`check`] gives, without
 /// going over them. Takes no memory.
 pub fn view_packed(bytes: &[u8]) -> View<'_>
     requires packed { (v : Tree) × Packs v 0 0 bytes.now }

@@ -1,17 +1,61 @@
--- A text that is read back as its message is encoded to the message's packet.
-use Rattle.std.proofs.Common.{◌≡◌, ◌∙◌, List, ℕ, true, false, refl, sym, ap}
-use Rattle.std.specs.Prelude.{Some, Ok}
+-- Texts that are encoded to packets.
+use Rattle.std.proofs.Common.{◌≡◌, ◌∙◌, List, [], ℕ, Bool, true, false, cond, refl, sym, ap}
+use Rattle.std.specs.Prelude.{Option, Some, None, Result, Ok, Err}
 use Rattle.std.specs.Str.{bytes_eq}
-use Rattle.hex.specs.Hex.{IsBytes}
 use Rattle.std.proofs.lemmas.Slice.Eq.{bytes_eq-Decides}
+use Rattle.hex.specs.Hex.{IsBytes}
+use Rattle.serf_wire.specs.declared.fault.WireFault.{WireFault}
 use Rattle.serf_wire.specs.Canonical.{canonical, has_long}
 use Rattle.serf_wire.specs.Decoded.{decoded}
 use Rattle.serf_wire.specs.Message.{Message}
 use Rattle.serf_wire.specs.Ranges.{InRange}
 use Rattle.serf_text.specs.MessageText.{message_text, text_or_fault}
-use Rattle.serf_packets.specs.Encoded.{encoded, encoded_by, packet_of, said_by}
-use Rattle.serf_packets.specs.Meant.{message_meant}
+use Rattle.serf_packets.specs.Encoded.{encoded, encoded_by, other_line, packet_meant, packet_of, said_by}
+use Rattle.serf_packets.specs.Meant.{meant_by, message_meant}
 use Rattle.serf_packets.specs.Rows.{rows_in}
+
+-- A text that is answered by a packet
+
+-- no text means no message
+no-text : packet_meant [] ≡ None
+unfolding meant_by
+no-text = refl
+
+-- a text that is said, and not empty
+said : (r : Result (List ℕ) WireFault) (text : List ℕ) → (text ≡ [] → ⊥) → said_by r ≡ text → r ≡ Ok text
+said (Ok t) text some is = cc
+said (Err f) text some is = absurd (some (sym is))
+
+packet-by : (text packet : List ℕ) (p : Option (List ℕ)) → encoded_by text p ≡ Ok packet → (p ≡ Some packet) × (said_by (text_or_fault (decoded packet)) ≡ text)
+packet-by text packet None is = absurd (cc is)
+packet-by text packet (Some q) is = by (bytes_eq (said_by (text_or_fault (decoded q))) text) refl is
+  where
+    by : (b : Bool) → bytes_eq (said_by (text_or_fault (decoded q))) text ≡ b → cond b (Ok q) (Err (other_line text (said_by (text_or_fault (decoded q))))) ≡ Ok packet
+        → (Some q ≡ Some packet) × (said_by (text_or_fault (decoded packet)) ≡ text)
+    by true e found =
+        let same : q ≡ packet = cc found in
+        (ap (λ k. Some k) same, ap (λ (k : List ℕ). said_by (text_or_fault (decoded k))) (sym same) ∙ (bytes_eq-Decides (said_by (text_or_fault (decoded q))) text).0 e)
+    by false e found = absurd (cc found)
+
+pub decodes_to_text : (text packet : List ℕ) → encoded text ≡ Ok packet → text_or_fault (decoded packet) ≡ Ok text
+unfolding encoded
+decodes_to_text text packet is =
+    let found = packet-by text packet (packet_meant text) is in
+    said (text_or_fault (decoded packet)) text (λ none. absurd (cc (ap packet_meant none ∙ no-text, found.0))) found.1
+
+canonical-of : (m : Option Message) (packet : List ℕ) → packet_of m ≡ Some packet → (m : Message) × (packet ≡ canonical m)
+canonical-of None packet is = absurd (cc is)
+canonical-of (Some m) packet is = by (has_long m) is
+  where
+    by : (b : Bool) → cond b None (Some (canonical m)) ≡ Some packet → (m : Message) × (packet ≡ canonical m)
+    by true found = absurd (cc found)
+    by false found = (m, cc found)
+
+pub is_canonical : (text packet : List ℕ) → encoded text ≡ Ok packet → (m : Message) × (packet ≡ canonical m)
+unfolding encoded
+is_canonical text packet is = canonical-of (message_meant (rows_in text)) packet (packet-by text packet (packet_meant text) is).0
+
+-- A text that is read back
 
 -- A message's text is read back as a message with its packet: itself, but that an empty slot may be one of a time.
 pub record IsReadBack (m : Message) : Type 0 where
@@ -23,21 +67,13 @@ pub record IsReadBack (m : Message) : Type 0 where
 abbrev pub ReadsBack : Message → Type 0
 ReadsBack m = InRange m → IsBytes (canonical m) → has_long m ≡ false → IsReadBack m
 
-exact : (text packet : List ℕ) → said_by (text_or_fault (decoded packet)) ≡ text → encoded_by text (Some packet) ≡ Ok packet
-exact text packet is =
-    let e : bytes_eq (said_by (text_or_fault (decoded packet))) text ≡ true = (bytes_eq-Decides (said_by (text_or_fault (decoded packet))) text).1 is in
-    rw e refl
-
-short : (n : Message) (packet : List ℕ) → has_long n ≡ false → canonical n ≡ packet → packet_of (Some n) ≡ Some packet
-short n packet h is = rw h (ap (λ p. Some p) is)
-
 -- where its canonical packet is decoded to just this message, its text is encoded to this packet
 pub taken_back : (m : Message) → IsReadBack m → decoded (canonical m) ≡ Ok m → encoded (message_text m) ≡ Ok (canonical m)
 unfolding encoded
 taken_back m b spelled =
-    ap (λ o. encoded_by (message_text m) (packet_of o)) b.meant
-    ∙ ap (encoded_by (message_text m)) (short b.back (canonical m) b.short b.same)
-    ∙ exact (message_text m) (canonical m) (ap (λ r. said_by (text_or_fault r)) spelled)
+    let same : bytes_eq (said_by (text_or_fault (decoded (canonical m)))) (message_text m) ≡ true =
+    (bytes_eq-Decides (said_by (text_or_fault (decoded (canonical m)))) (message_text m)).1 (ap (λ r. said_by (text_or_fault r)) spelled) in
+    rw (b.meant, b.short, b.same, same) refl
 
 -- messages of one text have one packet
 pub one_packet : (m n : Message) → IsReadBack m → IsReadBack n → message_text m ≡ message_text n → canonical m ≡ canonical n

@@ -1,8 +1,5 @@
 -- The text that a canonical packet is decoded to is encoded to this packet.
-use Rattle.std.proofs.Common.{◌≡◌, ◌++◌, ◌∙◌, List, [], ◌∷◌, Ok, false, refl, sym, ap, subst, map}
-use Rattle.std.proofs.lemmas.List.{length-map}
-use Rattle.std.specs.List.{flat_map, list_any}
-use Rattle.std.specs.Prelude.{◌||◌}
+use Rattle.std.proofs.Common.{◌≡◌, ◌∙◌, [], ◌∷◌, Ok, false, refl, sym, ap, subst}
 use Rattle.hex.specs.Hex.{IsBytes}
 use Rattle.serf_wire.specs.Canonical.{canonical, has_long, is_long_slot, slot_bytes, without_empty_slots, without_events}
 use Rattle.serf_wire.specs.Decoded.{decoded}
@@ -12,11 +9,8 @@ use Rattle.serf_wire.specs.Slots.{SlotContent, empty, held}
 use Rattle.serf_text.specs.MessageText.{message_text, text_or_fault}
 use Rattle.serf_packets.specs.Encoded.{encoded}
 use Rattle.serf_packets.specs.Taken.{TextsAreTaken, TextsTellApart}
-use Rattle.serf_packets.proofs.EventBack.{event_back}
-use Rattle.serf_packets.proofs.ForeignBack.{foreign_back}
-use Rattle.serf_packets.proofs.QueryBack.{query_back}
-use Rattle.serf_packets.proofs.ResponseBack.{response_back}
-use Rattle.serf_packets.proofs.StateBack.{push_pull_back}
+use Rattle.serf_packets.proofs.MessagesBack.{event_back, foreign_back, query_back, response_back}
+use Rattle.serf_packets.proofs.StateBack.{IsUntold, push_pull_back, same_lengths, same_packet}
 use Rattle.serf_packets.proofs.TakenLaws.{IsReadBack, ReadsBack, one_packet, taken_back}
 
 back : (m : Message) → ReadsBack m
@@ -28,51 +22,37 @@ back (foreign kind) = foreign_back kind
 
 -- Slots without events
 
-emptied-slot : (slot : SlotContent) → slot_bytes (without_events slot) ≡ slot_bytes slot
-emptied-slot empty = refl
-emptied-slot (held t []) = refl
-emptied-slot (held t (e ∷ es)) = refl
-
-emptied-slots : (slots : List SlotContent) → flat_map slot_bytes (map without_events slots) ≡ flat_map slot_bytes slots
-emptied-slots [] = refl
-emptied-slots (slot ∷ slots) = rw (emptied-slot slot) (ap (λ bytes. slot_bytes slot ++ bytes) (emptied-slots slots))
-
-same-packet : (m : Message) → canonical (without_empty_slots m) ≡ canonical m
-unfolding canonical
-same-packet (user_event e) = refl
-same-packet (query q) = refl
-same-packet (query_response r) = refl
-same-packet (push_pull m) = rw (length-map m.slots without_events, emptied-slots m.slots) refl
-same-packet (foreign kind) = refl
+emptied-bytes : (slot : SlotContent) → slot_bytes (without_events slot) ≡ slot_bytes slot
+emptied-bytes empty = refl
+emptied-bytes (held t []) = refl
+emptied-bytes (held t (e ∷ es)) = refl
 
 emptied-long : (slot : SlotContent) → is_long_slot (without_events slot) ≡ is_long_slot slot
 emptied-long empty = refl
 emptied-long (held t []) = refl
 emptied-long (held t (e ∷ es)) = refl
 
-emptied-lengths : (slots : List SlotContent) → list_any is_long_slot (map without_events slots) ≡ list_any is_long_slot slots
-emptied-lengths [] = refl
-emptied-lengths (slot ∷ slots) = rw (emptied-long slot) (ap (λ b. is_long_slot slot || b) (emptied-lengths slots))
+abbrev emptied : IsUntold without_events
+emptied = record { bytes = emptied-bytes; long = emptied-long }
 
-same-lengths : (m : Message) → has_long (without_empty_slots m) ≡ has_long m
-unfolding has_long
-same-lengths (user_event e) = refl
-same-lengths (query q) = refl
-same-lengths (query_response r) = refl
-same-lengths (push_pull m) = rw (length-map m.slots without_events, emptied-lengths m.slots) refl
-same-lengths (foreign kind) = refl
+same-packet : (m : Message) → (canonical (without_empty_slots m) ≡ canonical m) × (has_long (without_empty_slots m) ≡ has_long m)
+same-packet (user_event e) = (refl, refl)
+same-packet (query q) = (refl, refl)
+same-packet (query_response r) = (refl, refl)
+same-packet (push_pull m) = (same_packet without_events emptied m, same_lengths without_events emptied m)
+same-packet (foreign kind) = (refl, refl)
 
 -- what a canonical packet is decoded to is read back
 spelled-back : DecodesInRange → (m : Message) → decoded (canonical m) ≡ Ok (without_empty_slots m) → IsBytes (canonical m) → has_long m ≡ false
     → (decoded (canonical (without_empty_slots m)) ≡ Ok (without_empty_slots m)) × IsReadBack (without_empty_slots m)
 spelled-back ranged m spelled bytes short =
-    let same = same-packet m in
+    let same = (same-packet m).0 in
     let again : decoded (canonical (without_empty_slots m)) ≡ Ok (without_empty_slots m) = ap decoded same ∙ spelled in
-    (again, back (without_empty_slots m) (ranged (canonical (without_empty_slots m)) (without_empty_slots m) again) (subst IsBytes (sym same) bytes) (same-lengths m ∙ short))
+    (again, back (without_empty_slots m) (ranged (canonical (without_empty_slots m)) (without_empty_slots m) again) (subst IsBytes (sym same) bytes) ((same-packet m).1 ∙ short))
 
 pub texts_taken : DecodesInRange → DecodesSpelled → CanonicalSpells → TextsAreTaken
 texts_taken ranged exact canonicals m text fits short bytes says =
-    let same = same-packet m in
+    let same = (same-packet m).0 in
     let spelled : decoded (canonical m) ≡ Ok (without_empty_slots m) = (exact (canonical m) (without_empty_slots m)).1 (canonicals m fits short) in
     let said : message_text (without_empty_slots m) ≡ text = cc (ap text_or_fault spelled, says) in
     let here = spelled-back ranged m spelled bytes short in

@@ -26,7 +26,7 @@ pub enum EncodeTextFault {
 }
 
 /// How many first bytes two texts have in common.
-#[tactic(auto, using(crate::proofs::TextLaws::common_nothing))]
+#[tactic(auto, using(crate::proofs::ListLaws::common_nothing))]
 fn common_len(text: &[u8], other: &[u8]) -> usize
     ensures count { result ≡ common text.now other.now }
     ensures within { result ≤ length text.now }
@@ -38,6 +38,7 @@ fn common_len(text: &[u8], other: &[u8]) -> usize
     len
 }
 
+/// How many newlines a text has.
 fn count_newlines(text: &[u8]) -> usize
     ensures within { result ≤ length text.now }
     ensures count { result ≡ length (filter (λ b. b == 10) text.now) }
@@ -91,7 +92,7 @@ fn encode_exactly(alloc: Global, text: &[u8]) -> Result<Vec<u8>, EncodeTextFault
 /// A text that is no message's is a `BadLine`, and so is that of a message whose canonical packet has another text: a
 /// push/pull's slot of a time without events, which the canonical packet has as nil. The text that a canonical packet is
 /// decoded to is taken ([`crate::know_texts_taken`]).
-#[tactic(auto, using(crate::proofs::EncodedLaws::decodes_to_text, crate::proofs::EncodedLaws::is_canonical))]
+#[tactic(auto, using(crate::proofs::TakenLaws::decodes_to_text, crate::proofs::TakenLaws::is_canonical))]
 pub fn encode_text(alloc: Global, text: &[u8]) -> Result<Vec<u8>, EncodeTextFault>
     // The packet, or the first line for which there is none, is that of the definition.
     ensures packet { IfOk result (λ packet. encoded text.now ≡ Ok packet.items) }

@@ -1,17 +1,20 @@
 //! Packets in hex, a line each.
 
-ghost use Rattle.std.specs.Prelude.{◌≡◌, ◌++◌, [], Ok, List, ℕ, IfErr, IfOk, OnOk};
+ghost use Rattle.std.specs.Prelude.{◌≡◌, ◌++◌, [], Ok, List, ℕ, IfErr, IfOk, OnOk, codes};
 ghost use Rattle.std.specs.List.{list_any};
 ghost use Rattle.std.specs.Io.KnownBytes.{Appends, Consumes, IsAtEnd};
 ghost use Rattle.serf_text.specs.Lines.{lines_of, text_behind};
 ghost use Rattle.serf_text.specs.Streams.{IsStopped};
-ghost use Rattle.serf_packets.specs.Answers.{line_answer, refuses_line};
+ghost use Rattle.serf_text.specs.WireText.{wire_text};
+ghost use Rattle.serf_wire.specs.Decoded.{decoded};
+ghost use Rattle.serf_packets.specs.Answers.{is_refused, line_answer, packet_answer, refuses_line};
 
-use crate::answers::put_answer;
 use crate::framing::{Framing, framing_of};
 use hex::FromHexError;
-use serf_text::{LineJob, StreamFault, StreamLineFault, answer_lines};
-use std::alloc::Global;
+use serf_text::{
+    DecodeTextFault, LineJob, StreamFault, StreamLineFault, WireWords, answer_lines, decode_text,
+};
+use std::alloc::{AllocError, Global};
 use std::io::{Read, Write};
 use thiserror::Error;
 
@@ -24,6 +27,34 @@ pub struct BadHex;
 pub trait FramingNotes {
     /// The packet in the line of this number, counted from 1, begins so. The number stops at 2^64 - 1.
     fn framed(&mut self, line: u64, framing: Framing);
+}
+
+/// Appends the line that stands in the place of a message, and an empty line.
+fn put_refusal(alloc: Global, words: WireWords, out: &mut Vec<u8>) -> Result<(), AllocError>
+    ensures { OnOk result (out.new.items ≡ out.old.items
+        ++ (codes "refused " ++ wire_text words.fault ++ codes "\n\n")) }
+{
+    let text = format!(in alloc; "refused {words}\n\n")?;
+    out.extend_from_slice(text.as_bytes())
+}
+
+/// Appends the answer to a packet, and says whether it is refused.
+fn put_answer(alloc: Global, packet: &[u8], out: &mut Vec<u8>) -> Result<bool, AllocError>
+    ensures text { OnOk result (out.new.items ≡ out.old.items ++ packet_answer packet.now) }
+    ensures refused { IfOk result (λ refused. refused ≡ is_refused (decoded packet.now)) }
+{
+    match decode_text(alloc, packet) {
+        Ok(text) => {
+            out.extend_from_slice(&text)?;
+            out.extend_from_slice(b"\n")?;
+            Ok(false)
+        }
+        Err(DecodeTextFault::Refused(words)) => {
+            put_refusal(alloc, words, out)?;
+            Ok(true)
+        }
+        Err(DecodeTextFault::OutOfMemory) => Err(AllocError),
+    }
 }
 
 /// Answers packets, and keeps whether one was refused.

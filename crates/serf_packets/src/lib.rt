@@ -2,7 +2,6 @@
 //! in, its canonical packet out.
 #![tactic(auto)]
 
-mod answers;
 mod blocks;
 mod encoding;
 mod framing;

@@ -17,6 +17,7 @@ use serf_wire::{
 };
 use std::alloc::{AllocError, Global};
 
+/// The packet of a user event, from the rows of its text.
 #[tactic(auto, unfolding(crate::specs::Meant::event_meant))]
 fn encode_event(alloc: Global, rows: &[Row]) -> Result<Vec<u8>, EncodeFault>
     ensures { IsPacketOf (λ p. p.items) result (event_meant (map row_seen rows.now)) }
@@ -32,12 +33,14 @@ fn encode_event(alloc: Global, rows: &[Row]) -> Result<Vec<u8>, EncodeFault>
     encode_user_event(alloc, &event)
 }
 
+/// The packet of a query.
 fn write_query(alloc: Global, parts: &Query<&[Bytes]>) -> Result<Vec<u8>, EncodeFault>
     ensures { IsPacketOf (λ p. p.items) result (query (query_of parts.now)) }
 {
     encode_query(alloc, parts)
 }
 
+/// The packet of a query, from the rows of its text.
 #[tactic(auto, unfolding(crate::specs::Meant::query_meant))]
 fn encode_question(alloc: Global, rows: &[Row]) -> Result<Vec<u8>, EncodeFault>
     ensures { IsPacketOf (λ p. p.items) result (query (query_meant (map row_seen rows.now))) }
@@ -63,6 +66,7 @@ fn encode_question(alloc: Global, rows: &[Row]) -> Result<Vec<u8>, EncodeFault>
     write_query(alloc, &parts)
 }
 
+/// The packet of an ack or a response, from the rows of its text.
 #[tactic(auto, unfolding(crate::specs::Meant::response_meant))]
 fn encode_answer(alloc: Global, rows: &[Row]) -> Result<Vec<u8>, EncodeFault>
     ensures { IsPacketOf (λ p. p.items) result (response_meant (map row_seen rows.now)) }
@@ -79,6 +83,7 @@ fn encode_answer(alloc: Global, rows: &[Row]) -> Result<Vec<u8>, EncodeFault>
     encode_response(alloc, &answer)
 }
 
+/// The packet of another message, from the rows of its text.
 #[tactic(auto, unfolding(serf_wire::specs::Canonical::canonical, serf_wire::specs::Canonical::has_long))]
 fn encode_foreign(alloc: Global, rows: &[Row]) -> Result<Vec<u8>, EncodeFault>
     ensures { IsPacketOf (λ p. p.items) result

@@ -1,4 +1,4 @@
-//! The lists of a push/pull.
+//! A push/pull's packet, from the lines of its text.
 
 ghost use Rattle.std.specs.Prelude.{◌≡◌, ◌++◌, ◌∷◌, [], IfOk, OnOk, Some, map};
 ghost use Rattle.std.specs.List.{fold};
@@ -38,6 +38,7 @@ fn take_member(alloc: Global, members: &mut Vec<Member>, row: &Row) -> Result<()
     Ok(())
 }
 
+/// The members that the rows of a text name, with their status times.
 fn members_in(alloc: Global, rows: &[Row]) -> Result<Vec<Member>, AllocError>
     ensures { IfOk result (λ members. map member_held members.items
         ≡ members_of (map row_seen rows.now)) }
@@ -49,6 +50,7 @@ fn members_in(alloc: Global, rows: &[Row]) -> Result<Vec<Member>, AllocError>
     Ok(members)
 }
 
+/// Members with their status times, lent.
 fn lend_members<'a>(alloc: Global, members: &'a [Member]) -> Result<Vec<StatusTime<'a>>, AllocError>
     ensures { IfOk result (λ status. map status_of status.items
         ≡ map member_held members.entry.now) }
@@ -63,6 +65,7 @@ fn lend_members<'a>(alloc: Global, members: &'a [Member]) -> Result<Vec<StatusTi
     Ok(status)
 }
 
+/// Texts, lent.
 fn lend_texts<'a>(alloc: Global, texts: &'a [Bytes]) -> Result<Vec<&'a [u8]>, AllocError>
     ensures { IfOk result (λ lent. map (λ t. t.now) lent.items ≡ texts.entry.now) }
 {
@@ -74,7 +77,7 @@ fn lend_texts<'a>(alloc: Global, texts: &'a [Bytes]) -> Result<Vec<&'a [u8]>, Al
 }
 
 /// Puts an event into the last slot, where there is one.
-#[tactic(auto, using(crate::proofs::SlotLaws::last_changed))]
+#[tactic(auto, using(crate::proofs::ListLaws::last_changed))]
 fn add_event(slots: &mut Vec<Slot>, event: EventBody) -> Result<(), AllocError>
     ensures { OnOk result (map slot_content slots.new.items
         ≡ on_last (with_event event) (map slot_content slots.old.items)) }
@@ -109,6 +112,7 @@ fn take_slot(alloc: Global, slots: &mut Vec<Slot>, row: &Row) -> Result<(), Allo
     }
 }
 
+/// The slots that the rows of a text name.
 fn slots_in(alloc: Global, rows: &[Row]) -> Result<Vec<Slot>, AllocError>
     ensures { IfOk result (λ slots. map slot_content slots.items
         ≡ slots_meant (map row_seen rows.now)) }
@@ -120,6 +124,7 @@ fn slots_in(alloc: Global, rows: &[Row]) -> Result<Vec<Slot>, AllocError>
     Ok(slots)
 }
 
+/// The packet of a push/pull.
 fn write_push_pull(alloc: Global, parts: &PushPullParts) -> Result<Vec<u8>, EncodeFault>
     ensures { IsPacketOf (λ p. p.items) result (push_pull (push_pull_of parts.now)) }
 {

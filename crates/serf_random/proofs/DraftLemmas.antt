@@ -22,6 +22,10 @@ more_agents a b c xs ys zs one two = record {
   short = λ s. two.short (one.short s);
 }
 
+-- behind no agents, the agents that were added are all
+pub all_text : (old new : List ℕ) (agents : List Config) → AddsAgents old new [] agents → new ≡ old ++ flat_map agent_text agents
+all_text old new agents adds = adds.text ∙ ap (λ l. old ++ flat_map agent_text l) (sym adds.agents)
+
 pub no_actions : (n : ℕ) (text : List ℕ) (actions : List Action) → AddsActions n text text actions actions
 no_actions n text actions = record {
   added = [];

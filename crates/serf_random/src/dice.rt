@@ -56,6 +56,15 @@ impl Dice {
         self.below(bound) == 0
     }
 
+    /// A number at an edge of another one: itself, one less or one more.
+    pub(crate) fn near(&mut self, number: u64) -> u64 {
+        match self.below(3) {
+            0 => number,
+            1 => number.saturating_sub(1),
+            _ => number.saturating_add(1),
+        }
+    }
+
     /// One of some things, or another one where there are none.
     pub(crate) fn pick<T: Copy>(&mut self, things: &[T], other: T) -> T {
         let at = self.below(things.len() as u64);

@@ -39,6 +39,7 @@ pub enum Kind {
     Rounds,
 }
 
+/// Whether a text is this name.
 fn is_name(name: &[u8], text: &[u8]) -> bool
     ensures { result ≡ bytes_eq name.now text.now }
 {

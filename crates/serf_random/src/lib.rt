@@ -10,32 +10,21 @@
 //! rest on a rule of this project's own, so that every turn of its run is common.
 #![tactic(auto)]
 
-mod agents;
 mod ask;
-mod comment;
 mod common;
-mod course;
-mod cut;
 mod dice;
 mod draft;
-mod filters;
-mod forms;
 mod kind;
 mod make;
-mod others;
 mod own;
-mod packets;
 mod pen;
 mod player;
 mod pools;
-mod rounds;
 mod settings;
-mod sizes;
-mod spelled;
 mod strangers;
 mod tails;
-mod times;
 mod tracks;
+mod value;
 mod verb;
 mod walk;
 

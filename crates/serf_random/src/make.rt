@@ -7,9 +7,8 @@ ghost use Rattle.serf_random.specs.Comment.{comment_text};
 ghost use Rattle.serf_random.specs.Draft.{AddsActions};
 ghost use Rattle.serf_schedule.specs.ScheduleText.{schedule_text};
 
-use crate::ask::{Ask, know_numbers};
-use crate::comment::put_comment;
-use crate::course::add_course;
+use crate::ask::{Ask, know_numbers, put_comment};
+use crate::draft::add_course;
 use crate::player::Player;
 use crate::settings::add_agents;
 use crate::walk::Walk;
@@ -42,7 +41,7 @@ fn add_actions<T: Watch>(
         let mut walk = Walk::new(alloc, ask, many);
         add_course(alloc, &mut walk, agents, ask.actions, text, watch)
     } else {
-        let mut player = Player::new(ask, many);
+        let mut player = Player::new(alloc, ask, many);
         add_course(alloc, &mut player, agents, ask.actions, text, watch)
     }
 }

@@ -1,8 +1,7 @@
-//! A packet that is written value by value, each in any form that MessagePack has for it.
+//! A packet that is written value by value, each in its canonical form or in any that MessagePack has for it.
 
 use crate::dice::Dice;
-use crate::forms::{ARRAYS, LENGTHS, MAPS, NUMBERS, SIGNED, TEXTS, UNSUPPORTED, most_of, width_of};
-use serf_pack::{put_array, put_bool, put_int, put_map, put_nil, put_raw, put_uint};
+use crate::value::{Field, LENGTHS, UNSUPPORTED, Value, most_of, put_canonical, width_of};
 use std::alloc::{AllocError, Global};
 
 /// Keys that no message has.
@@ -32,47 +31,76 @@ const BOUNDS: [u64; 9] = [
 /// Nine arrays in one another, one more than a packet may have.
 const DEEP: &[u8] = b"\x91\x91\x91\x91\x91\x91\x91\x91\x90";
 
-/// A packet as it grows. Each value's form is chosen by the seed. One part of it may have a fault in its place.
+/// Values of all kinds that have no other within.
+const LEAVES: [Value; 8] = [
+    Value::Signed(-40),
+    Value::Truth(true),
+    Value::Nil,
+    Value::Items(0),
+    Value::Pairs(0),
+    Value::Text(b"v1"),
+    Value::Text(b""),
+    Value::Number(7),
+];
+
+/// A packet as it grows.
 #[derive(Drop)]
 pub(crate) struct Pen {
-    pub(crate) dice: Dice,
+    alloc: Global,
+    dice: Dice,
+    /// Whether each value's form is chosen by the dice; it is the canonical one otherwise.
+    is_free: bool,
     out: Vec<u8>,
-    /// How many parts come before the one with a fault; `None` where none is to come.
+    /// How many parts come before the one that has a fault in its place; `None` where none is to come.
     faulty: Option<u64>,
     /// The length at which the packet is cut; `None` where it is whole.
     end: Option<usize>,
 }
 
 impl Pen {
-    /// A packet of this type.
-    pub(crate) fn new(
+    /// A packet of this type, in canonical forms.
+    pub(crate) fn canonical(alloc: Global, kind: u8) -> Result<Pen, AllocError> {
+        Ok(Pen {
+            alloc,
+            dice: Dice::new(0),
+            is_free: false,
+            out: Vec::from_slice(alloc, &[kind])?,
+            faulty: None,
+            end: None,
+        })
+    }
+
+    /// A packet of this type, in forms that a seed chooses. It may have a fault behind so many parts.
+    pub(crate) fn free(
         alloc: Global,
-        seed: u64,
         kind: u8,
+        seed: u64,
         faulty: Option<u64>,
     ) -> Result<Pen, AllocError> {
         Ok(Pen {
             dice: Dice::new(seed),
-            out: Vec::from_slice(alloc, &[kind])?,
+            is_free: true,
             faulty,
-            end: None,
+            ..Pen::canonical(alloc, kind)?
         })
     }
 
     /// The whole packet; now and then with a byte after it.
     pub(crate) fn finish(self) -> Result<Vec<u8>, AllocError> {
         let mut pen = self;
-        match pen.end {
-            Some(end) => pen.out.truncate(end),
-            None => {
-                if pen.dice.one_in(24) {
-                    let byte = pen.dice.below(256) as u8;
-                    pen.out.push(byte)?;
-                }
-            }
+        if let Some(end) = pen.end {
+            pen.out.truncate(end);
+        } else if pen.one_in(24) {
+            let byte = pen.dice.below(256) as u8;
+            pen.out.push(byte)?;
         }
         let Pen { out, .. } = pen;
         Ok(out)
+    }
+
+    /// Whether what is done one time in so many is done here: never in a canonical packet.
+    fn one_in(&mut self, bound: u64) -> bool {
+        self.is_free && self.dice.one_in(bound)
     }
 
     /// A head and the last bytes of a number after it, so many as it has room for.
@@ -83,18 +111,24 @@ impl Pen {
             .extend_from_slice(&bytes[8usize.saturating_sub(width_of(head))..])
     }
 
-    /// Writes one of these heads with this number, if it has room for it, and says whether it did. One time in two it
+    /// Writes a value in one of its wide forms, if that has room for it, and says whether it did. One time in two it
     /// does nothing.
-    fn put_one_of(&mut self, heads: &[u8], number: u64) -> Result<bool, AllocError> {
+    fn put_wide_form(&mut self, value: Value) -> Result<bool, AllocError> {
+        let Some((heads, size, bits)) = value.wide_forms() else {
+            return Ok(false);
+        };
         let head = self.dice.pick(heads, 0xcf);
-        if self.dice.one_in(2) || number > most_of(head) {
+        if self.dice.one_in(2) || size > most_of(head) {
             return Ok(false);
         }
-        self.put_wide(head, number)?;
+        self.put_wide(head, bits)?;
+        if let Value::Text(text) | Value::Key(text) = value {
+            self.out.extend_from_slice(text)?;
+        }
         Ok(true)
     }
 
-    /// Whether this part is the one with a fault, which is written in its place then.
+    /// Writes the fault where this part is the one to have it, and says whether it did; else counts the part.
     fn is_faulty(&mut self) -> Result<bool, AllocError> {
         match self.faulty {
             None => Ok(false),
@@ -113,28 +147,26 @@ impl Pen {
     /// What is wrong in most places: the end, a byte that no message has, a length with too little after it, what is too
     /// deep, or a value of another kind or out of range.
     fn put_fault(&mut self) -> Result<(), AllocError> {
-        match self.dice.below(12) {
-            0 | 1 => self.cut(),
+        let value = match self.dice.below(12) {
+            0 | 1 => return self.cut(),
             2 => {
                 let byte = self.dice.pick(&UNSUPPORTED, 0xc1);
                 self.out.push(byte)?;
-                Ok(())
+                return Ok(());
             }
             3 => {
                 let head = self.dice.pick(&LENGTHS, 0xda);
-                self.put_wide(head, most_of(head))
+                return self.put_wide(head, most_of(head));
             }
-            4 => self.out.extend_from_slice(DEEP),
-            5 => put_nil(&mut self.out),
-            6 => put_bool(&mut self.out, true),
-            7 => put_int(&mut self.out, -1),
-            8 | 9 => {
-                let bound = self.dice.pick(&BOUNDS, 0);
-                put_uint(&mut self.out, bound)
-            }
-            10 => put_map(&mut self.out, 0),
-            _ => put_raw(&mut self.out, b"text"),
-        }
+            4 => return self.out.extend_from_slice(DEEP),
+            5 => Value::Nil,
+            6 => Value::Truth(true),
+            7 => Value::Signed(-1),
+            8 | 9 => Value::Number(self.dice.pick(&BOUNDS, 0)),
+            10 => Value::Pairs(0),
+            _ => Value::Text(b"text"),
+        };
+        put_canonical(&mut self.out, value)
     }
 
     /// Cuts the packet here, or some bytes further on within a number.
@@ -144,113 +176,36 @@ impl Pen {
         self.put_wide(0xcf, u64::MAX)
     }
 
-    /// A number; 0 now and then as nil.
-    pub(crate) fn put_number(&mut self, number: u64) -> Result<(), AllocError> {
+    /// Writes a value, or the head of one; now and then nil for one that is 0, false or empty.
+    pub(crate) fn put(&mut self, value: Value) -> Result<(), AllocError> {
         if self.is_faulty()? {
             return Ok(());
         }
-        if number == 0 && self.dice.one_in(6) {
-            return put_nil(&mut self.out);
+        if value.may_be_nil() && self.one_in(6) {
+            return put_canonical(&mut self.out, Value::Nil);
         }
-        if self.put_one_of(&NUMBERS, number)? {
+        if self.is_free && self.put_wide_form(value)? {
             return Ok(());
         }
-        put_uint(&mut self.out, number)
+        put_canonical(&mut self.out, value)
     }
 
-    /// A number with a sign.
-    pub(crate) fn put_signed(&mut self, number: i64) -> Result<(), AllocError> {
-        if number >= 0 {
-            return self.put_number(number as u64);
+    /// Writes a key and its value, with all texts of an array of texts.
+    pub(crate) fn put_field(&mut self, key: &[u8], value: Value) -> Result<(), AllocError> {
+        self.put(Value::Key(key))?;
+        self.put(value)?;
+        if let Value::Texts(texts) = value {
+            for text in texts {
+                self.put(Value::Text(text.as_slice()))?;
+            }
         }
-        if self.is_faulty()? {
-            return Ok(());
-        }
-        let below = (-(number + 1)) as u64;
-        let head = self.dice.pick(&SIGNED, 0xd3);
-        if self.dice.one_in(2) || below > most_of(head) {
-            return put_int(&mut self.out, number);
-        }
-        self.put_wide(head, u64::MAX.saturating_sub(below))
-    }
-
-    /// Nil.
-    pub(crate) fn put_empty(&mut self) -> Result<(), AllocError> {
-        if self.is_faulty()? {
-            return Ok(());
-        }
-        put_nil(&mut self.out)
-    }
-
-    /// A truth value; `false` now and then as nil.
-    pub(crate) fn put_truth(&mut self, truth: bool) -> Result<(), AllocError> {
-        if self.is_faulty()? {
-            return Ok(());
-        }
-        if !truth && self.dice.one_in(6) {
-            return put_nil(&mut self.out);
-        }
-        put_bool(&mut self.out, truth)
-    }
-
-    /// A text in any of its forms. One of 4 GiB and more, which is never made, is left out.
-    fn put_form_of(&mut self, text: &[u8]) -> Result<(), AllocError> {
-        if text.len() as u64 > u64::from(u32::MAX) {
-            return Ok(());
-        }
-        if self.put_one_of(&TEXTS, text.len() as u64)? {
-            return self.out.extend_from_slice(text);
-        }
-        put_raw(&mut self.out, text)
-    }
-
-    /// A text; an empty one now and then as nil.
-    pub(crate) fn put_text(&mut self, text: &[u8]) -> Result<(), AllocError> {
-        if self.is_faulty()? {
-            return Ok(());
-        }
-        if text.is_empty() && self.dice.one_in(6) {
-            return put_nil(&mut self.out);
-        }
-        self.put_form_of(text)
-    }
-
-    /// A key.
-    pub(crate) fn put_key(&mut self, key: &[u8]) -> Result<(), AllocError> {
-        if self.is_faulty()? {
-            return Ok(());
-        }
-        self.put_form_of(key)
-    }
-
-    /// The head of an array of so many items.
-    pub(crate) fn put_items(&mut self, count: u32) -> Result<(), AllocError> {
-        if self.is_faulty()? || self.put_one_of(&ARRAYS, u64::from(count))? {
-            return Ok(());
-        }
-        put_array(&mut self.out, count)
-    }
-
-    /// The head of a map of so many pairs.
-    pub(crate) fn put_pairs(&mut self, count: u32) -> Result<(), AllocError> {
-        if self.is_faulty()? || self.put_one_of(&MAPS, u64::from(count))? {
-            return Ok(());
-        }
-        put_map(&mut self.out, count)
+        Ok(())
     }
 
     /// A value of any kind that has no other within.
     fn put_leaf(&mut self) -> Result<(), AllocError> {
-        match self.dice.below(8) {
-            0 => self.put_signed(-40),
-            1 => self.put_truth(true),
-            2 => self.put_empty(),
-            3 => self.put_items(0),
-            4 => self.put_pairs(0),
-            5 => self.put_text(b"v1"),
-            6 => self.put_text(b""),
-            _ => self.put_number(7),
-        }
+        let leaf = self.dice.pick(&LEAVES, Value::Nil);
+        self.put(leaf)
     }
 
     /// A value of so many levels: arrays and maps in one another, as an item, a value or a key.
@@ -259,22 +214,21 @@ impl Pen {
         for _level in 0..levels {
             match self.dice.below(4) {
                 0 => {
-                    self.put_pairs(1)?;
+                    self.put(Value::Pairs(1))?;
                     self.put_leaf()?;
                 }
                 1 => {
-                    self.put_pairs(1)?;
+                    self.put(Value::Pairs(1))?;
                     behind = behind.saturating_add(1);
                 }
                 2 => {
-                    self.put_items(2)?;
+                    self.put(Value::Items(2))?;
                     behind = behind.saturating_add(1);
                 }
-                _ => self.put_items(1)?,
+                _ => self.put(Value::Items(1))?,
             }
         }
-        self.put_leaf()?;
-        for _value in 0..behind {
+        for _value in 0..behind.saturating_add(1) {
             self.put_leaf()?;
         }
         Ok(())
@@ -284,28 +238,52 @@ impl Pen {
     /// be, one less or one more.
     pub(crate) fn put_unknown(&mut self, depth: u64) -> Result<(), AllocError> {
         let key = self.dice.pick(&UNKNOWN, b"Zone");
-        self.put_key(key)?;
+        self.put(Value::Key(key))?;
         let levels: u64 = self.dice.pick(&[0, 0, 1, 2, 7, 8, 8, 9], 0);
         self.put_nested(levels.saturating_sub(depth))
     }
 
-    /// In which order the fields of a map come, by their numbers, of so many. One that is no field's stands for a key that
-    /// no message has. Now and then a field is left out, or comes twice.
-    pub(crate) fn order(&mut self, alloc: Global, fields: u64) -> Result<Vec<u64>, AllocError> {
-        let mut order = Vec::new(alloc);
-        let first = self.dice.below(fields);
+    /// In which order the fields of a map come, by their numbers, of so many. One that is no field's stands for a key
+    /// that no message has. Now and then a field is left out, or comes twice. In a canonical packet each comes once, in
+    /// order.
+    fn order(&mut self, fields: u64) -> Result<Vec<u64>, AllocError> {
+        let mut order = Vec::new(self.alloc);
+        let first = if self.is_free {
+            self.dice.below(fields)
+        } else {
+            0
+        };
         for at in 0..fields {
-            if self.dice.one_in(10) {
+            if self.one_in(10) {
                 order.push(fields)?;
             }
-            if self.dice.one_in(24) {
+            if self.one_in(24) {
                 continue;
             }
             order.push(first.saturating_add(at) % fields)?;
         }
-        if self.dice.one_in(16) {
+        if self.one_in(16) {
             order.push(first)?;
         }
         Ok(order)
+    }
+
+    /// The head of a map of so many fields; in which order they come ([`Pen::order`]).
+    pub(crate) fn put_head(&mut self, fields: u64) -> Result<Vec<u64>, AllocError> {
+        let order = self.order(fields)?;
+        self.put(Value::Pairs(order.len() as u64))?;
+        Ok(order)
+    }
+
+    /// The map of these fields, which stands in so many levels.
+    pub(crate) fn put_map(&mut self, fields: &[Field], depth: u64) -> Result<(), AllocError> {
+        let order = self.put_head(fields.len() as u64)?;
+        for at in &order {
+            match fields.get(*at as usize) {
+                Some((key, value)) => self.put_field(key, *value)?,
+                None => self.put_unknown(depth)?,
+            }
+        }
+        Ok(())
     }
 }

@@ -1,16 +1,15 @@
 //! What is done next in a cluster, by where it stands.
 
 use crate::ask::Ask;
-use crate::course::Course;
 use crate::dice::Dice;
+use crate::draft::{Course, done_by};
 use crate::kind::Kind;
 use crate::own;
-use crate::spelled::{foreign, spelled};
-use crate::strangers::stranger;
-use crate::times::{great_time, near};
-use crate::tracks::{Track, Tracks, edge_of_track, tracks_of};
+use crate::strangers::{foreign, spelled, stranger};
+use crate::tracks::{NO_TRACKS, Track, Tracks, edge_of_track, tracks_of};
 use crate::verb::{Verb, verbs};
 use serf_model::{Act, Action, Line};
+use serf_wire::Bytes;
 use serf_world::World;
 use std::alloc::{AllocError, Global};
 
@@ -50,6 +49,7 @@ pub(crate) struct LastHanded {
 /// What is known of a cluster beside what its agents know, so that what is done next aims at where it stands.
 #[derive(Drop)]
 pub(crate) struct Player {
+    pub(crate) alloc: Global,
     pub(crate) dice: Dice,
     pub(crate) kind: Kind,
     /// How many agents the cluster has.
@@ -59,6 +59,8 @@ pub(crate) struct Player {
     /// The present moment, in nanoseconds.
     pub(crate) now: u64,
     pub(crate) next: Option<Next>,
+    /// The tracks at whose edges times are.
+    pub(crate) tracks: Tracks,
     /// The first packet that was not given to all agents, and how many got it.
     passed: (u64, u64),
     pub(crate) query: LastQuery,
@@ -70,17 +72,9 @@ pub(crate) struct Player {
 /// The seed of a player's numbers: other ones than those of the settings.
 const SALT: u64 = 0x5eed;
 
-/// An agent merges a packet.
-fn merge_of(agent: u64, packet: u64, join: bool) -> Action {
-    Action::Of {
-        agent,
-        act: Act::Merge { packet, join },
-    }
-}
-
 impl Player {
     /// What is known before the first action in a cluster of so many agents.
-    pub(crate) fn new(ask: &Ask, agents: u64) -> Player {
+    pub(crate) fn new(alloc: Global, ask: &Ask, agents: u64) -> Player {
         let query = LastQuery {
             agent: 0,
             time: 1,
@@ -94,12 +88,14 @@ impl Player {
             id: 0,
         };
         Player {
+            alloc,
             dice: Dice::new(ask.seed ^ SALT),
             kind: ask.kind,
             agents,
             sent: 0,
             now: 0,
             next: None,
+            tracks: NO_TRACKS,
             passed: (0, 0),
             query,
             last_handed,
@@ -111,7 +107,7 @@ impl Player {
         let packet = self.sent.saturating_sub(1);
         match next {
             Next::Deliver { to } => self.deliver(to, packet),
-            Next::Merge { to, join } => merge_of(to, packet, join),
+            Next::Merge { to, join } => done_by(to, Act::Merge { packet, join }),
             Next::Again { to, more } => self.again(to, more),
             Next::Join { to } => self.join(to),
         }
@@ -120,19 +116,13 @@ impl Player {
     /// An agent gets a packet.
     fn deliver(&mut self, agent: u64, packet: u64) -> Action {
         let now = self.moment();
-        Action::Of {
-            agent,
-            act: Act::Deliver { packet, now },
-        }
+        done_by(agent, Act::Deliver { packet, now })
     }
 
     /// An agent sends its state, which another one joins next.
     fn join(&mut self, to: u64) -> Action {
         self.next = Some(Next::Merge { to, join: true });
-        Action::Of {
-            agent: self.agent(),
-            act: Act::State,
-        }
+        done_by(self.agent(), Act::State)
     }
 
     /// An agent gets an older packet, and more of them next.
@@ -147,35 +137,43 @@ impl Player {
         self.deliver(to, packet)
     }
 
-    fn act(&mut self, alloc: Global, world: &World, verb: Verb) -> Result<Action, AllocError> {
+    fn act(&mut self, world: &World, verb: Verb) -> Result<Action, AllocError> {
         match verb {
             Verb::Pass => Ok(self.pass()),
             Verb::Repeat => Ok(self.repeat()),
             Verb::Merge => Ok(self.merge()),
             Verb::Exchange => Ok(self.exchange()),
-            Verb::Event | Verb::Query | Verb::Answer | Verb::State | Verb::Spoil => {
-                let tracks = self.aim(world, verb);
-                let bytes = stranger(alloc, self, &tracks, world.sent(), verb)?;
-                Ok(Action::Inject { bytes })
-            }
-            Verb::Spelled => {
-                let kinds = [Verb::Event, Verb::Query, Verb::Answer, Verb::State];
-                let verb = self.dice.pick(&kinds, Verb::Event);
-                let tracks = self.aim(world, verb);
-                let bytes = spelled(alloc, self, &tracks, verb)?;
-                Ok(Action::Inject { bytes })
-            }
-            Verb::Foreign => {
-                self.aim(world, verb);
-                let bytes = foreign(alloc, &mut self.dice)?;
-                Ok(Action::Inject { bytes })
-            }
-            other => own::act(alloc, self, world, other),
+            Verb::Fire => own::fire(self, world),
+            Verb::Ask => own::ask(self, world),
+            Verb::Respond => own::respond(self, world),
+            Verb::Restart => own::restart(self, world),
+            Verb::Break => Ok(own::fail(self)),
+            Verb::Close => Ok(own::close(self)),
+            Verb::Lone(lone) => Ok(done_by(self.agent(), lone.act())),
+            strange => self.inject(world, strange),
         }
     }
 
-    /// An agent gets a stranger's packet next. Gives its tracks.
-    fn aim(&mut self, world: &World, verb: Verb) -> Tracks {
+    /// A stranger's packet, which an agent gets next.
+    fn inject(&mut self, world: &World, verb: Verb) -> Result<Action, AllocError> {
+        let kinds = [Verb::Event, Verb::Query, Verb::Answer, Verb::State];
+        let message = match verb {
+            Verb::Spelled => self.dice.pick(&kinds, Verb::Event),
+            other => other,
+        };
+        self.aim(world, message);
+        let packet = match verb {
+            Verb::Spelled => spelled(self, message)?,
+            Verb::Foreign => foreign(self.alloc, &mut self.dice)?,
+            other => stranger(self, world.sent(), other)?,
+        };
+        Ok(Action::Inject {
+            bytes: Bytes::from_vec(packet),
+        })
+    }
+
+    /// An agent gets a stranger's packet next, at the edges of its tracks.
+    fn aim(&mut self, world: &World, verb: Verb) {
         let to = match verb {
             Verb::Answer => self.query.agent,
             _ => self.agent(),
@@ -188,7 +186,7 @@ impl Player {
             _ => Next::Deliver { to },
         };
         self.next = Some(next);
-        tracks_of(world, to)
+        self.tracks = tracks_of(world, to);
     }
 
     /// The number of an agent, now and then of none.
@@ -202,7 +200,7 @@ impl Player {
     /// A moment: the present one, or one at the last query's deadline.
     pub(crate) fn moment(&mut self) -> u64 {
         match self.dice.below(8) {
-            0 | 1 => near(&mut self.dice, self.query.deadline),
+            0 | 1 => self.dice.near(self.query.deadline),
             2 => self.dice.pick(&[0, u64::MAX], 0),
             _ => {
                 self.now = self.now.saturating_add(self.dice.below(20));
@@ -211,16 +209,26 @@ impl Player {
         }
     }
 
+    /// A time at an edge of the track of events.
+    pub(crate) fn event_edge(&mut self) -> u64 {
+        self.edge(self.tracks.events)
+    }
+
+    /// A time at an edge of the track of queries.
+    pub(crate) fn query_edge(&mut self) -> u64 {
+        self.edge(self.tracks.queries)
+    }
+
     /// A time at an edge of a track, now and then one near the greatest time.
-    pub(crate) fn edge(&mut self, track: &Track) -> u64 {
+    fn edge(&mut self, track: Track) -> u64 {
         let is_great = match self.kind {
             Kind::Exhaustion => !self.dice.one_in(3),
             _ => self.dice.one_in(60),
         };
         if is_great {
-            great_time(&mut self.dice)
+            u64::MAX.saturating_sub(self.dice.below(5))
         } else {
-            edge_of_track(&mut self.dice, track)
+            edge_of_track(&mut self.dice, &track)
         }
     }
 
@@ -271,7 +279,8 @@ impl Player {
     fn merge(&mut self) -> Action {
         let agent = self.agent();
         let packet = self.recent();
-        merge_of(agent, packet, self.dice.one_in(3))
+        let join = self.dice.one_in(3);
+        done_by(agent, Act::Merge { packet, join })
     }
 
     /// A push/pull. Where packets go round, only one time in four: gossip is far more frequent there.
@@ -283,25 +292,19 @@ impl Player {
             to: self.agent(),
             join: self.dice.one_in(3),
         });
-        Action::Of {
-            agent: self.agent(),
-            act: Act::State,
-        }
+        done_by(self.agent(), Act::State)
     }
 }
 
 impl Course for Player {
     /// The next action: there is always one.
-    fn next_action(&mut self, alloc: Global, world: &World) -> Result<Option<Action>, AllocError> {
+    fn next_action(&mut self, world: &World) -> Result<Option<Action>, AllocError> {
         self.sent = world.sent().len() as u64;
-        let action = match self.next {
-            Some(next) => {
-                self.next = None;
-                self.follow(next)
-            }
+        let action = match self.next.take() {
+            Some(next) => self.follow(next),
             None => {
                 let verb = self.dice.pick(verbs(self.kind), Verb::Fire);
-                self.act(alloc, world, verb)?
+                self.act(world, verb)?
             }
         };
         Ok(Some(action))

@@ -18,7 +18,7 @@ fn slots(dice: &mut Dice, kind: Kind) -> u64 {
     match kind {
         Kind::Tiny => dice.below(3).saturating_add(1),
         Kind::Kept => dice.below(8).saturating_add(1),
-        Kind::Gossip => 64,
+        Kind::Gossip | Kind::Rounds => 64,
         _ => dice.pick(&[1, 2, 3, 4, 4, 8, 8, 16, 512], 4),
     }
 }
@@ -28,7 +28,7 @@ fn per_time(dice: &mut Dice, kind: Kind) -> u64 {
     match kind {
         Kind::PerTime => dice.below(4).saturating_add(1),
         Kind::Kept => dice.pick(&[1, 1, 2, 2, 3, 4, 1_024], 1_024),
-        Kind::Gossip => 1_024,
+        Kind::Gossip | Kind::Rounds => 1_024,
         _ => dice.pick(&[1, 2, 3, 1_024, 1_024, 1_024, 65_536], 1_024),
     }
 }
@@ -37,25 +37,26 @@ fn per_time(dice: &mut Dice, kind: Kind) -> u64 {
 fn event_limit(dice: &mut Dice, kind: Kind) -> u64 {
     match kind {
         Kind::Limits => dice.pick(&[0, 36, 37, 64, 512, 512, 1_024, 9_216, 9_216], 512),
+        Kind::Rounds => 512,
         _ => dice.pick(&[512, 512, 512, 512, 36, 9_216], 512),
     }
 }
 
 /// How many names are counted among a query's acks, and among its responses.
-fn responders(dice: &mut Dice) -> u64 {
-    dice.pick(&[1, 2, 3, 8, 8, 8], 8)
-}
-
-/// Whether an agent keeps its events over a restart.
-fn keeps_events(dice: &mut Dice, kind: Kind) -> bool {
+fn responders(dice: &mut Dice, kind: Kind) -> u64 {
     match kind {
-        Kind::Kept => !dice.one_in(4),
-        _ => false,
+        Kind::Rounds => 1_024,
+        _ => dice.pick(&[1, 2, 3, 8, 8, 8], 8),
     }
 }
 
-/// The name of the agent of a number: a letter, and after the 26th two.
-fn node_name(alloc: Global, number: u64) -> Result<Vec<u8>, AllocError> {
+/// The name of the agent of a number: a letter, and after the 26th two. In rounds it has the number.
+fn node_name(alloc: Global, kind: Kind, number: u64) -> Result<Vec<u8>, AllocError> {
+    if kind == Kind::Rounds {
+        let mut name = Vec::from_slice(alloc, b"n")?;
+        put_number(&mut name, number)?;
+        return Ok(name);
+    }
     let letter = b'a'.saturating_add((number % 26) as u8);
     let mut name = Vec::from_slice(alloc, &[letter])?;
     if number >= 26 {
@@ -64,55 +65,29 @@ fn node_name(alloc: Global, number: u64) -> Result<Vec<u8>, AllocError> {
     Ok(name)
 }
 
-/// The settings of each agent in rounds: Serf's own, with smaller windows.
-fn rounds_config(alloc: Global, number: u64) -> Result<Config, AllocError> {
-    let mut name = Vec::from_slice(alloc, b"n")?;
-    put_number(&mut name, number)?;
-    Ok(Config {
-        name: Bytes::from_vec(name),
-        event_buffer: 64,
-        query_buffer: 64,
-        event_limit: 512,
-        query_limit: DEFAULT_QUERY_LIMIT,
-        response_limit: DEFAULT_RESPONSE_LIMIT,
-        responders: 1_024,
-        per_time: 1_024,
-        ignore_old: false,
-        keep_events: false,
-    })
-}
-
+/// An agent's settings. In rounds they are Serf's own, with smaller windows.
 fn config(alloc: Global, dice: &mut Dice, kind: Kind, number: u64) -> Result<Config, AllocError> {
-    if kind == Kind::Rounds {
-        return rounds_config(alloc, number);
-    }
     Ok(Config {
-        name: Bytes::from_vec(node_name(alloc, number)?),
+        name: Bytes::from_vec(node_name(alloc, kind, number)?),
         event_buffer: slots(dice, kind),
         query_buffer: slots(dice, kind),
         event_limit: event_limit(dice, kind),
         query_limit: DEFAULT_QUERY_LIMIT,
         response_limit: DEFAULT_RESPONSE_LIMIT,
-        responders: responders(dice),
+        responders: responders(dice, kind),
         per_time: per_time(dice, kind),
-        ignore_old: dice.one_in(3),
-        keep_events: keeps_events(dice, kind),
+        ignore_old: kind != Kind::Rounds && dice.one_in(3),
+        keep_events: kind == Kind::Kept && !dice.one_in(4),
     })
 }
 
-/// How many agents a cluster has, where nobody asks for a number.
-fn count(dice: &mut Dice, kind: Kind) -> u64 {
-    match kind {
+/// How many agents a cluster has.
+fn count(dice: &mut Dice, ask: &Ask) -> u64 {
+    match ask.kind {
+        Kind::Rounds if ask.agents > 0 => ask.agents.min(MAX_ROUNDS_AGENTS),
+        _ if ask.agents > 0 => ask.agents.min(MAX_AGENTS),
         Kind::Gossip | Kind::Rounds => dice.below(5).saturating_add(4),
         _ => dice.below(3).saturating_add(2),
-    }
-}
-
-/// How many agents a cluster has at most.
-fn most_agents(kind: Kind) -> u64 {
-    match kind {
-        Kind::Rounds => MAX_ROUNDS_AGENTS,
-        _ => MAX_AGENTS,
     }
 }
 
@@ -122,11 +97,7 @@ pub(crate) fn add_agents(alloc: Global, ask: &Ask, text: &mut Vec<u8>) -> Result
 {
     let mut dice = Dice::new(ask.seed);
     let mut roster = Roster::new(alloc);
-    let many = if ask.agents == 0 {
-        count(&mut dice, ask.kind)
-    } else {
-        ask.agents.min(most_agents(ask.kind))
-    };
+    let many = count(&mut dice, ask);
     for number in 0..many {
         let config = config(alloc, &mut dice, ask.kind, number)?;
         add_agent(alloc, text, &mut roster, config)?;

@@ -18,18 +18,23 @@ pub(crate) struct Tracks {
     pub(crate) queries: Track,
 }
 
-/// The tracks of the agent of a number, or where there is none such as one may have at first.
+/// A track as one may be at first.
+const FIRST: Track = Track {
+    clock: 1,
+    slots: 1,
+    minimum: 0,
+};
+
+/// The tracks of no agent.
+pub(crate) const NO_TRACKS: Tracks = Tracks {
+    events: FIRST,
+    queries: FIRST,
+};
+
+/// The tracks of the agent of a number, or those of none where there is none.
 pub(crate) fn tracks_of(world: &World, agent: u64) -> Tracks {
     let Some(one) = world.agent(agent) else {
-        let first = Track {
-            clock: 1,
-            slots: 1,
-            minimum: 0,
-        };
-        return Tracks {
-            events: first,
-            queries: first,
-        };
+        return NO_TRACKS;
     };
     Tracks {
         events: Track {

@@ -54,86 +54,60 @@ const SAVE: Verb = Verb::Lone(Lone::Save);
 /// An agent compacts its snapshot.
 const COMPACT: Verb = Verb::Lone(Lone::Compact);
 
-const MIXED: [Verb; 28] = [
-    Fire, Fire, Pass, Pass, Pass, Pass, Repeat, Repeat, Exchange, Merge, Ask, Respond, Restart,
-    Break, Event, Event, Query, Answer, Answer, State, Spoil, Spelled, Spelled, Spelled, Foreign,
-    Close, SAVE, COMPACT,
-];
-
-const TINY: [Verb; 12] = [
-    Fire, Fire, Fire, Pass, Pass, Repeat, Repeat, Exchange, Ask, Event, Query, Restart,
-];
-
-const MERGES: [Verb; 12] = [
-    Fire, Fire, Pass, Repeat, Exchange, Exchange, Exchange, Merge, State, State, Break, Restart,
-];
-
-const RESTARTS: [Verb; 14] = [
-    Fire, Fire, Pass, Pass, Repeat, Repeat, Restart, Restart, Exchange, Ask, Respond, SAVE, Event,
-    Query,
-];
-
-const DEVICES: [Verb; 14] = [
-    Fire, Fire, Pass, Repeat, Break, Break, Break, Restart, Restart, Exchange, Ask, SAVE, COMPACT,
-    Event,
-];
-
-const INJECTIONS: [Verb; 14] = [
-    Fire, Pass, Repeat, Event, Event, Event, Query, Query, State, Spoil, Spoil, Spoil, Merge,
-    Restart,
-];
-
-const QUERIES: [Verb; 16] = [
-    Ask, Ask, Ask, Pass, Pass, Pass, Repeat, Respond, Respond, Respond, Query, Answer, Answer,
-    Answer, Close, Restart,
-];
-
-const LIMITS: [Verb; 10] = [
-    Fire, Fire, Fire, Event, Event, Ask, Respond, Pass, Exchange, State,
-];
-
-const EXHAUSTION: [Verb; 12] = [
-    Event, Event, Query, State, Fire, Fire, Ask, Ask, Restart, Exchange, SAVE, Repeat,
-];
-
-const PER_TIME: [Verb; 8] = [Event, Event, Event, Query, State, Repeat, Exchange, Restart];
-
-const COMPACTIONS: [Verb; 12] = [
-    Fire, Fire, Pass, Ask, SAVE, COMPACT, COMPACT, COMPACT, Break, Restart, Restart, Event,
-];
-
-const GOSSIP: [Verb; 16] = [
-    Fire, Pass, Pass, Pass, Pass, Pass, Pass, Pass, Pass, Pass, Pass, Pass, Repeat, Exchange, Ask,
-    Respond,
-];
-
-const SPELLINGS: [Verb; 20] = [
-    Spelled, Spelled, Spelled, Spelled, Spelled, Spelled, Spelled, Spelled, Foreign, Foreign, Fire,
-    Ask, Respond, Repeat, Merge, Exchange, Close, SAVE, Break, Restart,
-];
-
-const KEPT: [Verb; 26] = [
-    Fire, Fire, Fire, Pass, Pass, Pass, Repeat, Repeat, Exchange, Exchange, Merge, Ask, Ask, Event,
-    Event, Query, Query, State, SAVE, Break, COMPACT, COMPACT, Restart, Restart, Restart, Restart,
-];
-
 /// What a player of this kind does, each as often as it stands here. Rounds are walked, and never played.
 pub(crate) fn verbs(kind: Kind) -> &'static [Verb] {
     match kind {
-        Kind::Mixed => &MIXED,
-        Kind::Tiny => &TINY,
-        Kind::Merges => &MERGES,
-        Kind::Restarts => &RESTARTS,
-        Kind::Devices => &DEVICES,
-        Kind::Injections => &INJECTIONS,
-        Kind::Queries => &QUERIES,
-        Kind::Limits => &LIMITS,
-        Kind::Exhaustion => &EXHAUSTION,
-        Kind::PerTime => &PER_TIME,
-        Kind::Compactions => &COMPACTIONS,
-        Kind::Gossip => &GOSSIP,
-        Kind::Spellings => &SPELLINGS,
-        Kind::Kept => &KEPT,
+        Kind::Mixed => &[
+            Fire, Fire, Pass, Pass, Pass, Pass, Repeat, Repeat, Exchange, Merge, Ask, Respond,
+            Restart, Break, Event, Event, Query, Answer, Answer, State, Spoil, Spelled, Spelled,
+            Spelled, Foreign, Close, SAVE, COMPACT,
+        ],
+        Kind::Tiny => &[
+            Fire, Fire, Fire, Pass, Pass, Repeat, Repeat, Exchange, Ask, Event, Query, Restart,
+        ],
+        Kind::Merges => &[
+            Fire, Fire, Pass, Repeat, Exchange, Exchange, Exchange, Merge, State, State, Break,
+            Restart,
+        ],
+        Kind::Restarts => &[
+            Fire, Fire, Pass, Pass, Repeat, Repeat, Restart, Restart, Exchange, Ask, Respond, SAVE,
+            Event, Query,
+        ],
+        Kind::Devices => &[
+            Fire, Fire, Pass, Repeat, Break, Break, Break, Restart, Restart, Exchange, Ask, SAVE,
+            COMPACT, Event,
+        ],
+        Kind::Injections => &[
+            Fire, Pass, Repeat, Event, Event, Event, Query, Query, State, Spoil, Spoil, Spoil,
+            Merge, Restart,
+        ],
+        Kind::Queries => &[
+            Ask, Ask, Ask, Pass, Pass, Pass, Repeat, Respond, Respond, Respond, Query, Answer,
+            Answer, Answer, Close, Restart,
+        ],
+        Kind::Limits => &[
+            Fire, Fire, Fire, Event, Event, Ask, Respond, Pass, Exchange, State,
+        ],
+        Kind::Exhaustion => &[
+            Event, Event, Query, State, Fire, Fire, Ask, Ask, Restart, Exchange, SAVE, Repeat,
+        ],
+        Kind::PerTime => &[Event, Event, Event, Query, State, Repeat, Exchange, Restart],
+        Kind::Compactions => &[
+            Fire, Fire, Pass, Ask, SAVE, COMPACT, COMPACT, COMPACT, Break, Restart, Restart, Event,
+        ],
+        Kind::Gossip => &[
+            Fire, Pass, Pass, Pass, Pass, Pass, Pass, Pass, Pass, Pass, Pass, Pass, Repeat,
+            Exchange, Ask, Respond,
+        ],
+        Kind::Spellings => &[
+            Spelled, Spelled, Spelled, Spelled, Spelled, Spelled, Spelled, Spelled, Foreign,
+            Foreign, Fire, Ask, Respond, Repeat, Merge, Exchange, Close, SAVE, Break, Restart,
+        ],
+        Kind::Kept => &[
+            Fire, Fire, Fire, Pass, Pass, Pass, Repeat, Repeat, Exchange, Exchange, Merge, Ask,
+            Ask, Event, Event, Query, Query, State, SAVE, Break, COMPACT, COMPACT, Restart,
+            Restart, Restart, Restart,
+        ],
         Kind::Rounds => &[],
     }
 }

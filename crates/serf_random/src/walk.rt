@@ -1,14 +1,14 @@
 //! Rounds of gossip, as Serf's memberlist spreads broadcasts.
 
 use crate::ask::{Ask, MAX_FANOUT, MAX_ROUNDS};
-use crate::course::Course;
 use crate::dice::Dice;
-use crate::others::{other_than, others};
+use crate::draft::{Course, done_by};
 use serf_model::{Act, Action, Answer, Line};
 use serf_text::put_number;
 use serf_wire::Bytes;
 use serf_world::World;
 use std::alloc::{AllocError, Global};
+use std::mem;
 
 /// The seed of a walk's numbers: other ones than those of the settings.
 const SALT: u64 = 0x60551b;
@@ -27,6 +27,9 @@ const EXCHANGE_ROUNDS: u64 = 4;
 
 /// How often an agent sends a packet, for each digit of the number of agents (memberlist's `RetransmitMult`).
 const SENDS_PER_DIGIT: u64 = 4;
+
+/// How often an agent is drawn for each that is wanted, at most (memberlist's `kRandomNodes` does likewise).
+const DRAWS: u64 = 3;
 
 /// A packet that an agent goes on sending.
 #[derive(Clone, Copy)]
@@ -53,6 +56,7 @@ enum Step {
 /// What the agents of a cluster still spread, and what is left of the present round.
 #[derive(Drop)]
 pub(crate) struct Walk {
+    alloc: Global,
     dice: Dice,
     /// How many agents the cluster has.
     agents: u64,
@@ -68,10 +72,8 @@ pub(crate) struct Walk {
     /// How many events were fired.
     fired: u64,
     rumors: Vec<Rumor>,
-    /// What is done in the present round.
+    /// What is left of the present round, the last step first.
     steps: Vec<Step>,
-    /// How many of these are done.
-    done: usize,
 }
 
 /// How often an agent sends a packet in a cluster of so many: four times for each digit of their number.
@@ -86,10 +88,42 @@ fn sends_of(agents: u64) -> u64 {
     digits.saturating_mul(SENDS_PER_DIGIT)
 }
 
+/// Another agent than this one, of at least two.
+fn other_than(dice: &mut Dice, agents: u64, agent: u64) -> u64 {
+    let other = dice.below(agents.saturating_sub(1));
+    if other >= agent {
+        other.saturating_add(1)
+    } else {
+        other
+    }
+}
+
+/// Some other agents than this one, of at least two, each once: so many, or fewer where the same are drawn again.
+fn others(
+    alloc: Global,
+    dice: &mut Dice,
+    agents: u64,
+    agent: u64,
+    most: u64,
+) -> Result<Vec<u64>, AllocError> {
+    let mut others = Vec::new(alloc);
+    for _draw in 0..most.saturating_mul(DRAWS) {
+        if others.len() as u64 >= most {
+            break;
+        }
+        let other = other_than(dice, agents, agent);
+        if !others.contains(&other) {
+            others.push(other)?;
+        }
+    }
+    Ok(others)
+}
+
 impl Walk {
     /// What comes before the first round in a cluster of so many agents.
     pub(crate) fn new(alloc: Global, ask: &Ask, agents: u64) -> Walk {
         Walk {
+            alloc,
             dice: Dice::new(ask.seed ^ SALT),
             agents,
             fanout: ask.fanout.min(MAX_FANOUT),
@@ -100,37 +134,23 @@ impl Walk {
             fired: 0,
             rumors: Vec::new(alloc),
             steps: Vec::new(alloc),
-            done: 0,
         }
     }
 
     /// Plans rounds up to one in which there is something to do.
-    fn go_on(&mut self, alloc: Global) -> Result<(), AllocError> {
+    fn go_on(&mut self) -> Result<(), AllocError> {
         for _round in self.round..self.rounds {
-            if self.done < self.steps.len() {
+            if !self.steps.is_empty() {
                 return Ok(());
             }
-            self.plan(alloc)?;
+            self.plan()?;
         }
         Ok(())
     }
 
-    /// The next step of the present round.
-    fn next_step(&mut self) -> Option<Step> {
-        match self.steps.get(self.done) {
-            Some(step) => {
-                self.done = self.done.saturating_add(1);
-                Some(*step)
-            }
-            None => None,
-        }
-    }
-
     /// Begins the next round: what is done in it.
-    fn plan(&mut self, alloc: Global) -> Result<(), AllocError> {
+    fn plan(&mut self) -> Result<(), AllocError> {
         self.round = self.round.saturating_add(1);
-        self.steps.clear();
-        self.done = 0;
         if self.agents == 0 {
             return Ok(());
         }
@@ -138,11 +158,12 @@ impl Walk {
             self.plan_events()?;
         }
         if self.agents >= 2 {
-            self.plan_sends(alloc)?;
+            self.plan_sends()?;
             if self.round % EXCHANGE_ROUNDS == 0 {
                 self.plan_exchange()?;
             }
         }
+        self.steps.reverse();
         Ok(())
     }
 
@@ -156,27 +177,22 @@ impl Walk {
     }
 
     /// Each packet that an agent goes on sending goes to some others.
-    fn plan_sends(&mut self, alloc: Global) -> Result<(), AllocError> {
-        let mut kept = Vec::new(alloc);
-        for at in 0..self.rumors.len() {
-            let Some(rumor) = self.rumors.get(at) else {
-                break;
-            };
-            let rumor = *rumor;
-            let sent = self.plan_rumor(alloc, rumor)?;
+    fn plan_sends(&mut self) -> Result<(), AllocError> {
+        let rumors = mem::replace(&mut self.rumors, Vec::new(self.alloc));
+        for rumor in rumors {
+            let sent = self.plan_rumor(rumor)?;
             let left = rumor.left.saturating_sub(sent);
             if left > 0 {
-                kept.push(Rumor { left, ..rumor })?;
+                self.rumors.push(Rumor { left, ..rumor })?;
             }
         }
-        self.rumors = kept;
         Ok(())
     }
 
     /// Sends a packet to some others, of which each gets it unless it is lost; how often it was sent.
-    fn plan_rumor(&mut self, alloc: Global, rumor: Rumor) -> Result<u64, AllocError> {
+    fn plan_rumor(&mut self, rumor: Rumor) -> Result<u64, AllocError> {
         let most = self.fanout.min(rumor.left);
-        let targets = others(alloc, &mut self.dice, self.agents, rumor.agent, most)?;
+        let targets = others(self.alloc, &mut self.dice, self.agents, rumor.agent, most)?;
         for target in &targets {
             if self.dice.below(100) >= self.loss {
                 self.steps.push(Step::Deliver {
@@ -192,68 +208,55 @@ impl Walk {
     fn plan_exchange(&mut self) -> Result<(), AllocError> {
         let one = self.dice.below(self.agents);
         let other = other_than(&mut self.dice, self.agents, one);
-        self.steps.push(Step::State { agent: one })?;
-        self.steps.push(Step::State { agent: other })?;
-        self.steps.push(Step::Merge {
-            agent: other,
-            back: 2,
-        })?;
-        self.steps.push(Step::Merge {
-            agent: one,
-            back: 1,
-        })?;
-        Ok(())
+        self.steps.extend_from_slice(&[
+            Step::State { agent: one },
+            Step::State { agent: other },
+            Step::Merge {
+                agent: other,
+                back: 2,
+            },
+            Step::Merge {
+                agent: one,
+                back: 1,
+            },
+        ])
     }
 
-    fn action_of(
-        &mut self,
-        alloc: Global,
-        world: &World,
-        step: Step,
-    ) -> Result<Action, AllocError> {
-        match step {
-            Step::Fire { agent } => self.fire(alloc, agent),
-            Step::Deliver { agent, packet } => Ok(Action::Of {
-                agent,
-                act: Act::Deliver {
-                    packet,
-                    now: self.round.saturating_mul(ROUND),
-                },
-            }),
-            Step::State { agent } => Ok(Action::Of {
-                agent,
-                act: Act::State,
-            }),
-            Step::Merge { agent, back } => Ok(Action::Of {
-                agent,
-                act: Act::Merge {
-                    packet: (world.sent().len() as u64).saturating_sub(back),
-                    join: false,
-                },
-            }),
-        }
+    fn action_of(&mut self, world: &World, step: Step) -> Result<Action, AllocError> {
+        Ok(match step {
+            Step::Fire { agent } => done_by(agent, self.fire()?),
+            Step::Deliver { agent, packet } => {
+                let now = self.round.saturating_mul(ROUND);
+                done_by(agent, Act::Deliver { packet, now })
+            }
+            Step::State { agent } => done_by(agent, Act::State),
+            Step::Merge { agent, back } => {
+                let packet = (world.sent().len() as u64).saturating_sub(back);
+                let join = false;
+                done_by(agent, Act::Merge { packet, join })
+            }
+        })
     }
 
     /// The next event: its payload is its number, so that no two are the same.
-    fn fire(&mut self, alloc: Global, agent: u64) -> Result<Action, AllocError> {
+    fn fire(&mut self) -> Result<Act, AllocError> {
         self.fired = self.fired.saturating_add(1);
-        let mut payload = Vec::new(alloc);
+        let mut payload = Vec::new(self.alloc);
         put_number(&mut payload, self.fired)?;
-        let act = Act::Fire {
-            name: Bytes::copy_of(alloc, b"deploy")?,
+        Ok(Act::Fire {
+            name: Bytes::copy_of(self.alloc, b"deploy")?,
             payload: Bytes::from_vec(payload),
             coalesce: false,
-        };
-        Ok(Action::Of { agent, act })
+        })
     }
 }
 
 impl Course for Walk {
     /// The next action; `None` after the last round.
-    fn next_action(&mut self, alloc: Global, world: &World) -> Result<Option<Action>, AllocError> {
-        self.go_on(alloc)?;
-        match self.next_step() {
-            Some(step) => Ok(Some(self.action_of(alloc, world, step)?)),
+    fn next_action(&mut self, world: &World) -> Result<Option<Action>, AllocError> {
+        self.go_on()?;
+        match self.steps.pop() {
+            Some(step) => Ok(Some(self.action_of(world, step)?)),
             None => Ok(None),
         }
     }

@@ -1,7 +1,7 @@
 //! The first word of a line, read and written.
 
 ghost use Rattle.std.specs.Prelude.{◌≡◌};
-ghost use Rattle.serf_schedule.specs.Command.{lone_of, lone_act, verb_of, command_of, count_of, verb_word};
+ghost use Rattle.serf_schedule.specs.Command.{lone_of, lone_act, command_of, count_of, verb_word};
 
 use serf_model::Act;
 use serf_text::is_word;
@@ -41,6 +41,7 @@ pub enum Lone {
     Compact,
 }
 
+/// What an agent does by a word that stands alone, if the word names such an act.
 fn lone_in(word: &[u8]) -> Option<Lone>
     ensures { result ≡ lone_of word.now }
 {
@@ -55,45 +56,34 @@ fn lone_in(word: &[u8]) -> Option<Lone>
     }
 }
 
-fn verb_in(word: &[u8]) -> Option<Verb>
-    ensures { result ≡ verb_of word.now }
-{
-    if is_word(word, b"deliver") {
-        Some(Verb::Deliver)
-    } else if is_word(word, b"fire") {
-        Some(Verb::Fire)
-    } else if is_word(word, b"merge") {
-        Some(Verb::Merge)
-    } else if is_word(word, b"respond") {
-        Some(Verb::Respond)
-    } else if is_word(word, b"restart") {
-        Some(Verb::Restart)
-    } else if is_word(word, b"break") {
-        Some(Verb::Break)
-    } else if is_word(word, b"close") {
-        Some(Verb::Close)
-    } else {
-        match lone_in(word) {
-            Some(lone) => Some(Verb::Lone(lone)),
-            None => None,
-        }
-    }
-}
-
 /// The command that a word names; `None` for any other word. Takes no memory.
 #[tactic(auto, unfolding(crate::specs::Command::command_of))]
 pub fn command_in(word: &[u8]) -> Option<Command>
     ensures { result ≡ command_of word.now }
 {
-    if is_word(word, b"agent") {
+    if word == b"agent".as_slice() {
         Some(Command::Agent)
-    } else if is_word(word, b"query") {
+    } else if word == b"query".as_slice() {
         Some(Command::Query)
-    } else if is_word(word, b"inject") {
+    } else if word == b"inject".as_slice() {
         Some(Command::Inject)
+    } else if word == b"deliver".as_slice() {
+        Some(Command::Act(Verb::Deliver))
+    } else if word == b"fire".as_slice() {
+        Some(Command::Act(Verb::Fire))
+    } else if word == b"merge".as_slice() {
+        Some(Command::Act(Verb::Merge))
+    } else if word == b"respond".as_slice() {
+        Some(Command::Act(Verb::Respond))
+    } else if word == b"restart".as_slice() {
+        Some(Command::Act(Verb::Restart))
+    } else if word == b"break".as_slice() {
+        Some(Command::Act(Verb::Break))
+    } else if word == b"close".as_slice() {
+        Some(Command::Act(Verb::Close))
     } else {
-        match verb_in(word) {
-            Some(verb) => Some(Command::Act(verb)),
+        match lone_in(word) {
+            Some(lone) => Some(Command::Act(Verb::Lone(lone))),
             None => None,
         }
     }

@@ -7,17 +7,10 @@ mod laws;
 mod line;
 mod modes;
 mod parse;
-mod replay_fault;
 mod run;
 mod sayable;
 mod schedule;
 mod show;
-mod sinks;
-mod trace_text;
-mod watch;
-mod watched;
-mod whole;
-mod whole_run;
 mod written_lines;
 mod written_words;
 
@@ -25,17 +18,13 @@ pub use command::{Command, Lone, Verb, command_in, verb_word};
 pub use laws::{
     comments_skipped, lines_grow, lines_stay, sized_schedules, text_reads_back, told_schedules,
 };
-pub use parse::{ScheduleFault, fault_at, parse_schedule, read_schedule_line};
-pub use replay_fault::ReplayFault;
-pub use run::Run;
+pub use modes::sink_call;
+pub use parse::{ReplayFault, ScheduleFault, fault_at, parse_schedule, read_schedule_line};
+pub use run::{Run, Unwatched, Watch, Watched, tell_schedule};
 pub use sayable::{has_byte_name, is_sayable};
 pub use schedule::Schedule;
-pub use show::{answer_words, put_action, put_answer, show_trace};
-pub use sinks::sink_call;
-pub use trace_text::TraceText;
-pub use watch::{Unwatched, Watch};
-pub use watched::Watched;
-pub use whole::{know_read_back, put_schedule};
-pub use whole_run::tell_schedule;
-pub use written_lines::{put_act_words, put_action_line, put_agent_line, put_config_words};
+pub use show::{TraceText, answer_words, put_action, put_answer, show_trace};
+pub use written_lines::{
+    know_read_back, put_act_words, put_action_line, put_agent_line, put_config_words, put_schedule,
+};
 pub use written_words::{Word, put_line};

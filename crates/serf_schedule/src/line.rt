@@ -1,14 +1,13 @@
 //! What one line says, once it is cut into words.
 
-ghost use Rattle.std.specs.Prelude.{◌≡◌, [], length, map};
+ghost use Rattle.std.specs.Prelude.{◌≡◌, ◌≤◌, [], length, map};
 ghost use Rattle.serf_text.specs.Words.{words_of, bytes_of, or_bad};
 ghost use Rattle.serf_schedule.specs.Command.{count_of};
-ghost use Rattle.serf_schedule.specs.Line.{agent_of, per_time_in, limit_in, firing_of, delivery_of, merging_of, answer_of, restart_of, break_of, injection_of, closing_of, act_of, by_agent, filters_from, params_of, query_of};
+ghost use Rattle.serf_schedule.specs.Line.{Parsed, act_line, agent_of, per_time_in, limit_in, firing_of, merging_of, answer_of, restart_of, break_of, injection_line, closing_of, act_of, filters_from, params_of, query_of, query_said, with_action};
 ghost use Rattle.serf_text.specs.Gives.{Gives};
 
 use crate::command::Verb;
-use crate::modes::mode_at;
-use crate::sinks::sink_call_at;
+use crate::modes::{mode_at, sink_call_at};
 use serf_agent::{
     BytesList, Config, DEFAULT_PER_TIME, DEFAULT_QUERY_LIMIT, DEFAULT_RESPONSE_LIMIT, QueryParams,
 };
@@ -25,7 +24,7 @@ const MAX_TIMEOUT: u64 = i64::MAX as u64;
 /// The flags of a query: 1 asks for acks, and 2 for no broadcast.
 const MAX_FLAGS: u64 = 3;
 
-/// The eighth word, which may be left out.
+/// How many events of one time an agent takes: the eighth word, which may be left out.
 #[tactic(auto, unfolding(crate::specs::Line::per_time_in))]
 fn per_time(words: &[&[u8]]) -> Result<u64, LineFault>
     ensures { Gives (λ n. n) result (per_time_in (map (λ w. w.now) words.now)) }
@@ -77,6 +76,7 @@ pub(crate) fn agent(alloc: Global, words: &[&[u8]]) -> Result<Config, LineFault>
     })
 }
 
+/// The firing of an event, by the words of its line.
 #[tactic(auto, unfolding(crate::specs::Line::firing_of))]
 fn firing(alloc: Global, words: &[&[u8]]) -> Result<Act, LineFault>
     requires { length words.now ≡ 5 }
@@ -92,16 +92,7 @@ fn firing(alloc: Global, words: &[&[u8]]) -> Result<Act, LineFault>
     })
 }
 
-#[tactic(auto, unfolding(crate::specs::Line::delivery_of))]
-fn delivery(words: &[&[u8]]) -> Result<Act, LineFault>
-    requires { length words.now ≡ 4 }
-    ensures { Gives (λ a. a) result (delivery_of (map (λ w. w.now) words.now)) }
-{
-    let packet = number_at(words, 3)?;
-    let now = number_at(words, 4)?;
-    Ok(Act::Deliver { packet, now })
-}
-
+/// The merge of a state, by the words of its line.
 #[tactic(auto, unfolding(crate::specs::Line::merging_of))]
 fn merging(words: &[&[u8]]) -> Result<Act, LineFault>
     requires { length words.now ≡ 4 }
@@ -112,6 +103,7 @@ fn merging(words: &[&[u8]]) -> Result<Act, LineFault>
     Ok(Act::Merge { packet, join })
 }
 
+/// The answer to a query, by the words of its line.
 #[tactic(auto, unfolding(crate::specs::Line::answer_of))]
 fn answer(alloc: Global, words: &[&[u8]]) -> Result<Act, LineFault>
     requires { length words.now ≡ 5 }
@@ -127,6 +119,7 @@ fn answer(alloc: Global, words: &[&[u8]]) -> Result<Act, LineFault>
     })
 }
 
+/// The restart of an agent, by the words of its line.
 #[tactic(auto, unfolding(crate::specs::Line::restart_of))]
 fn restarting(alloc: Global, words: &[&[u8]]) -> Result<Act, LineFault>
     requires { length words.now ≡ 3 }
@@ -136,6 +129,7 @@ fn restarting(alloc: Global, words: &[&[u8]]) -> Result<Act, LineFault>
     Ok(Act::Restart { tail })
 }
 
+/// The call of a sink that is to fail, by the words of its line.
 #[tactic(auto, unfolding(crate::specs::Line::break_of))]
 fn breaking(words: &[&[u8]]) -> Result<Act, LineFault>
     requires { length words.now ≡ 4 }
@@ -146,6 +140,7 @@ fn breaking(words: &[&[u8]]) -> Result<Act, LineFault>
     Ok(Act::Break { call, count })
 }
 
+/// The closing of queries, by the words of its line.
 #[tactic(auto, unfolding(crate::specs::Line::closing_of))]
 fn closing(words: &[&[u8]]) -> Result<Act, LineFault>
     requires { length words.now ≡ 3 }
@@ -156,12 +151,17 @@ fn closing(words: &[&[u8]]) -> Result<Act, LineFault>
 }
 
 /// What the words of a line say that its agent does.
+#[tactic(auto, unfolding(crate::specs::Line::delivery_of))]
 fn act(alloc: Global, verb: Verb, words: &[&[u8]]) -> Result<Act, LineFault>
     requires { length words.now ≡ count_of verb }
     ensures { Gives (λ a. a) result (act_of verb (map (λ w. w.now) words.now)) }
 {
     match verb {
-        Verb::Deliver => delivery(words),
+        Verb::Deliver => {
+            let packet = number_at(words, 3)?;
+            let now = number_at(words, 4)?;
+            Ok(Act::Deliver { packet, now })
+        }
         Verb::Fire => firing(alloc, words),
         Verb::Merge => merging(words),
         Verb::Respond => answer(alloc, words),
@@ -172,12 +172,14 @@ fn act(alloc: Global, verb: Verb, words: &[&[u8]]) -> Result<Act, LineFault>
     }
 }
 
-/// The action of a line that has as many words as it needs.
+/// The action of a line by its words. `WordCount` where they are not as many as it needs.
 pub(crate) fn action(alloc: Global, verb: Verb, words: &[&[u8]]) -> Result<Action, LineFault>
-    requires { length words.now ≡ count_of verb }
-    ensures { Gives (λ a. a) result
-        (by_agent (map (λ w. w.now) words.now) (act_of verb (map (λ w. w.now) words.now))) }
+    ensures { (before : Parsed) → Gives (with_action before) result
+        (act_line verb before (map (λ w. w.now) words.now)) }
 {
+    if words.len() != verb.count() {
+        return Err(LineFault::Bad(Cause::WordCount));
+    }
     let agent = number_at(words, 2)?;
     let act = act(alloc, verb, words)?;
     Ok(Action::Of { agent, act })
@@ -186,14 +188,17 @@ pub(crate) fn action(alloc: Global, verb: Verb, words: &[&[u8]]) -> Result<Actio
 /// The action of a line that injects bytes.
 #[tactic(auto, unfolding(crate::specs::Line::injection_of))]
 pub(crate) fn injection(alloc: Global, words: &[&[u8]]) -> Result<Action, LineFault>
-    requires { length words.now ≡ 2 }
-    ensures { Gives (λ a. a) result (injection_of (map (λ w. w.now) words.now)) }
+    ensures { (before : Parsed) → Gives (with_action before) result
+        (injection_line before (map (λ w. w.now) words.now)) }
 {
+    if words.len() != 2 {
+        return Err(LineFault::Bad(Cause::WordCount));
+    }
     let bytes = bytes_at(alloc, words, 2)?;
     Ok(Action::Inject { bytes })
 }
 
-/// The filter that a word at this place spells.
+/// The filter that `word` spells, which stands at `place` of its line, counting from 1.
 fn filter(alloc: Global, word: &[u8], place: u64) -> Result<Bytes, LineFault>
     ensures { Gives (λ b. b) result (or_bad place (bytes_of word.now)) }
 {
@@ -266,12 +271,16 @@ fn new_query(alloc: Global, words: &[&[u8]], rest: &[u8]) -> Result<NewQuery, Li
     })
 }
 
-/// The action of a query line, of which these are the first eight words and what is left.
+/// The action of a query line, of which these are the first eight words and what is left. `WordCount` where there are
+/// fewer.
 pub(crate) fn query(alloc: Global, words: &[&[u8]], rest: &[u8]) -> Result<Action, LineFault>
-    requires { length words.now ≡ 8 }
-    ensures { Gives (λ a. a) result (by_agent (map (λ w. w.now) words.now)
-        (query_of (map (λ w. w.now) words.now) (words_of rest.now))) }
+    requires { length words.now ≤ 8 }
+    ensures { (before : Parsed) → Gives (with_action before) result
+        (query_said before (map (λ w. w.now) words.now) (words_of rest.now)) }
 {
+    if words.len() < 8 {
+        return Err(LineFault::Bad(Cause::WordCount));
+    }
     let agent = number_at(words, 2)?;
     let query = new_query(alloc, words, rest)?;
     match Boxed::new(alloc, query) {

@@ -1,18 +1,18 @@
-//! A whole schedule.
+//! A whole schedule, read.
 
 ghost use Rattle.std.specs.Prelude.{None, true, ◌≡◌, ◌<◌, ◌≤◌, ◌==◌, ◌++◌, slice_index, length, map, All, IfOk, Ok, Err};
 ghost use Rattle.serf_model.specs.Runs.{AreConfigs};
 ghost use Rattle.serf_model.specs.Sizes.{HasSizes};
 ghost use Rattle.serf_schedule.specs.Command.{command_of};
 ghost use Rattle.serf_text.specs.Words.{words_of, word_at};
-ghost use Rattle.serf_schedule.specs.Line.{act_line, after_line, agent_line, injection_line, is_agent_count, query_said, with_action};
+ghost use Rattle.serf_schedule.specs.Line.{after_line, agent_line, is_agent_count};
 ghost use Rattle.serf_schedule.specs.Parts.{agent_words_in, parts_said};
 ghost use Rattle.serf_schedule.specs.Schedule.{parsed_of, schedule_fault, schedule_of, Reads};
 ghost use Rattle.serf_text.specs.Gives.{Gives};
 ghost use Rattle.serf_schedule.specs.Line.{Parsed};
 ghost use Rattle.serf_schedule.specs.Said.{IsHeld, behind};
 
-use crate::command::{Command, Verb, command_in};
+use crate::command::{Command, command_in};
 use crate::line::{action, agent, injection, query};
 use crate::schedule::Schedule;
 use serf_model::Action;
@@ -31,7 +31,27 @@ pub enum ScheduleFault {
     OutOfMemory,
 }
 
-/// Why a text is no schedule of which the line of this number, counted from 1, has this fault. Takes no memory.
+/// Why a schedule was not replayed.
+#[derive(Clone, Copy, Debug, Drop, Error, PartialEq, Eq)]
+pub enum ReplayFault {
+    /// A read failed. Nothing was written.
+    #[error("a read failed")]
+    ReadFault,
+    /// There are more than 16,777,216 bytes to read. Nothing was written.
+    #[error("the schedule is too long")]
+    ReadTooLong,
+    /// The first line, counted from 1, that is not sound, and what is wrong with it. Nothing was written.
+    #[error("line {line} of the schedule is bad: {cause}")]
+    BadLine { line: u64, cause: Cause },
+    /// Memory ran out. Nothing was written.
+    #[error("out of memory")]
+    OutOfMemory,
+    /// A write failed, or took no byte. What was written is a prefix of the trace's text.
+    #[error("a write failed")]
+    WriteFault,
+}
+
+/// The fault of a schedule's text whose line of this number, counted from 1, has this fault. Takes no memory.
 pub fn fault_at(line: u64, fault: LineFault) -> ScheduleFault
     ensures { result ≡ schedule_fault line fault }
 {
@@ -41,7 +61,7 @@ pub fn fault_at(line: u64, fault: LineFault) -> ScheduleFault
     }
 }
 
-/// Whether an agent's line may have so many words.
+/// Whether an agent's line may have `count` words.
 fn is_agent_count(count: usize) -> bool
     ensures { result ≡ is_agent_count count }
 {
@@ -97,37 +117,6 @@ fn read_agent(
     }
 }
 
-fn read_action(alloc: Global, verb: Verb, words: &[&[u8]]) -> Result<Action, LineFault>
-    ensures { (before : Parsed) → Gives (with_action before) result
-        (act_line verb before (map (λ w. w.now) words.now)) }
-{
-    if words.len() != verb.count() {
-        return Err(LineFault::Bad(Cause::WordCount));
-    }
-    action(alloc, verb, words)
-}
-
-fn read_injection(alloc: Global, words: &[&[u8]]) -> Result<Action, LineFault>
-    ensures { (before : Parsed) → Gives (with_action before) result
-        (injection_line before (map (λ w. w.now) words.now)) }
-{
-    if words.len() != 2 {
-        return Err(LineFault::Bad(Cause::WordCount));
-    }
-    injection(alloc, words)
-}
-
-fn read_query(alloc: Global, words: &[&[u8]], rest: &[u8]) -> Result<Action, LineFault>
-    requires { length words.now ≤ 8 }
-    ensures { (before : Parsed) → Gives (with_action before) result
-        (query_said before (map (λ w. w.now) words.now) (words_of rest.now)) }
-{
-    if words.len() < 8 {
-        return Err(LineFault::Bad(Cause::WordCount));
-    }
-    query(alloc, words, rest)
-}
-
 /// Reads a line of at most eight words, and of what is left of it.
 fn read_words(
     alloc: Global,
@@ -151,29 +140,19 @@ fn read_words(
             Ok(()) => Ok(None),
             Err(fault) => Err(fault),
         },
-        Some(Command::Inject) => match read_injection(alloc, words) {
+        Some(Command::Inject) => match injection(alloc, words) {
             Ok(action) => Ok(Some(action)),
             Err(fault) => Err(fault),
         },
-        Some(Command::Query) => match read_query(alloc, words, rest) {
+        Some(Command::Query) => match query(alloc, words, rest) {
             Ok(action) => Ok(Some(action)),
             Err(fault) => Err(fault),
         },
-        Some(Command::Act(verb)) => match read_action(alloc, verb, words) {
+        Some(Command::Act(verb)) => match action(alloc, verb, words) {
             Ok(action) => Ok(Some(action)),
             Err(fault) => Err(fault),
         },
         None => Err(LineFault::Bad(Cause::UnknownWord)),
-    }
-}
-
-/// Whether a line's first byte is `#`.
-fn is_comment(line: &[u8]) -> bool
-    ensures { result ≡ (slice_index line.now 0 == 35) }
-{
-    match line {
-        [first, ..] => *first == b'#',
-        [] => false,
     }
 }
 
@@ -192,7 +171,7 @@ pub(crate) fn say_line(
     ensures same { is_late ≡ true → agents.new ≡ agents.old }
     ensures agents { AreConfigs agents.old → AreConfigs agents.new }
 {
-    if is_comment(line) {
+    if let [b'#', ..] = line {
         return Ok(None);
     }
     let (first, count, rest) = cut_words(line);

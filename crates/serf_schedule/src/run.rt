@@ -1,4 +1,4 @@
-//! A schedule of which each line is done as soon as it is read.
+//! A schedule that is run: each line as soon as it is read, or the whole; and who is told how far it is.
 
 ghost use Rattle.std.specs.Prelude.{◌≡◌, ◌++◌, ◌∷◌, [], List, ℕ, IfErr, IfOk, OnOk, length};
 ghost use Rattle.serf_agent.specs.declared.config.Config.{Config};
@@ -6,7 +6,8 @@ ghost use Rattle.serf_schedule.specs.Line.{Parsed, with_action};
 ghost use Rattle.serf_schedule.specs.Running.{HasActed, HasRun, IsLineRefused, IsStage, TellsMore};
 
 use crate::parse::say_line;
-use serf_model::Action;
+use crate::schedule::Schedule;
+use serf_model::{Action, Line};
 use serf_text::{Cause, LineFault, LineTeller, StreamLineFault};
 use serf_world::{Roster, Turns, World, act};
 use std::alloc::{AllocError, Global};
@@ -20,7 +21,7 @@ pub(crate) struct Acting {
     pub(crate) turns: u64,
 }
 
-/// Does the first action of a cluster of these agents.
+/// Makes the cluster of the agents in `roster`, and does its first action; what is told of it is appended to `text`.
 fn begin<T: Turns>(
     alloc: Global,
     roster: Roster,
@@ -46,28 +47,7 @@ fn begin<T: Turns>(
     })
 }
 
-/// Does one more action.
-fn go_on<T: Turns>(
-    alloc: Global,
-    acting: &mut Acting,
-    teller: &mut T,
-    action: &Action,
-    text: &mut Vec<u8>,
-) -> Result<(), AllocError>
-    ensures { (asked : T.Asked) (said : Parsed) (front : List ℕ)
-        → HasActed (T.told asked) said acting.old teller.old (front ++ text.old.items)
-        → OnOk result (HasActed (T.told asked) (with_action said action.now)
-        acting.new teller.new (front ++ text.new.items)) }
-{
-    let Some(number) = acting.turns.checked_add(1) else {
-        return Err(AllocError);
-    };
-    act(alloc, &mut acting.world, teller, number, action, text)?;
-    acting.turns = number;
-    Ok(())
-}
-
-/// Does an action: the cluster begins with the first one.
+/// Does an action; the first one makes the cluster. What is told of it is appended to `text`.
 fn do_action<T: Turns>(
     alloc: Global,
     agents: &mut Roster,
@@ -82,7 +62,14 @@ fn do_action<T: Turns>(
         (with_action said action.now) (front ++ text.new.items)) }
 {
     match acting {
-        Some(acting) => go_on(alloc, acting, teller, action, text),
+        Some(acting) => {
+            let Some(number) = acting.turns.checked_add(1) else {
+                return Err(AllocError);
+            };
+            act(alloc, &mut acting.world, teller, number, action, text)?;
+            acting.turns = number;
+            Ok(())
+        }
         None => {
             let roster = mem::replace(agents, Roster::new(alloc));
             let begun = begin(alloc, roster, teller, action, text)?;
@@ -225,5 +212,102 @@ impl<T: Turns> LineTeller for Run<T> {
             Err(LineFault::Bad(cause)) => Err(StreamLineFault::Bad(cause)),
             Err(LineFault::OutOfMemory) => Err(StreamLineFault::OutOfMemory),
         }
+    }
+}
+
+/// Does the actions of a schedule, one after another, and gives what is told of them. Each action is dropped once it is
+/// done.
+pub fn tell_schedule<T: Turns>(
+    alloc: Global,
+    schedule: Schedule,
+    teller: &mut T,
+) -> Result<Vec<u8>, AllocError>
+    ensures { (asked : T.Asked) → T.told asked teller.old schedule.agents [] []
+        → IfOk result (λ text.
+        T.told asked teller.new schedule.agents schedule.actions.items text.items) }
+{
+    let Schedule { agents, actions } = schedule;
+    let count = agents.as_slice().len() as u64;
+    let mut world = World::new(alloc, agents)?;
+    teller.begin(alloc, &world, count)?;
+    let mut text = Vec::new(alloc);
+    let mut number: u64 = 0;
+    for action in actions {
+        number += 1;
+        act(alloc, &mut world, teller, number, &action, &mut text)?;
+    }
+    Ok(text)
+}
+
+/// Is told of each action of a run that is done. What it does changes nothing of the run.
+pub trait Watch {
+    /// Whether it does anything with what it is told. Where it doesn't, it may be told of a count of 0 in all.
+    fn is_watching(&self) -> bool;
+
+    /// So many of so many actions are done.
+    fn acted(&mut self, done: u64, all: u64);
+}
+
+/// Does nothing with what it is told.
+#[derive(Clone, Copy)]
+pub struct Unwatched;
+
+impl Watch for Unwatched {
+    fn is_watching(&self) -> bool {
+        false
+    }
+
+    fn acted(&mut self, _done: u64, _all: u64) {}
+}
+
+/// Tells what another tells, and lets a watch know of each turn.
+#[derive(Drop)]
+pub struct Watched<'a, T, W> {
+    pub teller: T,
+    pub watch: &'a mut W,
+    /// How many turns there will be.
+    pub all: u64,
+}
+
+impl<T: Turns, W: Watch> Turns for Watched<'_, T, W> {
+    type Asked = T::Asked;
+
+    type Seen = T::Seen;
+
+    ghost told = { λ asked w configs actions text. T.told asked w.teller configs actions text };
+
+    ghost saw = { λ asked w seen configs actions action text.
+        T.saw asked w.teller seen configs actions action text };
+
+    ghost streams = { T.streams };
+
+    fn begin(&mut self, alloc: Global, world: &World, agents: u64) -> Result<(), AllocError> {
+        self.teller.begin(alloc, world, agents)
+    }
+
+    fn look(
+        &mut self,
+        alloc: Global,
+        world: &World,
+        number: u64,
+        action: &Action,
+    ) -> Result<T::Seen, AllocError> {
+        self.teller.look(alloc, world, number, action)
+    }
+
+    fn tell(
+        &mut self,
+        alloc: Global,
+        world: &World,
+        number: u64,
+        action: &Action,
+        line: Line,
+        seen: T::Seen,
+        out: &mut Vec<u8>,
+    ) -> Result<(), AllocError> {
+        self.teller
+            .tell(alloc, world, number, action, line, seen, out)?;
+        self.watch.acted(number, self.all);
+        Ok(())
     }
 }

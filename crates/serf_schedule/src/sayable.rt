@@ -39,6 +39,7 @@ pub fn has_byte_name(config: &Config)
     know_bytes(config.name.as_slice());
 }
 
+/// Whether a line can say how a query is fired.
 fn are_sayable(params: &QueryParams) -> bool
     ensures { IsTrue result ↔ AreSayable params.now }
 {
@@ -50,6 +51,7 @@ fn are_sayable(params: &QueryParams) -> bool
         && params.relay_factor == 0
 }
 
+/// Whether a line can say a query.
 fn is_query_sayable(query: &NewQuery) -> bool
     ensures { IsTrue result ↔ IsQuerySayable query.now }
 {
@@ -60,6 +62,7 @@ fn is_query_sayable(query: &NewQuery) -> bool
     are_sayable(&query.params)
 }
 
+/// Whether a line can say what an agent does.
 fn is_act_sayable(act: &Act) -> bool
     ensures { IsTrue result ↔ IsActSayable act.now }
 {

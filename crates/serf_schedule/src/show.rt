@@ -4,13 +4,14 @@ ghost use Rattle.std.specs.Prelude.{◌≡◌, ◌+◌, ◌++◌, OnOk, IfOk, de
 ghost use Rattle.std.specs.List.{flat_map};
 ghost use Rattle.std.specs.Option.{option_to_list};
 ghost use Rattle.serf_model.specs.Trace.{outcome_of};
-ghost use Rattle.serf_schedule.specs.Show.{answer_words, answer_details, answer_text, behind_space, fault_details, packet_of, answer_line, sent_line, event_tail, event_line, spaced, texts_text, identity_text, handed_line, action_text, trace_text};
+ghost use Rattle.serf_schedule.specs.Show.{answer_words, answer_details, answer_text, behind_space, fault_details, packet_of, answer_line, sent_line, event_line, spaced, texts_text, identity_text, handed_line, action_text, trace_text};
 
 use itoa::Buffer;
 use serf_agent::Reason;
-use serf_model::{Answer, Boxed, EventLine, HandedLine, Line, Refusal, Trace};
-use serf_text::{flag, put_hex, put_number, put_wire_fault};
+use serf_model::{Action, Answer, Boxed, EventLine, HandedLine, Line, Refusal, Trace};
+use serf_text::{put_hex, put_number, put_wire_fault};
 use serf_wire::Bytes;
+use serf_world::{Turns, World};
 use std::alloc::{AllocError, Global};
 
 /// The words of the answer to a packet that is ignored.
@@ -117,11 +118,13 @@ fn put_fault_details(out: &mut Vec<u8>, refusal: Refusal) -> Result<(), AllocErr
     }
 }
 
-/// Appends the numbers of an answer, or a packet's fault.
+/// Appends an answer: its words, and its numbers or a packet's fault, each after a space. After an `AllocError`, which
+/// comes where there is no memory for it, `out` may have a prefix of it.
 #[inline(always)]
-fn put_details(out: &mut Vec<u8>, answer: Answer) -> Result<(), AllocError>
-    ensures { OnOk result (out.new.items ≡ out.old.items ++ answer_details answer) }
+pub fn put_answer(out: &mut Vec<u8>, answer: Answer) -> Result<(), AllocError>
+    ensures { OnOk result (out.new.items ≡ out.old.items ++ answer_text answer) }
 {
+    out.extend_from_slice(answer_words(&answer))?;
     match answer {
         Answer::Fired(time) | Answer::Queried(time) => put_behind_space(out, time.get()),
         Answer::Foreign(kind) => put_behind_space(out, u64::from(kind)),
@@ -136,16 +139,6 @@ fn put_details(out: &mut Vec<u8>, answer: Answer) -> Result<(), AllocError>
     }
 }
 
-/// Appends an answer: its words, and what it says beside them. After an `AllocError`, which comes where there is no
-/// memory for it, `out` may have a prefix of it.
-#[inline(always)]
-pub fn put_answer(out: &mut Vec<u8>, answer: Answer) -> Result<(), AllocError>
-    ensures { OnOk result (out.new.items ≡ out.old.items ++ answer_text answer) }
-{
-    out.extend_from_slice(answer_words(&answer))?;
-    put_details(out, answer)
-}
-
 /// The number of an action with its digits, which all its lines begin with.
 #[derive(Clone, Copy)]
 struct Spelled<'a> {
@@ -154,18 +147,7 @@ struct Spelled<'a> {
     pub ghost spells: { digits.now ≡ decimal number },
 }
 
-#[tactic(auto, unfolding(crate::specs::Show::answer_line))]
-#[inline(always)]
-fn put_answer_line(out: &mut Vec<u8>, action: Spelled, answer: Answer) -> Result<(), AllocError>
-    ensures { OnOk result (out.new.items ≡ out.old.items
-        ++ answer_line action.entry.number answer) }
-{
-    out.extend_from_slice(action.digits)?;
-    out.extend_from_slice(b" ")?;
-    put_answer(out, answer)?;
-    out.extend_from_slice(b"\n")
-}
-
+/// The packet `k` of those that were sent, from 0 on; no bytes where there is none.
 fn packet(sent: &[Bytes], k: u64) -> &[u8]
     ensures { result.now ≡ packet_of sent.now k }
 {
@@ -175,6 +157,7 @@ fn packet(sent: &[Bytes], k: u64) -> &[u8]
     }
 }
 
+/// Appends the line of the packet `k`, which an action sent.
 #[tactic(auto, unfolding(crate::specs::Show::sent_line))]
 fn put_sent_line(
     out: &mut Vec<u8>,
@@ -202,6 +185,7 @@ fn put_spaced(out: &mut Vec<u8>, n: u64) -> Result<(), AllocError>
     out.extend_from_slice(b" ")
 }
 
+/// Appends a name and a payload in hex, with a space between.
 #[tactic(auto, unfolding(crate::specs::Show::texts_text))]
 fn put_texts(out: &mut Vec<u8>, name: &[u8], payload: &[u8]) -> Result<(), AllocError>
     ensures { OnOk result (out.new.items ≡ out.old.items ++ texts_text name.now payload.now) }
@@ -211,16 +195,8 @@ fn put_texts(out: &mut Vec<u8>, name: &[u8], payload: &[u8]) -> Result<(), Alloc
     put_hex(out, payload)
 }
 
-#[tactic(auto, unfolding(crate::specs::Show::event_tail))]
-fn put_event_tail(out: &mut Vec<u8>, event: &EventLine) -> Result<(), AllocError>
-    ensures { OnOk result (out.new.items ≡ out.old.items ++ event_tail event.now) }
-{
-    put_texts(out, event.name.as_slice(), event.payload.as_slice())?;
-    out.extend_from_slice(b" ")?;
-    out.extend_from_slice(flag(event.coalesce))
-}
-
-#[tactic(auto, unfolding(crate::specs::Show::event_line))]
+/// Appends the line of an event that was handed out.
+#[tactic(auto, unfolding(crate::specs::Show::event_line, crate::specs::Show::event_tail))]
 fn put_event_line(out: &mut Vec<u8>, action: Spelled, event: &EventLine) -> Result<(), AllocError>
     ensures { OnOk result (out.new.items ≡ out.old.items
         ++ event_line action.entry.number event.now) }
@@ -229,10 +205,11 @@ fn put_event_line(out: &mut Vec<u8>, action: Spelled, event: &EventLine) -> Resu
     out.extend_from_slice(b" event ")?;
     put_spaced(out, event.agent)?;
     put_spaced(out, event.time.get())?;
-    put_event_tail(out, event)?;
-    out.extend_from_slice(b"\n")
+    put_texts(out, event.name.as_slice(), event.payload.as_slice())?;
+    out.extend_from_slice(if event.coalesce { b" 1\n" } else { b" 0\n" })
 }
 
+/// Appends whose query it is, its place among those handed out there, its time and its ID, each with a space behind.
 #[tactic(auto, unfolding(crate::specs::Show::identity_text))]
 fn put_identity(out: &mut Vec<u8>, query: &HandedLine) -> Result<(), AllocError>
     ensures { OnOk result (out.new.items ≡ out.old.items ++ identity_text query.now) }
@@ -243,6 +220,7 @@ fn put_identity(out: &mut Vec<u8>, query: &HandedLine) -> Result<(), AllocError>
     put_spaced(out, u64::from(query.id))
 }
 
+/// Appends the line of a query that was handed out.
 #[tactic(auto, unfolding(crate::specs::Show::handed_line))]
 fn put_handed_line(out: &mut Vec<u8>, action: Spelled, query: &HandedLine) -> Result<(), AllocError>
     ensures { OnOk result (out.new.items ≡ out.old.items
@@ -255,6 +233,7 @@ fn put_handed_line(out: &mut Vec<u8>, action: Spelled, query: &HandedLine) -> Re
     out.extend_from_slice(b"\n")
 }
 
+/// Appends a line for each packet that an action sent.
 #[inline(always)]
 fn put_sent_lines(
     out: &mut Vec<u8>,
@@ -271,6 +250,7 @@ fn put_sent_lines(
     Ok(())
 }
 
+/// Appends a line for each event that was handed out.
 #[inline(always)]
 fn put_event_lines(
     out: &mut Vec<u8>,
@@ -286,24 +266,9 @@ fn put_event_lines(
     Ok(())
 }
 
-#[inline(always)]
-fn put_handed(
-    out: &mut Vec<u8>,
-    action: Spelled,
-    handed: &Option<Boxed<HandedLine>>,
-) -> Result<(), AllocError>
-    ensures { OnOk result (out.new.items ≡ out.old.items
-        ++ flat_map (handed_line action.entry.number) (option_to_list handed.now)) }
-{
-    match handed {
-        Some(query) => put_handed_line(out, action, query.get()),
-        None => Ok(()),
-    }
-}
-
-/// Appends the lines of an action of this number, where these packets were sent. After an `AllocError`, which comes
-/// where there is no memory for them, `out` may have a prefix of them.
-#[tactic(auto, unfolding(crate::specs::Show::action_text))]
+/// Appends the lines of the action `number`; `sent` are all packets that were sent up to it. After an `AllocError`, which
+/// comes where there is no memory for them, `out` may have a prefix of them.
+#[tactic(auto, unfolding(crate::specs::Show::action_text, crate::specs::Show::answer_line))]
 #[inline(always)]
 pub fn put_action(
     out: &mut Vec<u8>,
@@ -318,10 +283,16 @@ pub fn put_action(
         number,
         digits: buffer.format(number).as_bytes(),
     };
-    put_answer_line(out, action, line.answer)?;
+    out.extend_from_slice(action.digits)?;
+    out.extend_from_slice(b" ")?;
+    put_answer(out, line.answer)?;
+    out.extend_from_slice(b"\n")?;
     put_sent_lines(out, sent, action, line.sent.as_slice())?;
     put_event_lines(out, action, line.events.as_slice())?;
-    put_handed(out, action, &line.handed)
+    match &line.handed {
+        Some(query) => put_handed_line(out, action, query.get()),
+        None => Ok(()),
+    }
 }
 
 /// The text of a trace: the lines of its actions, which are counted from 1.
@@ -339,4 +310,49 @@ pub fn show_trace(alloc: Global, trace: &Trace) -> Result<Vec<u8>, AllocError>
         put_action(&mut out, trace.sent.as_slice(), number, line)?;
     }
     Ok(out)
+}
+
+/// Tells the trace of a run.
+#[derive(Drop)]
+pub struct TraceText;
+
+impl Turns for TraceText {
+    ghost use Rattle.serf_schedule.specs.TraceText.{tells_trace};
+
+    type Asked = ();
+
+    type Seen = ();
+
+    ghost told = { λ asked t configs actions text. tells_trace configs actions text };
+
+    ghost saw = { λ asked t seen configs actions action text. tells_trace configs actions text };
+
+    ghost streams = { λ asked. Unit {0} };
+
+    fn begin(&mut self, _alloc: Global, _world: &World, _agents: u64) -> Result<(), AllocError> {
+        Ok(())
+    }
+
+    fn look(
+        &mut self,
+        _alloc: Global,
+        _world: &World,
+        _number: u64,
+        _action: &Action,
+    ) -> Result<(), AllocError> {
+        Ok(())
+    }
+
+    fn tell(
+        &mut self,
+        _alloc: Global,
+        world: &World,
+        number: u64,
+        _action: &Action,
+        line: Line,
+        _seen: (),
+        out: &mut Vec<u8>,
+    ) -> Result<(), AllocError> {
+        put_action(out, world.sent(), number, &line)
+    }
 }

@@ -1,12 +1,18 @@
-//! The lines of a schedule, and of the pipe.
+//! The lines of a schedule, and of the pipe, and the text of a whole schedule.
 
-ghost use Rattle.std.specs.Prelude.{◌≡◌, ◌++◌, OnOk};
+ghost use Rattle.std.specs.Prelude.{◌≡◌, ◌++◌, All, Ok, OnOk};
+ghost use Rattle.std.specs.List.{flat_map};
 ghost use Rattle.std.specs.Option.{option_copied};
-ghost use Rattle.serf_schedule.specs.ScheduleText.{act_words, action_text, agent_text, config_words, limit_words, packet_word, spaced};
+ghost use Rattle.serf_schedule.specs.Schedule.{parsed_of, schedule_of};
+ghost use Rattle.serf_schedule.specs.Sayable.{HasByteName, IsSayable};
+ghost use Rattle.serf_schedule.specs.ScheduleText.{act_words, action_text, agent_text, config_words, limit_words, packet_word, schedule_text, spaced};
 ghost use Rattle.serf_schedule.specs.Words.{word_text};
 
 use crate::command::verb_word;
+use crate::laws::text_reads_back;
 use crate::modes::mode_word;
+use crate::sayable::has_byte_name;
+use crate::schedule::Schedule;
 use crate::written_words::Word::{Hex, Number, Plain, Signed};
 use crate::written_words::{Word, flags, join, put_hex_words, put_line, put_words, sink_call};
 use serf_agent::{Config, DEFAULT_QUERY_LIMIT, DEFAULT_RESPONSE_LIMIT};
@@ -57,7 +63,7 @@ pub fn put_agent_line(out: &mut Vec<u8>, config: &Config) -> Result<(), AllocErr
     out.extend_from_slice(b"\n")
 }
 
-/// A packet by its bytes, where these are given, else by its number.
+/// The word for a packet: its bytes where `given` has them, else its number.
 fn packet_word<'a>(given: Option<&'a [u8]>, packet: u64) -> Word<'a>
     ensures { word_text result ≡ packet_word (option_copied given.entry) packet }
 {
@@ -67,6 +73,7 @@ fn packet_word<'a>(given: Option<&'a [u8]>, packet: u64) -> Word<'a>
     }
 }
 
+/// Appends what stands in a query line behind its first word.
 fn put_query_words(out: &mut Vec<u8>, query: &NewQuery) -> Result<(), AllocError>
     ensures { OnOk result (out.new.items ≡ out.old.items
         ++ spaced (act_words None (Act.Query query.now))) }
@@ -147,4 +154,57 @@ pub fn put_action_line(out: &mut Vec<u8>, action: &Action) -> Result<(), AllocEr
             out.extend_from_slice(b"\n")
         }
     }
+}
+
+/// Appends a line for each agent.
+fn put_agents(out: &mut Vec<u8>, agents: &[Config]) -> Result<(), AllocError>
+    ensures { OnOk result (out.new.items ≡ out.old.items ++ flat_map agent_text agents.now) }
+{
+    for agent in agents {
+        put_agent_line(out, agent)?;
+    }
+    Ok(())
+}
+
+/// Appends a line for each action.
+fn put_actions(out: &mut Vec<u8>, actions: &[Action]) -> Result<(), AllocError>
+    ensures { OnOk result (out.new.items ≡ out.old.items ++ flat_map action_text actions.now) }
+{
+    for action in actions {
+        put_action_line(out, action)?;
+    }
+    Ok(())
+}
+
+/// The names of agents have bytes. Does nothing.
+fn have_byte_names(agents: &[Config])
+    ensures { All HasByteName agents.now }
+{
+    for agent in agents {
+        has_byte_name(agent);
+    }
+}
+
+/// The text of a schedule reads back, where a line can say each action. Does nothing.
+pub fn know_read_back(schedule: &Schedule)
+    ensures { All IsSayable schedule.now.actions.items
+        → schedule_of (schedule_text (parsed_of schedule.now)) ≡ Ok (parsed_of schedule.now) }
+{
+    text_reads_back();
+    have_byte_names(schedule.agents.as_slice());
+}
+
+/// Appends the text of a schedule: a line for each agent, and then one for each action.
+///
+/// Where a line can say each action ([`crate::is_sayable`]), the text stands for just this schedule. `AllocError` where
+/// there is no memory: a prefix of the text may stand there then.
+pub fn put_schedule(out: &mut Vec<u8>, schedule: &Schedule) -> Result<(), AllocError>
+    ensures text { OnOk result (out.new.items ≡ out.old.items
+        ++ schedule_text (parsed_of schedule.now)) }
+    ensures reads_back { All IsSayable schedule.now.actions.items
+        → schedule_of (schedule_text (parsed_of schedule.now)) ≡ Ok (parsed_of schedule.now) }
+{
+    know_read_back(schedule);
+    put_agents(out, schedule.agents.as_slice())?;
+    put_actions(out, &schedule.actions)
 }

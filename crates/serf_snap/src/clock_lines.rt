@@ -1,4 +1,4 @@
-//! Clock lines as they are written, and the text of a compaction.
+//! Writes clock lines, and the text of a compaction.
 
 ghost use Rattle.std.specs.Prelude.{◌≡◌, ◌++◌, if◌then◌else◌, IfOk, OnOk};
 ghost use Rattle.serf_snap.specs.Clocks.{clock_line, is_empty, line_above_zero};
@@ -14,7 +14,7 @@ use std::alloc::{AllocError, Global};
 /// The bytes that the longest clock line has: a prefix of 13, a zero, 20 digits and a newline.
 pub(crate) const LONGEST_LINE: usize = 35;
 
-/// Appends the clock line of a time. On want of memory the text may have a part of it.
+/// Appends the clock line of `kind` and `time` to `text`. On want of memory `text` may have a part of it.
 fn put_line(text: &mut Vec<u8>, kind: ClockKind, time: u64) -> Result<(), AllocError>
     ensures { OnOk result (text.new.items ≡ text.old.items ++ clock_line kind time) }
 {
@@ -24,7 +24,8 @@ fn put_line(text: &mut Vec<u8>, kind: ClockKind, time: u64) -> Result<(), AllocE
     text.extend_from_slice(b"\n")
 }
 
-/// Appends the clock line of a time with this line of its own behind it, or with none.
+/// Appends the clock line of `time`: with a zero in front of its number where `own`, which the caller writes behind it, isn't
+/// empty, and else without.
 fn put_line_beside(
     text: &mut Vec<u8>,
     kind: ClockKind,
@@ -40,8 +41,8 @@ fn put_line_beside(
     put_kept_clock_line(text, kind, time)
 }
 
-/// What is appended for a time, where the last line of its kind is this: its clock line where it is above that, and the
-/// line of its own.
+/// The bytes that a note of `time` appends, where the last line of its kind says `last`: the clock line where `time` is above
+/// `last`, and then `own`.
 pub(crate) fn bytes_of(
     alloc: Global,
     kind: ClockKind,
@@ -59,7 +60,7 @@ pub(crate) fn bytes_of(
     Ok(bytes)
 }
 
-/// Appends the clock line of a time, and nothing at 0.
+/// Appends the clock line of `time`, and nothing where `time` is 0.
 fn put_line_above_zero(text: &mut Vec<u8>, kind: ClockKind, time: u64) -> Result<(), AllocError>
     ensures { OnOk result (text.new.items ≡ text.old.items ++ line_above_zero kind time) }
 {
@@ -69,8 +70,8 @@ fn put_line_above_zero(text: &mut Vec<u8>, kind: ClockKind, time: u64) -> Result
     put_line(text, kind, time)
 }
 
-/// Appends the clock line of a time, with a zero in front of its number where it is behind lines that are kept, and nothing
-/// at 0.
+/// Appends the clock line of `time`, and nothing where `time` is 0. Its number has a zero in front where `kept` says that lines
+/// of kept events, queries or least times stand before it.
 fn put_above_zero(
     text: &mut Vec<u8>,
     kept: bool,
@@ -85,7 +86,7 @@ fn put_above_zero(
     put_line_above_zero(text, kind, time)
 }
 
-/// The text of these lines, and of these last lines behind them.
+/// The text of a compaction: `lines`, and behind them the clock lines of `last`.
 pub(crate) fn text_of(alloc: Global, lines: &[u8], last: Clocks) -> Result<Vec<u8>, AllocError>
     ensures { IfOk result (λ text. text.items
         ≡ compaction_bytes lines.now last.member_clock last.event_clock last.query_clock) }

@@ -1,4 +1,4 @@
-//! Clocks, and the clock lines of a text (`snapshot.go`, `replay`).
+//! The clocks of a snapshot, and how they are read from its clock lines (`snapshot.go`, `replay`).
 
 ghost use Rattle.std.specs.Prelude.{◌≡◌, ◌-◌, ◌^◌, Some, max, min};
 ghost use Rattle.std.specs.Str.{all_ascii_digits};
@@ -18,6 +18,7 @@ pub struct Clocks {
     pub query_clock: u64,
 }
 
+/// Whether `text` has no byte but decimal digits.
 pub(crate) fn is_all_digits(text: &[u8]) -> bool
     ensures { result ≡ all_ascii_digits text.now }
 {
@@ -29,7 +30,7 @@ pub(crate) fn is_all_digits(text: &[u8]) -> bool
     true
 }
 
-/// The number that digits write, or the greatest where it is above that.
+/// The number that `digits` write, or 2^64 - 1 where it is greater. The digit 0 is the byte 48.
 pub(crate) fn number_of(digits: &[u8]) -> u64
     ensures { result ≡ min (read_on 0 digits.now) (2 ^ 64 - 1) }
 {
@@ -42,7 +43,7 @@ pub(crate) fn number_of(digits: &[u8]) -> u64
     n
 }
 
-/// The value of what follows a prefix, 0 where it is no time.
+/// The time that a clock line's digits write, 0 where they write none.
 pub(crate) fn time_of(digits: &[u8]) -> u64
     ensures { result ≡ time_text_value (Some digits.now) }
 {
@@ -53,7 +54,7 @@ pub(crate) fn time_of(digits: &[u8]) -> u64
     if n == u64::MAX { 0 } else { n }
 }
 
-/// The value of a line that begins with a prefix, 0 where it doesn't or no time follows.
+/// The time of the clock line `line`, 0 where it doesn't begin with `prefix` or no time follows.
 fn time_behind(prefix: &[u8], line: &[u8]) -> u64
     ensures { result ≡ time_text_value (behind prefix.now line.now) }
 {
@@ -64,7 +65,7 @@ fn time_behind(prefix: &[u8], line: &[u8]) -> u64
 }
 
 impl Clocks {
-    /// These clocks after one more line.
+    /// The clocks after one more line: `line` may raise one, and lowers none.
     pub(crate) fn after_line(self, line: &[u8]) -> Clocks
         ensures member { result.member_clock ≡ max self.member_clock (line_value Member line.now) }
         ensures event { result.event_clock ≡ max self.event_clock (line_value Event line.now) }
@@ -84,7 +85,7 @@ impl Clocks {
     }
 }
 
-/// Whether a text is empty or ends in a newline.
+/// Whether `text` is empty or ends in a newline, so that its last line isn't torn.
 pub(crate) fn ends_whole(text: &[u8]) -> bool
     ensures { result ≡ is_whole text.now }
 {
@@ -95,7 +96,7 @@ pub(crate) fn ends_whole(text: &[u8]) -> bool
 }
 
 impl Clocks {
-    /// The value of a kind.
+    /// The value of the clock `kind`.
     pub(crate) fn of(self, kind: ClockKind) -> u64
         ensures { result ≡ of_kind kind self.member_clock self.event_clock self.query_clock }
     {
@@ -106,7 +107,7 @@ impl Clocks {
         }
     }
 
-    /// These clocks with another value of a kind.
+    /// The clocks, with `time` as the value of the clock `kind`.
     pub(crate) fn with(self, kind: ClockKind, time: u64) -> Clocks
         ensures member { result.member_clock ≡ once_set Member kind time self.member_clock }
         ensures event { result.event_clock ≡ once_set Event kind time self.event_clock }

@@ -1,4 +1,4 @@
-//! The lines of an agent that keeps its events, as they are written.
+//! Writes the lines of an agent that keeps its events. Each is appended to `text`.
 
 ghost use Rattle.std.specs.Prelude.{◌≡◌, ◌+◌, ◌*◌, ◌++◌, ◌∷◌, OnOk, decimal, take, vec_len};
 ghost use Rattle.hex.specs.Hex.{encode_lower};
@@ -9,7 +9,7 @@ use itoa::Buffer;
 use serf_lamport::Time;
 use std::alloc::AllocError;
 
-/// Appends a number in decimal.
+/// Appends `n` in decimal.
 fn put_number(text: &mut Vec<u8>, n: u64) -> Result<(), AllocError>
     ensures { OnOk result (text.new.items ≡ text.old.items ++ decimal n) }
 {
@@ -17,7 +17,7 @@ fn put_number(text: &mut Vec<u8>, n: u64) -> Result<(), AllocError>
     text.extend_from_slice(buffer.format(n).as_bytes())
 }
 
-/// Makes room for two hex digits a byte.
+/// Appends two zero bytes for each of `bytes` bytes, in whose place their hex digits are then written.
 fn grow(text: &mut Vec<u8>, bytes: usize) -> Result<(), AllocError>
     ensures front { OnOk result (take (vec_len text.old) text.new.items ≡ text.old.items) }
     ensures len { OnOk result (vec_len text.new ≡ vec_len text.old + 2 * bytes) }
@@ -26,7 +26,7 @@ fn grow(text: &mut Vec<u8>, bytes: usize) -> Result<(), AllocError>
     text.resize(len.saturating_add(bytes.saturating_mul(2)), 0)
 }
 
-/// Appends bytes in hex.
+/// Appends `bytes` in hex.
 fn put_hex(text: &mut Vec<u8>, bytes: &[u8]) -> Result<(), AllocError>
     ensures { OnOk result (text.new.items ≡ text.old.items ++ encode_lower bytes.now) }
 {
@@ -38,7 +38,7 @@ fn put_hex(text: &mut Vec<u8>, bytes: &[u8]) -> Result<(), AllocError>
     }
 }
 
-/// Appends a space and bytes in hex.
+/// Appends a space, and `bytes` in hex.
 fn put_hex_part(text: &mut Vec<u8>, bytes: &[u8]) -> Result<(), AllocError>
     ensures { OnOk result (text.new.items ≡ text.old.items ++ 32 ∷ encode_lower bytes.now) }
 {
@@ -47,7 +47,7 @@ fn put_hex_part(text: &mut Vec<u8>, bytes: &[u8]) -> Result<(), AllocError>
 }
 
 /// Appends the line of an event: `#event`, its time, and its name and its payload in hex, with single spaces
-/// between them. It has at most 30 bytes beside two for each byte of these texts. After an `AllocError`, which
+/// between them. It has at most 30 bytes beside two for each byte of name and payload. After an `AllocError`, which
 /// comes where there is no memory for it, `text` may have a prefix of it.
 pub fn put_event_line(
     text: &mut Vec<u8>,
@@ -77,7 +77,7 @@ pub fn put_query_line(text: &mut Vec<u8>, time: Time, id: u32) -> Result<(), All
     text.extend_from_slice(b"\n")
 }
 
-/// What the line of a least time begins with.
+/// What the line of a least time of `kind` begins with.
 pub(crate) fn least_prefix_of(kind: ClockKind) -> &'static [u8]
     ensures { result.now ≡ least_prefix kind }
 {

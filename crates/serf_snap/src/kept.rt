@@ -1,4 +1,4 @@
-//! What the lines of an agent that keeps its events say.
+//! What is read from the lines of an agent that keeps its events: the kept events and queries, and the least times.
 
 ghost use Rattle.std.specs.Prelude.{◌≡◌};
 
@@ -23,7 +23,7 @@ impl Model for KeptEvent {
 }
 
 impl KeptEvent {
-    /// An event of these texts. Takes no memory.
+    /// The event of `time`, `name` and `payload`. Takes no memory.
     pub(crate) fn new(time: Time, name: Vec<u8>, payload: Vec<u8>) -> KeptEvent
         ensures { result ≡ record { time = time; name = name.items; payload = payload.items } }
     {
@@ -34,28 +34,28 @@ impl KeptEvent {
         }
     }
 
-    /// Its time. Takes no memory.
+    /// The event's time. Takes no memory.
     pub fn time(&self) -> Time
         ensures { result ≡ self.now.time }
     {
         self.time
     }
 
-    /// Its name. Takes no memory.
+    /// The event's name. Takes no memory.
     pub fn name(&self) -> &[u8]
         ensures { result.now ≡ self.now.name }
     {
         self.name.as_slice()
     }
 
-    /// Its payload. Takes no memory.
+    /// The event's payload. Takes no memory.
     pub fn payload(&self) -> &[u8]
         ensures { result.now ≡ self.now.payload }
     {
         self.payload.as_slice()
     }
 
-    /// Its name and its payload. Takes no memory.
+    /// The event's name and payload. Takes no memory.
     pub fn into_texts(self) -> (Vec<u8>, Vec<u8>)
         ensures name { result.0.items ≡ self.name }
         ensures payload { result.1.items ≡ self.payload }

@@ -1,4 +1,4 @@
-//! The lines of an agent that keeps its events, as each is read.
+//! Reads one line of an agent that keeps its events: an event, a query, or a least time.
 
 ghost use Rattle.std.specs.Prelude.{false, ◌≡◌, ◌<◌, ◌++◌, ◌==◌, IfOk, MatchOption, OnOk, Some, None, max};
 ghost use Rattle.std.specs.List.{slice_split};
@@ -14,7 +14,7 @@ use hex::FromHexError;
 use serf_lamport::Time;
 use std::alloc::{AllocError, Global};
 
-/// The time that digits write, which isn't 0.
+/// The time that `digits` write, where it isn't 0.
 fn time_above_zero(digits: &[u8]) -> Option<Time>
     ensures { MatchOption result (time_text_value (Some digits.now) ≡ 0)
         (λ t. (time_text_value (Some digits.now) ≡ t) × ((t == 0) ≡ false)) }
@@ -23,7 +23,7 @@ fn time_above_zero(digits: &[u8]) -> Option<Time>
     if time == 0 { None } else { Time::new(time) }
 }
 
-/// What follows a prefix.
+/// What follows `prefix` in `line`, where `line` begins with it.
 fn without_prefix<'a>(prefix: &[u8], line: &'a [u8]) -> Option<&'a [u8]>
     ensures { MatchOption result (behind prefix.now line.now ≡ None)
         (λ rest. behind prefix.now line.now ≡ Some rest.now) }
@@ -34,7 +34,7 @@ fn without_prefix<'a>(prefix: &[u8], line: &'a [u8]) -> Option<&'a [u8]>
     }
 }
 
-/// The bytes that hex digits write.
+/// The bytes that `digits` write in hex, or `None` where they are no hex digits.
 fn hex_bytes(alloc: Global, digits: &[u8]) -> Result<Option<Vec<u8>>, AllocError>
     ensures { IfOk result (λ found. MatchOption found (bytes_of_hex digits.now ≡ None)
         (λ bytes. bytes_of_hex digits.now ≡ Some bytes.items)) }
@@ -46,7 +46,7 @@ fn hex_bytes(alloc: Global, digits: &[u8]) -> Result<Option<Vec<u8>>, AllocError
     }
 }
 
-/// An event of these parts.
+/// The event of the parts of its line, or `None` where `time` is no time above 0 or `name` or `payload` no hex.
 fn event_of(
     alloc: Global,
     time: &[u8],
@@ -68,7 +68,7 @@ fn event_of(
     }
 }
 
-/// An event of a text whose parts stand between single spaces.
+/// The event of `text`, which is to be its time, name and payload between single spaces. Else `None`.
 fn event_of_text(alloc: Global, text: &[u8]) -> Result<Option<KeptEvent>, AllocError>
     ensures { IfOk result (λ found. found
         ≡ event_from_parts (slice_split (λ b. b == 32) text.now)) }
@@ -88,7 +88,7 @@ fn event_of_text(alloc: Global, text: &[u8]) -> Result<Option<KeptEvent>, AllocE
     }
 }
 
-/// The event of a line, where it is an event's line.
+/// The event of `line`, where it is an event's line.
 fn event_in(alloc: Global, line: &[u8]) -> Result<Option<KeptEvent>, AllocError>
     ensures { IfOk result (λ found. found ≡ event_of_line line.now) }
 {
@@ -98,7 +98,7 @@ fn event_in(alloc: Global, line: &[u8]) -> Result<Option<KeptEvent>, AllocError>
     }
 }
 
-/// Takes the event of a line, where it is one that is wanted.
+/// Appends the event of `line` to `events`, where it is one that is wanted.
 pub(crate) fn take_event(
     events: &mut Vec<KeptEvent>,
     alloc: Global,
@@ -119,7 +119,7 @@ pub(crate) fn take_event(
     }
 }
 
-/// The ID that digits write.
+/// The ID that `digits` write, where they write a number below 2^32.
 fn id_in(digits: &[u8]) -> Option<u32>
     ensures { result ≡ id_of digits.now }
 {
@@ -134,7 +134,7 @@ fn id_in(digits: &[u8]) -> Option<u32>
     }
 }
 
-/// A query of these parts.
+/// The query of the parts of its line, or `None` where `time` is no time above 0 or `id` no ID.
 fn query_of(time: &[u8], id: &[u8]) -> Option<KeptQuery>
     ensures { result ≡ query_from (time_text_value (Some time.now)) (id_of id.now) }
 {
@@ -147,7 +147,7 @@ fn query_of(time: &[u8], id: &[u8]) -> Option<KeptQuery>
     }
 }
 
-/// A query of a text whose parts stand between single spaces.
+/// The query of `text`, which is to be its time and ID between single spaces. Else `None`.
 fn query_of_text(text: &[u8]) -> Option<KeptQuery>
     ensures { result ≡ query_from_parts (slice_split (λ b. b == 32) text.now) }
 {
@@ -162,7 +162,7 @@ fn query_of_text(text: &[u8]) -> Option<KeptQuery>
     }
 }
 
-/// The query of a line, where it is a query's line.
+/// The query of `line`, where it is a query's line.
 fn query_in(line: &[u8]) -> Option<KeptQuery>
     ensures { result ≡ query_of_line line.now }
 {
@@ -172,7 +172,7 @@ fn query_in(line: &[u8]) -> Option<KeptQuery>
     }
 }
 
-/// Takes the query of a line, where it is one that is wanted.
+/// Appends the query of `line` to `queries`, where it is one that is wanted.
 pub(crate) fn take_query(
     queries: &mut Vec<KeptQuery>,
     line: &[u8],
@@ -192,6 +192,7 @@ pub(crate) fn take_query(
     }
 }
 
+/// Whether the first of the `digits` is 0.
 fn has_zero_in_front(digits: &[u8]) -> bool
     ensures { result ≡ begins_with_zero digits.now }
 {
@@ -201,7 +202,8 @@ fn has_zero_in_front(digits: &[u8]) -> bool
     }
 }
 
-/// One above the time of digits without a zero in front, 0 where they are no time.
+/// One above the time that `digits` write, where no zero stands in front: who wrote it kept no events. Else 0, as where they are
+/// no time.
 fn above_unkept(digits: &[u8]) -> u64
     ensures { result ≡ above_unkept (Some digits.now) }
 {
@@ -216,7 +218,7 @@ fn above_unkept(digits: &[u8]) -> u64
     }
 }
 
-/// The least time that digits write, 0 where they are none.
+/// The number of a `#least` line, which may be 2^64 - 1; 0 where `digits` are no digits.
 fn least_time_of(digits: &[u8]) -> u64
     ensures { result ≡ least_text_value (Some digits.now) }
 {
@@ -226,7 +228,7 @@ fn least_time_of(digits: &[u8]) -> u64
     number_of(digits)
 }
 
-/// The least time that may be taken of a kind after a line, as far as this line says.
+/// The least time of `kind` that may be taken after `line`, as far as `line` says; 0 where it says none.
 pub(crate) fn least_after(kind: ClockKind, line: &[u8]) -> u64
     ensures { result ≡ least_of_line kind line.now }
 {

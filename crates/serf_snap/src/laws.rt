@@ -90,7 +90,7 @@ pub fn event_line_laws()
         → last_clock k (front ++ (35 ∷ line ++ 10 ∷ back)) ≡ last_clock k (front ++ back) }
 {}
 
-/// What the lines of queries say, as of events.
+/// What the lines of queries say, as `event_line_laws` has it of events; and how long one is at most.
 pub fn query_line_laws()
     ensures written { (w : Wanted) (text : List ℕ) (t id : ℕ) → is_whole text ≡ true → 0 < t
         → t < greatest_clock → id < 2 ^ 32 → queries_in w (text ++ query_line t id)
@@ -172,7 +172,7 @@ pub fn said_laws()
         → is_whole (kept_compaction_of lines s) ≡ true }
 {}
 
-/// And which queries a text says, in the same way: of its lines those of queries alone.
+/// Which queries a text says, as `said_laws` has it of events: of its lines those of queries alone.
 pub fn said_query_laws()
     ensures joined { (w : Wanted) (front tail : List ℕ) → is_whole front ≡ true
         → queries_in w (front ++ tail) ≡ queries_in w front ++ queries_in w tail }

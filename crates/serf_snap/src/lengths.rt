@@ -1,4 +1,4 @@
-//! How long the texts of a snapshot are, and the lines of what is kept. None of these calls takes memory.
+//! How many bytes the text of a snapshot has, and its lines of kept events and queries. None of these calls takes memory.
 
 ghost use Rattle.std.specs.Prelude.{◌≡◌, ◌-◌, ◌*◌, ◌^◌, ◌<◌, ◌≤◌, ◌&&◌, List, ℕ, decimal, false, length, min, nat_le, nat_lt};
 ghost use Rattle.serf_snap.specs.Clocks.{line_above_zero, sealed};
@@ -12,7 +12,7 @@ use crate::kind::ClockKind;
 use itoa::Buffer;
 use serf_lamport::Time;
 
-/// How long a text is whose torn last line, if it has one, is ended; at most 2^64 - 1.
+/// How many bytes `text` has once its last line, where that is torn, is ended by two bytes more; at most 2^64 - 1.
 pub(crate) fn sealed_length(text: &[u8]) -> u64
     ensures { result ≡ min (length (sealed text.now)) (2 ^ 64 - 1) }
 {
@@ -24,7 +24,7 @@ pub(crate) fn sealed_length(text: &[u8]) -> u64
     }
 }
 
-/// How many decimal digits a number has.
+/// How many decimal digits `n` has.
 fn digits_of(n: u64) -> u64
     ensures exact { result ≡ length (decimal n) }
     ensures short { result ≤ 20 }
@@ -33,36 +33,38 @@ fn digits_of(n: u64) -> u64
     buffer.format(n).len() as u64
 }
 
-/// How many hex digits write these bytes; at most 2^64 - 1.
+/// How many hex digits write `bytes`; at most 2^64 - 1.
 fn hex_length(bytes: &[u8]) -> u64
     ensures { result ≡ min (2 * length bytes.now) (2 ^ 64 - 1) }
 {
     (bytes.len() as u64).saturating_mul(2)
 }
 
-/// How long the line of an event is, as `put_event_line` writes it; at most 2^64 - 1. Takes no memory.
+/// How many bytes the line of an event has, as `put_event_line` writes it; at most 2^64 - 1. Takes no memory.
 pub fn event_line_length(time: Time, name: &[u8], payload: &[u8]) -> u64
     ensures { result ≡ counted (event_line time name.now payload.now) }
 {
     let texts = hex_length(name).saturating_add(hex_length(payload));
+    // The 10 are `#event `, a space before each text, and the newline.
     texts.saturating_add(digits_of(time.get()) + 10)
 }
 
-/// How long the line of a query is, as `put_query_line` writes it. Takes no memory.
+/// How many bytes the line of a query has, as `put_query_line` writes it. Takes no memory.
 pub fn query_line_length(time: Time, id: u32) -> u64
     ensures { result ≡ length (query_line time id) }
 {
+    // The 9 are `#query `, the space before the ID, and the newline.
     digits_of(time.get()) + digits_of(id as u64) + 9
 }
 
-/// How long the line of a least time is, as `put_least_line` writes it. Takes no memory.
+/// How many bytes the line of a least time has, as `put_least_line` writes it. Takes no memory.
 pub fn least_line_length(kind: ClockKind, time: u64) -> u64
     ensures { result ≡ length (least_line kind time) }
 {
     least_prefix_of(kind).len() as u64 + digits_of(time) + 1
 }
 
-/// How long the line of a time is: 0 at 0.
+/// How many bytes the clock line of `time` has, with its newline; 0 where `time` is 0, which has no line.
 fn line_length(kind: ClockKind, time: u64) -> u64
     ensures exact { result ≡ length (line_above_zero kind time) }
     ensures short { result ≤ 34 }
@@ -73,7 +75,8 @@ fn line_length(kind: ClockKind, time: u64) -> u64
     kind.prefix().len() as u64 + digits_of(time) + 1
 }
 
-/// How long the line of a time is whose number has a zero in front: 0 at 0.
+/// How many bytes the clock line of `time` has with a zero in front of its number, and with its newline; 0 where `time` is 0,
+/// which has no line.
 fn kept_line_length(kind: ClockKind, time: u64) -> u64
     ensures exact { result ≡ length (kept_line_above_zero kind time) }
     ensures short { result ≤ 35 }
@@ -84,7 +87,8 @@ fn kept_line_length(kind: ClockKind, time: u64) -> u64
     kind.prefix().len() as u64 + digits_of(time) + 2
 }
 
-/// How long the line of a time is behind lines that are kept, or behind none.
+/// How many bytes the clock line of `time` has in a compaction. Where `kept` says that lines of kept events, queries or least
+/// times stand before it, its number has a zero in front.
 fn length_behind(kept: bool, kind: ClockKind, time: u64) -> u64
     ensures exact { result ≡ length (time_above_zero kept kind time) }
     ensures short { result ≤ 35 }
@@ -96,7 +100,7 @@ fn length_behind(kept: bool, kind: ClockKind, time: u64) -> u64
     line_length(kind, time)
 }
 
-/// How long the text of a compaction is that keeps lines of this length (0: none), with these last lines; at most
+/// How many bytes the text of a compaction has: `lines_length` of other lines (0: none), and the clock lines of `last`; at most
 /// 2^64 - 1.
 pub(crate) fn compaction_length(lines_length: u64, last: Clocks) -> u64
     ensures exact { (lines : List ℕ) → lines_length ≡ counted lines → result ≡ counted
@@ -110,7 +114,8 @@ pub(crate) fn compaction_length(lines_length: u64, last: Clocks) -> u64
     lines_length.saturating_add(clocks_length)
 }
 
-/// Whether a text of this length is worth being replaced at a limit by one of that length. A length stays at 2^64 - 1.
+/// Whether a text of `kept` bytes is worth being replaced by one of `new_length` bytes: it has more than `limit`, and at least
+/// half of them would go. A length stays at 2^64 - 1.
 pub(crate) fn is_worth_replacing(limit: u64, kept: u64, new_length: u64) -> bool
     ensures exact { (new text : List ℕ) → new_length ≡ counted new → kept ≡ counted text
         → result ≡ is_worth_replacing limit new text }

@@ -14,10 +14,13 @@ use std::marker::Model;
 #[derive(Drop)]
 pub struct MemSink {
     bytes: Vec<u8>,
+    /// How many of the bytes are durable: those before the buffered ones.
     durable: usize,
+    /// Which append from now on fails, 0 where none does; and so of the flushes and the replaces.
     failing_append: u64,
     failing_flush: u64,
     failing_replace: u64,
+    /// Whether a replace that fails keeps the new text.
     keeps_new: bool,
     failures: u64,
     append_calls: u64,
@@ -56,14 +59,14 @@ impl MemSink {
         MemSink::keeping(Vec::new(alloc))
     }
 
-    /// A sink that keeps a copy of this text and is told to fail nowhere, or want of memory.
+    /// A sink that keeps a copy of `text` and is told to fail nowhere, or `AllocError` where there is no memory for it.
     pub fn with(alloc: Global, text: &[u8]) -> Result<Self, AllocError>
         ensures { IfOk result (λ m. m.device ≡ fresh_device text.now) }
     {
         Ok(MemSink::keeping(Vec::from_slice(alloc, text)?))
     }
 
-    /// A sink that keeps these bytes and is told to fail nowhere.
+    /// A sink that keeps `bytes`, all of them durable, and is told to fail nowhere.
     fn keeping(bytes: Vec<u8>) -> Self
         ensures { result.device ≡ fresh_device bytes.items }
     {
@@ -82,7 +85,7 @@ impl MemSink {
         }
     }
 
-    /// From now on the n-th append fails, and no other; none where n is 0. An earlier number is forgotten.
+    /// From now on the `n`-th append fails, and no other; none where `n` is 0. An earlier number is forgotten.
     /// Takes no memory.
     pub fn fail_append(&mut self, n: u64)
         ensures device { self.new.device ≡ with_plan (append_failing n) self.old.device }
@@ -91,7 +94,7 @@ impl MemSink {
         self.failing_append = n;
     }
 
-    /// From now on the n-th flush fails, and no other; none where n is 0. An earlier number is forgotten.
+    /// From now on the `n`-th flush fails, and no other; none where `n` is 0. An earlier number is forgotten.
     /// Takes no memory.
     pub fn fail_flush(&mut self, n: u64)
         ensures device { self.new.device ≡ with_plan (flush_failing n) self.old.device }
@@ -100,7 +103,7 @@ impl MemSink {
         self.failing_flush = n;
     }
 
-    /// From now on the n-th replace fails, and no other; none where n is 0. It keeps the new text where
+    /// From now on the `n`-th replace fails, and no other; none where `n` is 0. It keeps the new text where
     /// `keeps_new` says so, and else the old one. An earlier number is forgotten. Takes no memory.
     pub fn fail_replace(&mut self, n: u64, keeps_new: bool)
         ensures device { self.new.device ≡ with_plan (replace_failing n keeps_new) self.old.device }

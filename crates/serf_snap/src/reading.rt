@@ -1,4 +1,4 @@
-//! What a text says: its lines are gone over once for its times, and once for what it keeps.
+//! Reads a text's lines: once for its times, and once for the events and queries that it keeps.
 
 ghost use Rattle.std.specs.Prelude.{◌≡◌, ◌<◌, ◌++◌, max, IfOk, OnOk};
 ghost use Rattle.serf_lamport.specs.Clock.{greatest_clock};
@@ -14,7 +14,7 @@ use crate::parts::first_line;
 use std::alloc::{AllocError, Global};
 
 impl TextTimes {
-    /// These times after one more line.
+    /// The times after one more line: `line` may raise some, and lowers none.
     fn after_line(self, line: &[u8]) -> TextTimes
         ensures member { result.clocks.member_clock
             ≡ max self.clocks.member_clock (line_value Member line.now) }
@@ -92,7 +92,7 @@ pub fn read_clocks(text: &[u8]) -> Clocks
 }
 
 impl KeptEntries {
-    /// Takes the event or the query of a line, where it is one that is wanted.
+    /// Appends the event or the query of `line`, where it is one that `events` or `queries` wants.
     fn take(
         &mut self,
         alloc: Global,
@@ -110,7 +110,7 @@ impl KeptEntries {
     }
 }
 
-/// The events and the queries of a text's lines that are wanted, each in order; an `AllocError` where there is no memory
+/// The events and the queries of `text` that `events` and `queries` want, each in order; an `AllocError` where there is no memory
 /// for them.
 ///
 /// Any bytes are a text. A line ends with a newline, so bytes behind the last one are no line. An event's line is

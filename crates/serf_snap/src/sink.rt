@@ -37,15 +37,15 @@ pub trait Sink {
     /// How many bytes it takes without memory.
     ghost room: { Self → ℕ };
 
-    /// Makes room for this many bytes. On want of memory it keeps what it kept, and may have more room than before.
+    /// Makes room for `n` bytes. On want of memory it keeps what it kept, and may have more room than before.
     fn reserve(&mut self, alloc: Global, n: usize) -> Result<(), AllocError>
         ensures room { OnOk result (n ≤ room self.new) }
         ensures device { device self.new ≡ device self.old };
 
-    /// Appends these bytes, for which there is room: they are buffered then. Takes no memory.
+    /// Appends `bytes`, for which there is room: they are buffered then. Takes no memory.
     ///
     /// After [`SinkFault`] the sink has failed once more, where its count can tell; it keeps what it kept and
-    /// perhaps a part of what was buffered and of these bytes. A sink with a plan fails just where the plan
+    /// perhaps a part of what was buffered and of `bytes`. A sink with a plan fails just where the plan
     /// says, keeps just what it kept, and nothing is buffered then.
     fn append(&mut self, bytes: &[u8]) -> Result<(), SinkFault>
         requires { length bytes.now ≤ room self.old }
@@ -57,7 +57,7 @@ pub trait Sink {
         ensures planned { IfSome (device self.old).plan (λ p. is_ok result ≡ not (p.appends == 1)) }
         ensures called { (device self.new).calls ≡ append_called (device self.old).calls };
 
-    /// Keeps what is buffered. Takes no memory. Its fault is that of an append of no bytes.
+    /// Makes what is buffered durable. Takes no memory. Its fault is that of an append of no bytes.
     fn flush(&mut self) -> Result<(), SinkFault>
         ensures ok { OnOk result (device self.new ≡ flushed (device self.old)) }
         ensures fault { OnErr result (Fails (device self.old) (device self.new) []) }
@@ -69,7 +69,7 @@ pub trait Sink {
 
 /// A sink that can be given another text in one step, so that a stop inside it finds the old text or the new.
 pub trait ReplaceSink: Sink {
-    /// Keeps just this text, while nothing is buffered.
+    /// Keeps just `text` instead of what it kept, while nothing is buffered: `text` is durable then.
     ///
     /// A sink with a plan fails just where the plan says, and keeps the text that the plan names.
     fn replace(&mut self, alloc: Global, text: &[u8]) -> Result<(), ReplaceFault>

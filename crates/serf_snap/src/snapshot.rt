@@ -1,4 +1,4 @@
-//! The clock lines of an agent, on a sink (`snapshot.go`).
+//! A snapshot: an agent's clock lines, and its lines of kept events, each written to a sink and flushed (`snapshot.go`).
 
 ghost use Rattle.std.specs.Prelude.{◌≡◌, ◌<◌, ◌≤◌, ◌-◌, ◌^◌, true, if◌then◌else◌, false, not, is_ok, length, List, ℕ, IfOk, IfErr, IsOk, OnOk, OnErr, IfSome, IsErrOf};
 ghost use Rattle.std.specs.Option.{option_map};
@@ -88,7 +88,7 @@ impl From<SinkFault> for SealFault {
 pub struct Snapshot<S: Sink> {
     last: Clocks,
     stopped: bool,
-    /// How many bytes are durable, while it isn't stopped: a number that stays at 2^64 - 1.
+    /// How many bytes the durable text has, while the snapshot isn't stopped; at most 2^64 - 1. Not the kept events.
     kept: u64,
     sink: S,
 }
@@ -121,7 +121,7 @@ impl<S: Sink> Model for Snapshot<S> {
         × (a.stopped ≡ false → IsLengthOf (durable_of (S.device a.sink)) a.kept) };
 }
 
-/// One append and one flush.
+/// Appends `line` to `sink` and flushes it, so that it is durable.
 fn keep<S: Sink>(sink: &mut S, line: &[u8]) -> Result<(), SinkFault>
     requires { length line.now ≤ S.room sink.old }
     ensures ok { OnOk result (S.device sink.new ≡ flushed (appended line.now (S.device sink.old))) }
@@ -133,7 +133,8 @@ fn keep<S: Sink>(sink: &mut S, line: &[u8]) -> Result<(), SinkFault>
     sink.flush()
 }
 
-/// Ends a torn last line, so that it never becomes a clock line.
+/// Ends the last line of `text`, where it is torn, so that it never becomes a clock line: `#` and a newline are appended to
+/// `sink` and flushed.
 fn seal<S: Sink>(alloc: Global, text: &[u8], sink: &mut S) -> Result<(), SealFault>
     requires { HasText text.now (S.device sink.old) }
     ensures ok { OnOk result (S.device sink.new ≡ opened_device text.now (S.device sink.old)) }
@@ -160,14 +161,14 @@ fn seal<S: Sink>(alloc: Global, text: &[u8], sink: &mut S) -> Result<(), SealFau
 }
 
 impl<S: Sink> Snapshot<S> {
-    /// Opens a snapshot on the text that a sink keeps; a sink that exposes its bytes has just this text, and nothing
+    /// Opens a snapshot on `text`, which `sink` keeps; a sink that exposes its bytes has just this text, and nothing
     /// buffered.
     ///
     /// The last lines are the clocks that the text has. A torn last line, one without its newline, is ended by
     /// `#` and a newline, appended and flushed, so it never becomes a clock line. The sink comes back with a
     /// fault. Takes no memory, and succeeds, where the text is empty or ends in a newline.
     ///
-    /// A sink with a plan fails just where the plan fails this append or this flush, and what is left of the plan is
+    /// A sink with a plan fails just where the plan fails that append or that flush, and what is left of the plan is
     /// that of the sink which comes back.
     pub fn open(alloc: Global, text: &[u8], sink: S) -> Result<Self, (S, SealFault)>
         requires { HasText text.now (S.device sink) }
@@ -187,7 +188,7 @@ impl<S: Sink> Snapshot<S> {
         Snapshot::open_read(alloc, text, read_clocks(text), sink)
     }
 
-    /// As `open`, where the clocks of the text were read before ([`read_clocks`]).
+    /// As `open`, where `clocks` were read from `text` before, as [`read_clocks`] does.
     pub fn open_read(
         alloc: Global,
         text: &[u8],
@@ -225,12 +226,12 @@ impl<S: Sink> Snapshot<S> {
         })
     }
 
-    /// Writes a time, and a line of its own, as `put_event_line`, `put_query_line` or `put_least_line` makes it, or none
-    /// (`own` is empty): in one append and one flush the time's clock line, where the time is above the last one of its
-    /// kind, and then its own line. They are durable then. Beside a line of its own the number of the clock line has a zero
+    /// Writes `time`, and a line of its own, `own`, as `put_event_line`, `put_query_line` or `put_least_line` makes it, or none
+    /// (`own` is empty): in one append and one flush the clock line of `time`, where it is above the last one of its
+    /// kind, and then `own`. They are durable then. Where `own` isn't empty, the number of the clock line has a zero
     /// in front. (`snapshot.go`: `processUserEvent`, which leaves the flush for later, `processQuery` and `updateClock`.)
     ///
-    /// Where there is nothing to write, this is Ok, takes no memory and makes no call of the sink. Else memory is taken
+    /// Where there is nothing to write, it is Ok, no memory is taken and the sink isn't called. Else memory is taken
     /// before the sink is touched. After [`NoteFault::SinkFault`] a part of the bytes may be durable, and each later note is
     /// [`NoteFault::Stopped`].
     pub fn note(
@@ -255,8 +256,8 @@ impl<S: Sink> Snapshot<S> {
         self.write(alloc, kind, last.max(value), bytes.as_slice())
     }
 
-    /// Writes bytes with which the last line of a kind becomes this value: one append and one flush. Memory is taken
-    /// before the sink is touched.
+    /// Appends `bytes` to the sink and flushes them: the last line of `kind` says `value` then. Memory is taken before the sink
+    /// is touched.
     fn write(
         &mut self,
         alloc: Global,
@@ -299,11 +300,11 @@ impl<S: Sink> Snapshot<S> {
         self.stopped
     }
 
-    /// Whether a compaction is worth doing that keeps lines of this length together (0: none): more than `limit` bytes are
-    /// kept, and it would take away at least half of them. Never on a stopped snapshot, which can't be compacted, and never
-    /// at a limit of 2^64 - 1. A length stays at 2^64 - 1.
+    /// Whether a compaction is worth doing: the text has more than `limit` bytes, and at least half of them would go.
+    /// `lines_length` is how many bytes of lines it would keep beside those of the clocks (0: none). Never on a stopped
+    /// snapshot, which can't be compacted, and never at a limit of 2^64 - 1. A length above 2^64 - 1 counts as that.
     ///
-    /// The bytes are those of the text that it was opened on, of its end where that was torn, and of the lines and the
+    /// The bytes are those of the text that the snapshot was opened on, of its end where that was torn, and of the lines and the
     /// compactions since: so also over a sink that shows nothing of its bytes. Takes no memory, and the same time
     /// however long the text is. (`snapshot.go`, `appendLine`, which compacts where the file is longer than 128 KiB and
     /// than twice what its nodes are estimated to need.)
@@ -333,10 +334,10 @@ impl<S: Sink> Snapshot<S> {
 }
 
 impl<S: ReplaceSink> Snapshot<S> {
-    /// Replaces what the sink keeps by these lines, which are those of the least times and of what is kept, or none; and by
-    /// the last line of the member, event and query clock behind them, in this order; a kind without a line is left out. Behind
-    /// lines that are kept, those of events and of queries have a zero in front of their number. It is one replace, and never
-    /// an append or a flush.
+    /// Replaces what the sink keeps by `lines`, and behind them by the last line of the member, event and query clock, in this
+    /// order; a kind without a line is left out. `lines` are those of the least times and of the kept events and queries, or
+    /// none. Behind some, the clock lines of events and of queries have a zero in front of their number. It is one replace,
+    /// and never an append or a flush.
     ///
     /// On a stopped snapshot no call is made. After [`NoteFault::SinkFault`] the old text is durable or the new
     /// one, and the snapshot is stopped. (`snapshot.go`, `compact`, which writes the alive members too.)
@@ -352,7 +353,7 @@ impl<S: ReplaceSink> Snapshot<S> {
         self.replace_text(alloc, text.as_slice())
     }
 
-    /// Replaces what the sink keeps by this text, which has the same last lines: one replace.
+    /// Replaces what the sink keeps by `text`, which has the same last clock lines: one replace.
     fn replace_text(&mut self, alloc: Global, text: &[u8]) -> Result<(), NoteFault>
         requires runs { self.old.snapshot.stopped ≡ false }
         ensures { ReplacesText text.now self.old self.new result }
@@ -372,22 +373,22 @@ impl<S: ReplaceSink> Snapshot<S> {
 }
 
 impl Snapshot<MemSink> {
-    /// Tells the sink to fail its n-th append from now on, or none at 0. Takes no memory.
+    /// Tells the sink to fail its `n`-th append from now on, or none where `n` is 0. Takes no memory.
     pub fn fail_append(&mut self, n: u64)
         ensures { self.new ≡ with_new_plan (append_failing n) self.old }
     {
         self.sink.fail_append(n);
     }
 
-    /// Tells the sink to fail its n-th flush from now on, or none at 0. Takes no memory.
+    /// Tells the sink to fail its `n`-th flush from now on, or none where `n` is 0. Takes no memory.
     pub fn fail_flush(&mut self, n: u64)
         ensures { self.new ≡ with_new_plan (flush_failing n) self.old }
     {
         self.sink.fail_flush(n);
     }
 
-    /// Tells the sink to fail its n-th replace from now on, and to keep the new text or the old one then, or to
-    /// fail none at 0. Takes no memory.
+    /// Tells the sink to fail its `n`-th replace from now on, and to keep the new text (`keeps_new`) or the old one then, or to
+    /// fail none where `n` is 0. Takes no memory.
     pub fn fail_replace(&mut self, n: u64, keeps_new: bool)
         ensures { self.new ≡ with_new_plan (replace_failing n keeps_new) self.old }
     {

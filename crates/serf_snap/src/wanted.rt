@@ -7,14 +7,14 @@ use crate::kept::{KeptEvent, Wanted};
 use serf_lamport::Time;
 
 impl Wanted {
-    /// Whether this time is wanted.
+    /// Whether `time` is wanted.
     pub(crate) fn has_time(self, time: Time) -> bool
         ensures { result ≡ is_time_wanted self time }
     {
         self.from <= time.get() && time.get() < self.below
     }
 
-    /// Whether this event is wanted.
+    /// Whether `event` is wanted: its time is, and its texts are short enough.
     pub(crate) fn has_event(self, event: &KeptEvent) -> bool
         ensures { result ≡ is_event_wanted self event.now }
     {

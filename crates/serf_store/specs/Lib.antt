@@ -1,3 +1,4 @@
+pub mod Faults
 pub mod MemFile
 pub mod Paths
 pub mod Store

@@ -1,12 +1,17 @@
 -- A text's file in memory.
-use Rattle.std.specs.Prelude.{ℕ, List, [], Some, None, false}
-use Rattle.serf_store.specs.TextFile.{Kept, kept_text}
+use Rattle.std.specs.Prelude.{ℕ, List, None, false}
+use Rattle.serf_store.specs.TextFile.{Kept, kept_text, made_with}
 
--- what it keeps, and how often a call of it has failed
+-- what it keeps, how often a call of it has failed, and which call from now on is to fail, 0 for none
 pub record MemFileState : Type 0 where
   pub kept : Kept
   pub failures : ℕ
+  pub failing : ℕ
 
--- a file that keeps this text and has not failed
-abbrev pub fresh_file : List ℕ → MemFileState
-fresh_file text = record { kept = kept_text text; failures = 0 }
+-- a file that keeps this text and has not failed, whose n-th call is to fail
+abbrev pub fresh_file : List ℕ → ℕ → MemFileState
+fresh_file text n = record { kept = kept_text text; failures = 0; failing = n }
+
+-- a file that was just made and written: nothing of it is on the device, nor its name
+abbrev pub made_file : List ℕ → ℕ → MemFileState
+made_file text n = record { kept = record { text = made_with text; beside = None; is_renamed = false; is_named = false }; failures = 0; failing = n }

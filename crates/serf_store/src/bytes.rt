@@ -1,4 +1,4 @@
-//! The bytes of a file in memory.
+//! The bytes of a file in memory, for tests: which of them are on the device, and which a crash can lose.
 
 ghost use Rattle.std.specs.Prelude.{◌≡◌, OnOk, OnErr};
 ghost use Rattle.serf_store.specs.TextFile.{all_of, brought, made_with, on_device, with_more};
@@ -10,6 +10,7 @@ use std::marker::Model;
 #[derive(Drop)]
 pub struct MemBytes {
     bytes: Vec<u8>,
+    /// How many of the bytes are on the device: the first ones.
     durable: usize,
 }
 
@@ -29,7 +30,7 @@ impl Model for MemBytes {
 }
 
 impl MemBytes {
-    /// A file with these bytes, all on the device.
+    /// A file with `bytes`, all on the device.
     pub fn kept(bytes: Vec<u8>) -> Self
         ensures { result ≡ on_device bytes.items }
     {
@@ -37,21 +38,21 @@ impl MemBytes {
         MemBytes { bytes, durable }
     }
 
-    /// A file that was just made, with these bytes.
+    /// A file that was just made, with `bytes`, none on the device.
     pub fn made(bytes: Vec<u8>) -> Self
         ensures { result ≡ made_with bytes.items }
     {
         MemBytes { bytes, durable: 0 }
     }
 
-    /// All bytes.
+    /// All bytes, on the device or not.
     pub fn all(&self) -> &[u8]
         ensures { result.now ≡ all_of self.now }
     {
         &self.bytes
     }
 
-    /// Writes these bytes after the others. On want of memory all is as it was.
+    /// Appends `bytes`, which aren't on the device until `sync`. On want of memory all is as it was.
     pub fn write(&mut self, bytes: &[u8]) -> Result<(), AllocError>
         ensures ok { OnOk result (self.new ≡ with_more bytes.now self.old) }
         ensures fault { OnErr result (self.new ≡ self.old) }

@@ -1,5 +1,8 @@
 //! Why a store was not opened.
 
+ghost use Rattle.std.specs.Prelude.{◌≡◌};
+ghost use Rattle.serf_store.specs.declared.fault.StoreFault.TheVariants.{OutOfMemory};
+
 use std::alloc::AllocError;
 use std::io;
 use thiserror::Error;
@@ -40,6 +43,8 @@ pub enum StoreFault {
 }
 
 impl From<AllocError> for StoreFault {
+    ghost from_gives = { λ _ fault. fault ≡ OutOfMemory };
+
     fn from(_fault: AllocError) -> Self {
         StoreFault::OutOfMemory
     }

@@ -1,4 +1,4 @@
-//! A file that one opening has at a time.
+//! How a file is locked, so that one opening has it at a time.
 
 use std::fs::{File, TryLockError};
 

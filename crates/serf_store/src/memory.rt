@@ -1,8 +1,9 @@
 //! A text's file in memory, for tests.
 
-ghost use Rattle.std.specs.Prelude.{◌≡◌, OnErr, OnOk, Some};
-ghost use Rattle.serf_snap.specs.Device.{HasFailed};
-ghost use Rattle.serf_store.specs.MemFile.{fresh_file};
+ghost use Rattle.std.specs.Prelude.{◌≡◌, ◌≢◌, ◌-◌, IfErr, IsErr, OnErr, OnOk, None, Some, false};
+ghost use Rattle.std.specs.IoError.{error_kind};
+ghost use Rattle.serf_snap.specs.Device.{counted};
+ghost use Rattle.serf_store.specs.MemFile.{fresh_file, made_file};
 
 use crate::bytes::MemBytes;
 use crate::file::TextFile;
@@ -19,7 +20,11 @@ pub struct MemFile {
     alloc: Global,
     text: MemBytes,
     beside: Option<MemBytes>,
+    /// Whether the file beside has the text's name, but not yet on the device.
     is_renamed: bool,
+    /// Whether the name of the text's file is on the device.
+    is_named: bool,
+    /// Which call from now on fails, 0 where none does.
     failing: u64,
     failures: u64,
 }
@@ -30,31 +35,62 @@ impl Model for MemFile {
     ghost Value = { MemFileState };
 
     ghost view = { λ a. record {
-      kept = record { text = a.text; beside = a.beside; is_renamed = a.is_renamed };
+      kept = record {
+        text = a.text;
+        beside = a.beside;
+        is_renamed = a.is_renamed;
+        is_named = a.is_named;
+      };
       failures = a.failures;
+      failing = a.failing;
     } };
 }
 
 impl MemFile {
-    /// A file with this text, all on the device, whose n-th call fails and no other; none where n is 0.
+    /// A file with `text`, all on the device, whose `n`-th call fails and no other; none where `n` is 0.
     pub fn new(alloc: Global, text: Vec<u8>, n: u64) -> Self
-        ensures { result ≡ fresh_file text.items }
+        ensures { result ≡ fresh_file text.items n }
+    {
+        MemFile::of(alloc, MemBytes::kept(text), true, n)
+    }
+
+    /// A file that was just made and written, as a crash can leave it: neither `text` nor its name is on the device.
+    /// Its `n`-th call fails and no other; none where `n` is 0.
+    pub fn just_made(alloc: Global, text: Vec<u8>, n: u64) -> Self
+        ensures { result ≡ made_file text.items n }
+    {
+        MemFile::of(alloc, MemBytes::made(text), false, n)
+    }
+
+    /// A file with the bytes `text` and nothing beside it, whose name is on the device where `is_named`. Its `n`-th call fails.
+    fn of(alloc: Global, text: MemBytes, is_named: bool, n: u64) -> Self
+        ensures text { result.kept.text ≡ text }
+        ensures beside { result.kept.beside ≡ None }
+        ensures renamed { result.kept.is_renamed ≡ false }
+        ensures named { result.kept.is_named ≡ is_named }
+        ensures failures { result.failures ≡ 0 }
+        ensures failing { result.failing ≡ n }
     {
         MemFile {
             alloc,
-            text: MemBytes::kept(text),
+            text,
             beside: None,
             is_renamed: false,
+            is_named,
             failing: n,
             failures: 0,
         }
     }
 
-    /// A call begins: an error where it is the one that fails.
+    /// Begins a call, and counts down to the one that fails: an error where it is that one.
     fn begin(&mut self) -> io::Result<()>
         ensures kept { self.new.kept ≡ self.old.kept }
         ensures unfailed { OnOk result (self.new.failures ≡ self.old.failures) }
-        ensures failed { OnErr result (HasFailed self.old.failures self.new.failures) }
+        ensures failed { OnErr result (self.new.failures ≡ counted self.old.failures) }
+        ensures failing { self.new.failing ≡ self.old.failing - 1 }
+        ensures planned { self.old.failing ≡ 1 → IsErr result }
+        ensures alone { OnErr result (self.old.failing ≡ 1) }
+        ensures kind { IfErr result (λ e. error_kind e ≢ ErrorKind.OutOfMemory) }
     {
         let fails = self.failing == 1;
         self.failing = self.failing.saturating_sub(1);
@@ -65,10 +101,12 @@ impl MemFile {
         }
     }
 
-    /// Counts a failure of this kind.
+    /// Counts a failure, and gives the error of the kind `kind`.
     fn failed(&mut self, kind: ErrorKind) -> io::Error
         ensures kept { self.new.kept ≡ self.old.kept }
-        ensures failed { HasFailed self.old.failures self.new.failures }
+        ensures failed { self.new.failures ≡ counted self.old.failures }
+        ensures failing { self.new.failing ≡ self.old.failing }
+        ensures kind { error_kind result ≡ kind }
     {
         self.failures = self.failures.saturating_add(1);
         io::Error::from(kind)
@@ -79,6 +117,8 @@ impl TextFile for MemFile {
     ghost kept = { λ m. Some m.kept };
 
     ghost failures = { λ m. m.failures };
+
+    ghost plan = { λ m. Some m.failing };
 
     fn read(&mut self, alloc: Global) -> io::Result<Vec<u8>> {
         self.begin()?;
@@ -137,6 +177,7 @@ impl TextFile for MemFile {
             }
             self.is_renamed = false;
         }
+        self.is_named = true;
         Ok(())
     }
 }

@@ -1,10 +1,15 @@
 //! The way from a path to its file: links are followed, the file is opened and locked, and what a crash left is removed.
 
+ghost use Rattle.std.specs.Prelude.{◌≡◌, ◌≢◌, ◌↔◌, IfErr, IfOk, IsErrOf, IsOk};
+ghost use Rattle.std.specs.IoError.{error_kind};
+ghost use Rattle.std.specs.Fs.{IsFile, file_type};
+ghost use Rattle.serf_store.specs.Faults.{IsOfFile, IsOfLeftover, IsOfOpen, IsOfPath, locked_as};
+
 use crate::fault::StoreFault;
 use crate::lock::LockFile;
 use crate::paths::folder_of;
 use std::alloc::Global;
-use std::fs::{Files, OpenFile, OpenOptions, TryLockError};
+use std::fs::{Files, Metadata, OpenFile, OpenOptions, TryLockError};
 use std::io;
 use std::io::ErrorKind;
 use std::os::unix::fs::{MetadataExt, OpenOptionsExt};
@@ -13,8 +18,10 @@ use std::path::{Path, PathBuf};
 /// How often an opening begins anew, since the file was replaced between its opening and its lock.
 const TRIES: usize = 100;
 
-/// The path without links. The file itself need not be there.
-pub fn real_path<R: Files>(alloc: Global, files: &R, path: &str) -> Result<PathBuf, StoreFault> {
+/// `path` without links. The file itself need not be there.
+pub fn real_path<R: Files>(alloc: Global, files: &R, path: &str) -> Result<PathBuf, StoreFault>
+    ensures { IfErr result IsOfPath }
+{
     match files.canonicalize(alloc, path) {
         Ok(real) => Ok(real),
         Err(fault) if fault.kind() == ErrorKind::NotFound => real_place(alloc, files, path),
@@ -22,8 +29,10 @@ pub fn real_path<R: Files>(alloc: Global, files: &R, path: &str) -> Result<PathB
     }
 }
 
-/// The path without links of a file that isn't there.
-fn real_place<R: Files>(alloc: Global, files: &R, path: &str) -> Result<PathBuf, StoreFault> {
+/// `path` without links, where its file isn't there: its folder must be.
+fn real_place<R: Files>(alloc: Global, files: &R, path: &str) -> Result<PathBuf, StoreFault>
+    ensures { IfErr result IsOfPath }
+{
     let Some(name) = Path::new(path).file_name() else {
         return Err(StoreFault::NotAFile);
     };
@@ -34,8 +43,11 @@ fn real_place<R: Files>(alloc: Global, files: &R, path: &str) -> Result<PathBuf,
     Ok(real)
 }
 
-/// Why a path leads nowhere.
-fn path_fault(fault: io::Error) -> StoreFault {
+/// What a store calls `fault`, the system's answer where a path leads nowhere.
+fn path_fault(fault: io::Error) -> StoreFault
+    ensures memory { error_kind fault ≡ ErrorKind.OutOfMemory → result ≡ StoreFault.OutOfMemory }
+    ensures other { error_kind fault ≢ ErrorKind.OutOfMemory → result ≡ StoreFault.Path fault }
+{
     if fault.kind() == ErrorKind::OutOfMemory {
         StoreFault::OutOfMemory
     } else {
@@ -43,10 +55,11 @@ fn path_fault(fault: io::Error) -> StoreFault {
     }
 }
 
-/// Opens or makes the file of this path, and locks it.
+/// Opens or makes the file at `path`, and locks it. Where it was replaced before it was locked, the opening begins anew.
 pub fn open_locked<R: Files>(files: &R, path: &str) -> Result<R::File, StoreFault>
 where
     R::File: LockFile,
+    ensures { IfErr result IsOfFile }
 {
     for _ in 0..TRIES {
         refuse_other(files, path)?;
@@ -59,9 +72,22 @@ where
     Err(StoreFault::InUse)
 }
 
-/// Refuses what is there and no plain file, before it is opened.
-fn refuse_other<R: Files>(files: &R, path: &str) -> Result<(), StoreFault> {
-    match files.symlink_metadata(path) {
+/// Refuses what stands at `path` and is no plain file, before it is opened.
+fn refuse_other<R: Files>(files: &R, path: &str) -> Result<(), StoreFault>
+    ensures { IfErr result IsOfFile }
+{
+    plain(files.symlink_metadata(path))
+}
+
+/// Refuses what has the name, as `named` says, and is no plain file. There may be nothing.
+fn plain(named: io::Result<Metadata>) -> Result<(), StoreFault>
+    ensures file { IfOk named (λ m. IsOk result ↔ IsFile (file_type m)) }
+    ensures other { IfOk named (λ _. IfErr result (λ f. f ≡ StoreFault.NotAFile)) }
+    ensures missing { IfErr named (λ e. error_kind e ≡ ErrorKind.NotFound → IsOk result) }
+    ensures fault { IfErr named (λ e. error_kind e ≢ ErrorKind.NotFound
+        → IsErrOf result (StoreFault.Open e)) }
+{
+    match named {
         Ok(named) if named.is_file() => Ok(()),
         Ok(_) => Err(StoreFault::NotAFile),
         Err(fault) if fault.kind() == ErrorKind::NotFound => Ok(()),
@@ -69,8 +95,10 @@ fn refuse_other<R: Files>(files: &R, path: &str) -> Result<(), StoreFault> {
     }
 }
 
-/// Opens or makes the file with the text, to read it and to append to it. Only its owner may open one that is made.
-fn open_text<R: Files>(files: &R, path: &str) -> Result<R::File, StoreFault> {
+/// Opens or makes the file with the text at `path`, to read it and to append to it. Only its owner may open one that is made.
+fn open_text<R: Files>(files: &R, path: &str) -> Result<R::File, StoreFault>
+    ensures { IfErr result IsOfOpen }
+{
     OpenOptions::new()
         .read(true)
         .append(true)
@@ -80,16 +108,25 @@ fn open_text<R: Files>(files: &R, path: &str) -> Result<R::File, StoreFault> {
         .map_err(StoreFault::Open)
 }
 
-/// Locks the file, unless another opening has it.
-fn lock<F: LockFile>(file: &F) -> Result<(), StoreFault> {
-    match file.lock_now() {
+/// Locks `file`, unless another opening has it.
+fn lock<F: LockFile>(file: &F) -> Result<(), StoreFault>
+    ensures { IfErr result IsOfFile }
+{
+    locked(file.lock_now())
+}
+
+/// What a store calls the answer of a lock: `InUse` where another opening has it.
+fn locked(answer: Result<(), TryLockError>) -> Result<(), StoreFault>
+    ensures { result ≡ locked_as answer }
+{
+    match answer {
         Ok(()) => Ok(()),
         Err(TryLockError::WouldBlock) => Err(StoreFault::InUse),
         Err(TryLockError::Error(fault)) => Err(StoreFault::Lock(fault)),
     }
 }
 
-/// Whether the path still names this file, and no link does.
+/// Whether `path` still names `file`, and not through a link.
 fn is_current<R: Files>(files: &R, path: &str, file: &R::File) -> io::Result<bool> {
     let own = file.metadata()?;
     match files.symlink_metadata(path) {
@@ -99,12 +136,14 @@ fn is_current<R: Files>(files: &R, path: &str, file: &R::File) -> io::Result<boo
     }
 }
 
-/// Removes what a crash left at this path, where it left anything.
-pub fn remove_leftover<R: Files>(files: &R, path: &str) -> Result<(), StoreFault> {
+/// Removes what a crash left at `path`, where it left anything.
+pub fn remove_leftover<R: Files>(files: &R, path: &str) -> Result<(), StoreFault>
+    ensures { IfErr result IsOfLeftover }
+{
     remove_if_there(files, path).map_err(StoreFault::Leftover)
 }
 
-/// Removes the file of this path, where there is one.
+/// Removes the file at `path`, where there is one.
 pub fn remove_if_there<R: Files>(files: &R, path: &str) -> io::Result<()> {
     match files.remove_file(path) {
         Err(fault) if fault.kind() != ErrorKind::NotFound => Err(fault),

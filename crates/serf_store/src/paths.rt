@@ -6,7 +6,7 @@ ghost use Rattle.serf_store.specs.Paths.{beside_of, folder_of};
 use std::alloc::{AllocError, Global};
 use std::path::Path;
 
-/// What the path of the text that is to replace the file's has after the path of the file.
+/// What the path of the file beside has after the path of the text's file.
 const BESIDE: &str = ".new";
 
 /// The paths of a text's file.
@@ -21,7 +21,7 @@ pub struct Paths {
 }
 
 impl Paths {
-    /// The paths beside this path.
+    /// The paths of the text's file at `path`.
     pub fn of(alloc: Global, path: &str) -> Result<Self, AllocError>
         ensures file { IfOk result (λ p. string_bytes p.file ≡ path.now) }
         ensures beside { IfOk result (λ p. string_bytes p.beside ≡ beside_of path.now) }
@@ -35,7 +35,7 @@ impl Paths {
     }
 }
 
-/// A text and another after it.
+/// `text` and `more` after it, in a new string.
 fn joined(alloc: Global, text: &str, more: &str) -> Result<String, AllocError>
     ensures { IfOk result (λ s. string_bytes s ≡ text.now ++ more.now) }
 {
@@ -44,7 +44,7 @@ fn joined(alloc: Global, text: &str, more: &str) -> Result<String, AllocError>
     Ok(whole)
 }
 
-/// The folder of a path: its parent, or the current folder where it names none.
+/// The folder of the file at `path`: its parent, or the current folder where it names none.
 pub fn folder_of(path: &str) -> &str
     ensures { result.now ≡ folder_of path.now }
 {

@@ -1,8 +1,10 @@
-//! A sink over a text's file.
+//! The sink over a text's file: it appends lines, brings them to the device, and replaces the text in one step.
 
-ghost use Rattle.std.specs.Prelude.{◌≡◌, ◌^◌, IfOk, IfSome, None, OnOk, OnErr};
+ghost use Rattle.std.specs.Prelude.{◌≡◌, ◌≢◌, ◌⊎◌, ◌^◌, IfErr, IfOk, IfSome, None, OnOk, OnErr};
 ghost use Rattle.std.specs.Option.{option_map};
-ghost use Rattle.serf_snap.specs.Device.{HasFailed};
+ghost use Rattle.std.specs.IoError.{error_kind};
+ghost use Rattle.serf_snap.specs.Device.{counted};
+ghost use Rattle.serf_store.specs.Faults.{IsOfOpening, IsOfText, OpensAsPlanned};
 ghost use Rattle.serf_store.specs.TextFile.{Becomes, HasEither, IsSettled, all_of, kept_text, on_device};
 ghost use Rattle.serf_store.specs.Store.{file_device};
 
@@ -36,7 +38,7 @@ pub struct FileStore<F: TextFile> {
 impl<F: TextFile> Model for FileStore<F> {
     ghost use Rattle.std.specs.Prelude.{◌≡◌, ◌↔◌};
     ghost use Rattle.serf_snap.specs.Device.{Device};
-    ghost use Rattle.serf_store.specs.TextFile.{IsSettled};
+    ghost use Rattle.serf_store.specs.TextFile.{IsNamed, IsSettled};
     ghost use Rattle.serf_store.specs.Store.{file_device, text_of};
 
     ghost Value = { Device };
@@ -45,19 +47,21 @@ impl<F: TextFile> Model for FileStore<F> {
         a.failures a.append_calls a.flush_calls a.replace_calls };
 
     ghost invariant = { λ a. (a.failures ≡ 0 → IsSettled (F.kept a.file))
-        × (a.failures ≡ 0 ↔ F.failures a.file ≡ 0) };
+        × (a.failures ≡ 0 ↔ F.failures a.file ≡ 0) × IsNamed (F.kept a.file) };
 }
 
 impl<F: TextFile + Drop> FileStore<F> {
-    /// A store over this file, which hasn't failed, and its text, all of it on the device.
+    /// A store over `file`, which hasn't failed, and its text: all of it is on the device, and so is its name.
     ///
-    /// Each error names the call that failed.
+    /// Each error names the call that failed: the text is read, then brought to the device, and then the folder is.
     pub fn over(alloc: Global, file: F) -> Result<(Self, Vec<u8>), StoreFault>
         requires unfailed { F.failures file ≡ 0 }
         requires settled { IsSettled (F.kept file) }
         ensures text { IfOk result (λ r. r.0 ≡ file_device
             (option_map (λ _. on_device r.1.items) (F.kept file)) 0 0 0 0) }
         ensures read { IfOk result (λ r. IfSome (F.kept file) (λ k. r.1.items ≡ all_of k.text)) }
+        ensures fault { IfErr result IsOfText }
+        ensures planned { IfSome (F.plan file) (λ n. OpensAsPlanned n result) }
     {
         let mut opened = file;
         let text = opened.read(alloc).map_err(read_fault)?;
@@ -78,19 +82,20 @@ impl<'a, R: Files> FileStore<SystemFile<'a, R>>
 where
     R::File: LockFile,
 {
-    /// Opens or makes the file at this path, locks it, and reads its text.
+    /// Opens or makes the file at `path`, locks it, and reads its text.
     ///
     /// A link is followed to its file, now and not again. What a crash left beside the file is removed: it never took
     /// the file's place. Give the text to [`serf_snap::Snapshot::open`] or to the agent that opens on it. Each error
     /// names what failed; the text is as it was then, and nothing is locked.
     pub fn open(alloc: Global, files: &'a R, path: &str) -> Result<(Self, Vec<u8>), StoreFault>
-        ensures { IfOk result (λ r. r.0 ≡ file_device None 0 0 0 0) }
+        ensures device { IfOk result (λ r. r.0 ≡ file_device None 0 0 0 0) }
+        ensures fault { IfErr result (λ f. IsOfOpening f ⊎ IsOfText f) }
     {
         FileStore::over(alloc, SystemFile::open(alloc, files, path)?)
     }
 }
 
-/// Writes the text beside the file, and puts it in the file's place.
+/// Writes `text` beside `file`, brings it to the device, and gives it the file's name there.
 fn put_in_place<F: TextFile>(file: &mut F, text: &[u8]) -> io::Result<()>
     requires { IsSettled (F.kept file.old) }
     ensures ok { OnOk result (F.kept file.new
@@ -98,7 +103,7 @@ fn put_in_place<F: TextFile>(file: &mut F, text: &[u8]) -> io::Result<()>
     ensures fault { OnErr result (Becomes (HasEither text.now)
         (F.kept file.old) (F.kept file.new)) }
     ensures unfailed { OnOk result (F.failures file.new ≡ F.failures file.old) }
-    ensures failed { OnErr result (HasFailed (F.failures file.old) (F.failures file.new)) }
+    ensures failed { OnErr result (F.failures file.new ≡ counted (F.failures file.old)) }
 {
     file.write_beside(text)?;
     file.sync_beside()?;
@@ -106,8 +111,11 @@ fn put_in_place<F: TextFile>(file: &mut F, text: &[u8]) -> io::Result<()>
     file.sync_folder()
 }
 
-/// Why the text was not read.
-fn read_fault(fault: io::Error) -> StoreFault {
+/// What a store calls `fault`, the error of a reading of the text.
+fn read_fault(fault: io::Error) -> StoreFault
+    ensures memory { error_kind fault ≡ ErrorKind.OutOfMemory → result ≡ StoreFault.OutOfMemory }
+    ensures other { error_kind fault ≢ ErrorKind.OutOfMemory → result ≡ StoreFault.Read fault }
+{
     if fault.kind() == ErrorKind::OutOfMemory {
         StoreFault::OutOfMemory
     } else {

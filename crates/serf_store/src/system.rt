@@ -1,7 +1,8 @@
-//! A text's file of the system: one call of the system for each of its own.
+//! A text's file of the system. Each call of a text's file is done by calls of the system, and counted where it fails.
 
-ghost use Rattle.std.specs.Prelude.{◌≡◌, IfOk, None, OnOk, OnErr};
-ghost use Rattle.serf_snap.specs.Device.{HasFailed};
+ghost use Rattle.std.specs.Prelude.{◌≡◌, IfErr, IfOk, None, OnOk, OnErr};
+ghost use Rattle.serf_snap.specs.Device.{counted};
+ghost use Rattle.serf_store.specs.Faults.{IsOfOpening};
 
 use crate::fault::StoreFault;
 use crate::file::TextFile;
@@ -36,9 +37,10 @@ where
 {
     ghost use Rattle.serf_store.specs.SystemFile.{system_failures};
 
-    /// Opens or makes the file at this path, and locks it. What a crash left beside it is removed.
+    /// Opens or makes the file at `path`, and locks it. What a crash left beside it is removed.
     pub fn open(alloc: Global, files: &'a R, path: &str) -> Result<Self, StoreFault>
-        ensures { IfOk result (λ s. system_failures s ≡ 0) }
+        ensures unfailed { IfOk result (λ s. system_failures s ≡ 0) }
+        ensures fault { IfErr result IsOfOpening }
     {
         let real = real_path(alloc, files, path)?;
         let paths = Paths::of(alloc, real.as_str())?;
@@ -55,9 +57,12 @@ where
 }
 
 impl<'a, R: Files> SystemFile<'a, R> {
-    /// Gives the file beside the name of the text's file, and writes to it from then on.
+    /// Renames the file beside, which is `file`, to the text's own name, and writes to it from then on. Where that fails, the old
+    /// file is still written to.
     fn take_name(&mut self, file: R::File) -> io::Result<()>
-        ensures { self.new.failures ≡ self.old.failures }
+        ensures ok { OnOk result (self.new.file ≡ file) }
+        ensures fault { OnErr result (self.new.file ≡ self.old.file) }
+        ensures failures { self.new.failures ≡ self.old.failures }
     {
         self.files.rename(&self.paths.beside, &self.paths.file)?;
         self.file = file;
@@ -65,11 +70,11 @@ impl<'a, R: Files> SystemFile<'a, R> {
     }
 }
 
-/// This answer, counted where it is a failure.
+/// The `answer` of a call, counted in `failures` where it is a failure.
 fn counted<T>(failures: &mut u64, answer: io::Result<T>) -> io::Result<T>
     ensures answer { result ≡ answer }
     ensures unfailed { OnOk answer (failures.new ≡ failures.old) }
-    ensures failed { OnErr answer (HasFailed failures.old failures.new) }
+    ensures failed { OnErr answer (failures.new ≡ counted failures.old) }
 {
     if answer.is_err() {
         *failures = failures.saturating_add(1);
@@ -77,26 +82,26 @@ fn counted<T>(failures: &mut u64, answer: io::Result<T>) -> io::Result<T>
     answer
 }
 
-/// All bytes of a file.
+/// All bytes of `file` that are still to be read.
 fn read_all<F: Read>(alloc: Global, file: &mut F) -> io::Result<Vec<u8>> {
     let mut text = Vec::new(alloc);
     file.read_to_end(&mut text)?;
     Ok(text)
 }
 
-/// Brings what was written to a file to the device.
+/// Flushes `file`, and brings its bytes to the device.
 fn bring<F: Write + OpenFile>(file: &mut F) -> io::Result<()> {
     file.flush()?;
     file.sync_data()
 }
 
-/// Brings all of a new file to the device, the length and the rights too.
+/// Flushes `file`, which is new, and brings all of it to the device, the length and the rights too.
 fn bring_all<F: Write + OpenFile>(file: &mut F) -> io::Result<()> {
     file.flush()?;
     file.sync_all()
 }
 
-/// A new file at this path, which only its owner may open.
+/// Makes a new file at `path`, which only its owner may open. Fails where there is one.
 fn make_new<R: Files>(files: &R, path: &str) -> io::Result<R::File> {
     OpenOptions::new()
         .read(true)
@@ -106,13 +111,13 @@ fn make_new<R: Files>(files: &R, path: &str) -> io::Result<R::File> {
         .open(files, path)
 }
 
-/// Gives a file the rights of another.
+/// Gives the file `to` the rights of the file `from`.
 fn copy_rights<F: OpenFile>(from: &F, to: &F) -> io::Result<()> {
     let rights = from.metadata()?.permissions().mode() & 0o777;
     to.set_permissions(Permissions::from_mode(rights))
 }
 
-/// A new file at this path with this text, locked, and with the rights of another.
+/// Makes a new file at `path` with `text`, locked, and with the rights of `old`. An older file at `path` is removed first.
 fn make_beside<R: Files>(files: &R, path: &str, old: &R::File, text: &[u8]) -> io::Result<R::File>
 where
     R::File: LockFile,
@@ -125,7 +130,7 @@ where
     Ok(new)
 }
 
-/// Brings the names in a folder to the device.
+/// Brings the names in `folder` to the device.
 fn sync_folder<R: Files>(files: &R, folder: &str) -> io::Result<()> {
     OpenOptions::new()
         .read(true)
@@ -133,7 +138,7 @@ fn sync_folder<R: Files>(files: &R, folder: &str) -> io::Result<()> {
         .sync_all()
 }
 
-/// There is no file beside.
+/// The error where there is no file beside.
 fn nothing_beside() -> io::Error {
     io::Error::from(ErrorKind::NotFound)
 }
@@ -145,6 +150,8 @@ where
     ghost kept = { λ _. None };
 
     ghost failures = { λ s. s.failures };
+
+    ghost plan = { λ _. None };
 
     fn read(&mut self, alloc: Global) -> io::Result<Vec<u8>> {
         let answer = read_all(alloc, &mut self.file);

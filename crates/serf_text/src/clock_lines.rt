@@ -6,6 +6,7 @@ use crate::put::put_number_line;
 use serf_snap::{ClockKind, read_clocks};
 use std::alloc::{AllocError, Global};
 
+/// The word for a kind of clock.
 fn word(kind: ClockKind) -> &'static [u8]
     ensures { result.now ≡ clock_word kind }
 {
@@ -16,6 +17,7 @@ fn word(kind: ClockKind) -> &'static [u8]
     }
 }
 
+/// Appends a clock's line.
 #[tactic(auto, unfolding(crate::specs::ClocksText::clock_entry))]
 fn put_clock(out: &mut Vec<u8>, kind: ClockKind, time: u64) -> Result<(), AllocError>
     ensures { OnOk result (out.new.items ≡ out.old.items ++ clock_entry kind time) }

@@ -10,7 +10,6 @@ mod input;
 mod kept;
 mod line_job;
 mod message_lines;
-mod output;
 mod put;
 mod stream;
 mod stream_fault;
@@ -24,9 +23,9 @@ pub use input::{InputFault, MAX_SCHEDULE_BYTES, read_input};
 pub use kept::MAX_LINE_BYTES;
 pub use line_job::{LineJob, LineTeller};
 pub use message_lines::{DecodeTextFault, decode_text, put_members, put_message, put_slot};
-pub use output::{WriteFault, write_output};
 pub use put::{
-    flag, put_hex, put_number, put_number_line, put_signed, put_with_hex, put_with_number,
+    WriteFault, flag, put_hex, put_number, put_number_line, put_signed, put_with_hex,
+    put_with_number, write_output,
 };
 pub use stream::{answer_lines, tell_lines};
 pub use stream_fault::{StreamFault, StreamLineFault};

@@ -34,6 +34,7 @@ pub enum DecodeTextFault {
     OutOfMemory,
 }
 
+/// Appends the lines of a query's time and ID.
 #[tactic(auto, unfolding(crate::specs::MessageText::identity_lines))]
 fn put_identity(out: &mut Vec<u8>, time: u64, id: u32) -> Result<(), AllocError>
     ensures { OnOk result (out.new.items ≡ out.old.items ++ identity_lines time id) }
@@ -42,6 +43,7 @@ fn put_identity(out: &mut Vec<u8>, time: u64, id: u32) -> Result<(), AllocError>
     put_number_line(out, b"ID", u64::from(id))
 }
 
+/// Appends the lines of whom a query is from.
 #[tactic(auto, unfolding(crate::specs::MessageText::asker_lines))]
 fn put_asker(out: &mut Vec<u8>, asked: &Query) -> Result<(), AllocError>
     ensures { OnOk result (out.new.items ≡ out.old.items
@@ -52,6 +54,7 @@ fn put_asker(out: &mut Vec<u8>, asked: &Query) -> Result<(), AllocError>
     put_hex_line(out, b"SourceNode", asked.source)
 }
 
+/// Appends the line of how many nodes are to relay an answer.
 #[tactic(auto, unfolding(crate::specs::MessageText::relay_line))]
 fn put_relay(out: &mut Vec<u8>, relay_factor: u8) -> Result<(), AllocError>
     ensures { OnOk result (out.new.items ≡ out.old.items ++ relay_line relay_factor) }
@@ -59,6 +62,7 @@ fn put_relay(out: &mut Vec<u8>, relay_factor: u8) -> Result<(), AllocError>
     put_number_line(out, b"RelayFactor", u64::from(relay_factor))
 }
 
+/// Appends the lines of a query's timeout and relays.
 #[tactic(auto, unfolding(crate::specs::MessageText::limit_lines))]
 fn put_limits(out: &mut Vec<u8>, asked: &Query) -> Result<(), AllocError>
     ensures { OnOk result (out.new.items ≡ out.old.items
@@ -68,6 +72,7 @@ fn put_limits(out: &mut Vec<u8>, asked: &Query) -> Result<(), AllocError>
     put_signed_line(out, b"Timeout", asked.timeout)
 }
 
+/// Appends the lines of a query's flags, relays and timeout.
 #[tactic(auto, unfolding(crate::specs::MessageText::handling_lines))]
 fn put_handling(out: &mut Vec<u8>, asked: &Query) -> Result<(), AllocError>
     ensures { OnOk result (out.new.items ≡ out.old.items
@@ -77,6 +82,7 @@ fn put_handling(out: &mut Vec<u8>, asked: &Query) -> Result<(), AllocError>
     put_limits(out, asked)
 }
 
+/// Appends the lines of an ack or a response.
 #[tactic(auto, unfolding(crate::specs::MessageText::answer_lines))]
 fn put_answer(out: &mut Vec<u8>, answer: &QueryResponse) -> Result<(), AllocError>
     ensures { OnOk result (out.new.items ≡ out.old.items
@@ -87,6 +93,7 @@ fn put_answer(out: &mut Vec<u8>, answer: &QueryResponse) -> Result<(), AllocErro
     put_hex_line(out, b"Payload", answer.payload)
 }
 
+/// Appends the lines of a name and a payload.
 #[tactic(auto, unfolding(crate::specs::MessageText::content_lines))]
 fn put_content(out: &mut Vec<u8>, name: &[u8], payload: &[u8]) -> Result<(), AllocError>
     ensures { OnOk result (out.new.items ≡ out.old.items ++ content_lines name.now payload.now) }
@@ -95,6 +102,7 @@ fn put_content(out: &mut Vec<u8>, name: &[u8], payload: &[u8]) -> Result<(), All
     put_hex_line(out, b"Payload", payload)
 }
 
+/// Appends a line of this name for each text, in hex.
 fn put_hex_lines(out: &mut Vec<u8>, name: &[u8], texts: Texts) -> Result<(), AllocError>
     ensures { OnOk result (out.new.items ≡ out.old.items
         ++ flat_map (hex_line name.now) (texts_left texts.entry)) }
@@ -105,6 +113,7 @@ fn put_hex_lines(out: &mut Vec<u8>, name: &[u8], texts: Texts) -> Result<(), All
     Ok(())
 }
 
+/// Appends the line of a member's status time.
 #[tactic(auto, unfolding(crate::specs::MessageText::status_line, crate::specs::TextParts::with_number))]
 fn put_status_line(out: &mut Vec<u8>, status: StatusTime) -> Result<(), AllocError>
     ensures { OnOk result (out.new.items ≡ out.old.items ++ status_line (status_of status.entry)) }
@@ -114,6 +123,7 @@ fn put_status_line(out: &mut Vec<u8>, status: StatusTime) -> Result<(), AllocErr
     out.extend_from_slice(b"\n")
 }
 
+/// Appends a line for each member's status time.
 fn put_status_lines(out: &mut Vec<u8>, status: StatusTimes) -> Result<(), AllocError>
     ensures { OnOk result (out.new.items ≡ out.old.items
         ++ flat_map status_line (status_left status.entry)) }
@@ -137,6 +147,7 @@ pub fn put_members(out: &mut Vec<u8>, state: &PushPull) -> Result<(), AllocError
     put_hex_lines(out, b"left", state.left)
 }
 
+/// Appends the line of an event in a slot.
 #[tactic(auto, unfolding(crate::specs::MessageText::event_line, crate::specs::TextParts::with_hex))]
 fn put_event_line(out: &mut Vec<u8>, event: EventView) -> Result<(), AllocError>
     ensures { OnOk result (out.new.items ≡ out.old.items
@@ -147,6 +158,7 @@ fn put_event_line(out: &mut Vec<u8>, event: EventView) -> Result<(), AllocError>
     out.extend_from_slice(b"\n")
 }
 
+/// Appends a line for each event in a slot.
 fn put_event_lines(out: &mut Vec<u8>, events: EventViews) -> Result<(), AllocError>
     ensures { OnOk result (out.new.items ≡ out.old.items
         ++ flat_map event_line (events_left events.entry)) }
@@ -182,6 +194,7 @@ pub fn put_slot(out: &mut Vec<u8>, number: u64, slot: &SlotView) -> Result<(), A
     }
 }
 
+/// Appends the lines of slots.
 fn put_slots(out: &mut Vec<u8>, slots: SlotViews) -> Result<(), AllocError>
     ensures { OnOk result (out.new.items ≡ out.old.items
         ++ slots_lines 0 (slots_left slots.entry)) }
@@ -194,6 +207,7 @@ fn put_slots(out: &mut Vec<u8>, slots: SlotViews) -> Result<(), AllocError>
     Ok(())
 }
 
+/// Appends the lines of an event clock and of the event buffer.
 #[tactic(auto, unfolding(crate::specs::MessageText::buffer_lines))]
 fn put_buffer(out: &mut Vec<u8>, time: u64, slots: SlotViews) -> Result<(), AllocError>
     ensures { OnOk result (out.new.items ≡ out.old.items
@@ -203,6 +217,7 @@ fn put_buffer(out: &mut Vec<u8>, time: u64, slots: SlotViews) -> Result<(), Allo
     put_slots(out, slots)
 }
 
+/// Appends the line that names an answer.
 #[tactic(auto, unfolding(crate::specs::MessageText::response_name))]
 fn put_response_name(out: &mut Vec<u8>) -> Result<(), AllocError>
     ensures { OnOk result (out.new.items ≡ out.old.items ++ response_name) }
@@ -210,6 +225,7 @@ fn put_response_name(out: &mut Vec<u8>) -> Result<(), AllocError>
     out.extend_from_slice(b"queryResponse\n")
 }
 
+/// Appends a user event's lines.
 fn put_user_event(out: &mut Vec<u8>, event: &UserEvent) -> Result<(), AllocError>
     ensures { OnOk result (out.new.items ≡ out.old.items
         ++ message_text (user_event (event_said event.now))) }
@@ -231,6 +247,7 @@ fn put_query_head(out: &mut Vec<u8>, asked: &Query) -> Result<(), AllocError>
     put_asker(out, asked)
 }
 
+/// Appends a query's lines.
 fn put_query(out: &mut Vec<u8>, asked: &Query) -> Result<(), AllocError>
     ensures { OnOk result (out.new.items ≡ out.old.items
         ++ message_text (query (query_said asked.now))) }
@@ -241,6 +258,7 @@ fn put_query(out: &mut Vec<u8>, asked: &Query) -> Result<(), AllocError>
     put_content(out, asked.name, asked.payload)
 }
 
+/// Appends an answer's lines.
 fn put_response(out: &mut Vec<u8>, answer: &QueryResponse) -> Result<(), AllocError>
     ensures { OnOk result (out.new.items ≡ out.old.items
         ++ message_text (query_response (response_said answer.now))) }
@@ -262,6 +280,7 @@ fn put_push_pull_head(out: &mut Vec<u8>, state: &PushPull) -> Result<(), AllocEr
     put_buffer(out, state.event_clock, state.slots)
 }
 
+/// Appends a push/pull's lines.
 fn put_push_pull(out: &mut Vec<u8>, state: &PushPull) -> Result<(), AllocError>
     ensures { OnOk result (out.new.items ≡ out.old.items
         ++ message_text (push_pull (push_pull_said state.now))) }
@@ -284,6 +303,7 @@ pub fn put_message(out: &mut Vec<u8>, message: &Message) -> Result<(), AllocErro
     }
 }
 
+/// The text of a message: its lines.
 fn message_text_of(alloc: Global, message: &Message) -> Result<Vec<u8>, AllocError>
     ensures { IfOk result (λ text. text.items ≡ message_text (message_of message.now)) }
 {

@@ -1,10 +1,15 @@
-//! Parts of printed lines.
-ghost use Rattle.std.specs.Prelude.{◌≡◌, ◌+◌, ◌*◌, ◌++◌, OnOk, decimal, take, vec_len};
+//! Parts of printed lines, and the writing of a whole text.
+
+ghost use Rattle.std.specs.Prelude.{◌≡◌, ◌++◌, OnErr, OnOk, decimal};
 ghost use Rattle.std.specs.Fmt.{signed_decimal};
+ghost use Rattle.std.specs.Io.KnownBytes.{Appends};
+ghost use Rattle.serf_text.specs.Io.{AppendsFront};
 ghost use Rattle.serf_text.specs.TextParts.{flag_line, flag_text, hex_line, hex_text, number_line, signed_line, with_hex, with_number};
 
 use itoa::Buffer;
 use std::alloc::AllocError;
+use std::io::Write;
+use thiserror::Error;
 
 /// Appends a number in decimal, or is an `AllocError` where there is no memory for it.
 pub fn put_number(out: &mut Vec<u8>, n: u64) -> Result<(), AllocError>
@@ -22,15 +27,6 @@ pub fn put_signed(out: &mut Vec<u8>, n: i64) -> Result<(), AllocError>
     out.extend_from_slice(buffer.format(n).as_bytes())
 }
 
-/// Makes room for two hex digits a byte.
-fn grow(out: &mut Vec<u8>, bytes: usize) -> Result<(), AllocError>
-    ensures front { OnOk result (take (vec_len out.old) out.new.items ≡ out.old.items) }
-    ensures len { OnOk result (vec_len out.new ≡ vec_len out.old + 2 * bytes) }
-{
-    let len = out.len();
-    out.resize(len.saturating_add(bytes.saturating_mul(2)), 0)
-}
-
 /// Appends bytes in lower case hex, or a dash for none. An `AllocError` comes only where there is no memory for
 /// the text.
 #[tactic(auto, unfolding(crate::specs::TextParts::hex_text))]
@@ -41,7 +37,7 @@ pub fn put_hex(out: &mut Vec<u8>, bytes: &[u8]) -> Result<(), AllocError>
         return out.extend_from_slice(b"-");
     }
     let from = out.len();
-    grow(out, bytes.len())?;
+    out.resize(from.saturating_add(bytes.len().saturating_mul(2)), 0)?;
     match hex::encode_to_slice(bytes, &mut out[from..]) {
         Ok(()) => Ok(()),
         Err(_) => unreachable!(),
@@ -132,4 +128,30 @@ pub(crate) fn put_flag_line(out: &mut Vec<u8>, name: &[u8], value: bool) -> Resu
     out.extend_from_slice(b" ")?;
     out.extend_from_slice(flag(value))?;
     out.extend_from_slice(b"\n")
+}
+
+/// A write failed or took no byte, or a flush failed.
+#[derive(Clone, Copy, Debug, PartialEq, Eq, Error)]
+#[error("a write failed")]
+pub struct WriteFault;
+
+/// Writes the whole text and flushes it. Each write takes a byte or is the last one. After a `WriteFault` a prefix of
+/// the text was written. Takes no memory.
+pub fn write_output<W: Write>(writer: &mut W, text: &[u8]) -> Result<(), WriteFault>
+    ensures done { OnOk result (Appends (W.contents writer.old) (W.contents writer.new) text.now) }
+    ensures front { OnErr result
+        (AppendsFront (W.contents writer.old) (W.contents writer.new) text.now) }
+{
+    let mut at = 0;
+    while at < text.len() {
+        match writer.write(&text[at..]) {
+            Err(_) => return Err(WriteFault),
+            Ok(0) => return Err(WriteFault),
+            Ok(n) => at += n,
+        }
+    }
+    if writer.flush().is_err() {
+        return Err(WriteFault);
+    }
+    Ok(())
 }

@@ -8,7 +8,7 @@ ghost use Rattle.serf_text.specs.Streams.{HasRead, IsDone, IsLeft, IsStopped, Re
 
 use crate::kept::{Kept, end_line, hold};
 use crate::line_job::{LineJob, LineTeller};
-use crate::output::write_output;
+use crate::put::write_output;
 use crate::stream_fault::StreamFault;
 use crate::words::cut;
 use std::alloc::Global;

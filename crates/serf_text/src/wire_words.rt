@@ -71,6 +71,7 @@ impl fmt::Display for WireWords {
     }
 }
 
+/// Appends the words of a fault of MessagePack.
 fn put_pack_fault(out: &mut Vec<u8>, fault: PackFault) -> Result<(), AllocError>
     ensures { OnOk result (out.new.items ≡ out.old.items ++ pack_text fault) }
 {

@@ -15,6 +15,7 @@ use std::alloc::{AllocError, Global};
 /// The bytes from which on a text is searched by vectors of bytes; in a shorter one that takes longer.
 const LONG_TEXT: usize = 64;
 
+/// Where `separator` stands first in a long text: many bytes are looked at together.
 #[inline(never)]
 fn place_in_long(text: &[u8], separator: u8) -> Option<usize>
     ensures place { result ≡ position (λ b. b == separator) text.now }
@@ -23,6 +24,7 @@ fn place_in_long(text: &[u8], separator: u8) -> Option<usize>
     memchr(separator, text)
 }
 
+/// Where `separator` stands first in a text, if it does.
 #[inline(always)]
 fn place_of(text: &[u8], separator: u8) -> Option<usize>
     ensures place { result ≡ position (λ b. b == separator) text.now }
@@ -183,6 +185,7 @@ pub fn number_at(words: &[&[u8]], place: usize) -> Result<u64, LineFault>
     }
 }
 
+/// The number that was found, where it is from `low` to `high`.
 fn keep_between(found: Option<u64>, low: u64, high: u64) -> Option<u64>
     ensures { result ≡ between low high found }
 {

@@ -1,4 +1,4 @@
-//! Slots that are made when a time enters them.
+//! Makes slots of a window, which come into memory when a time enters one of them or one above.
 
 ghost use Rattle.std.specs.Prelude.{◌≡◌, ◌+◌, ◌<◌, ◌≤◌, ◌++◌, replicate, OnOk, OnErr, vec_len, vec_capacity};
 ghost use Rattle.serf_wire.specs.Buffers.{unused_slot};
@@ -23,7 +23,7 @@ fn unused<K>(alloc: Global) -> TimeSlot<K>
     }
 }
 
-/// Adds so many slots that were never used. There is room for them.
+/// Appends `count` slots that were never used to `slots`, which has room for them.
 fn add_unused<K>(slots: &mut Vec<TimeSlot<K>>, alloc: Global, count: usize)
     requires { vec_len slots.old + count ≤ vec_capacity slots.old }
     ensures { slots.new.items ≡ slots.old.items ++ replicate count unused_slot }
@@ -33,8 +33,8 @@ fn add_unused<K>(slots: &mut Vec<TimeSlot<K>>, alloc: Global, count: usize)
     }
 }
 
-/// Makes the slot of this place of n, where it isn't in memory, and those before it: at least twice as many
-/// as there were, and at most n. What the slots hold is unchanged.
+/// Makes the slot at `place` of a window of `n` slots, where it isn't in memory, and those before it: `slots` has at least twice as
+/// many then, and at most `n`. What the slots hold is unchanged.
 pub(crate) fn reach<K>(
     slots: &mut Vec<TimeSlot<K>>,
     alloc: Global,

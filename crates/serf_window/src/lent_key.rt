@@ -12,13 +12,13 @@ pub trait LentKey<K> {
     /// Whether two keys of one time are the same.
     ghost same: { K → K → Bool };
 
-    /// The key that this is.
+    /// The key that lies here.
     ghost key: { Self → K };
 
-    /// Whether a copy of this takes memory.
+    /// Whether a copy of the key takes memory.
     ghost takes_memory: { Self → Bool };
 
-    /// Whether a key is the same as this. Takes no memory.
+    /// Whether `held` is the same key. Takes no memory.
     fn is(&self, held: &K) -> bool
         ensures { result ≡ same held.now (key self.now) };
 

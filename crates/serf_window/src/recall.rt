@@ -1,8 +1,8 @@
-//! Windows that are made again, of what was kept.
+//! What a window that is made again is given of what was kept.
 
 use serf_lamport::Time;
 
-/// A time and a key of it where it lies.
+/// An entry that was kept: its time, and its key where that lies.
 #[derive(Clone, Copy, Debug)]
 pub struct Offer<L> {
     pub time: Time,

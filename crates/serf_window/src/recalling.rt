@@ -1,4 +1,4 @@
-//! How a window takes back what was kept.
+//! Fills a window that is made again with the entries that were kept.
 
 ghost use Rattle.std.specs.Prelude.{◌≡◌, ◌<◌, List, length, All, IfOk, OnOk};
 ghost use Rattle.serf_window.specs.Recall.{entries_offered, entry_offered, recalled, recalled_one};
@@ -11,7 +11,7 @@ use crate::window::Window;
 use std::alloc::{AllocError, Global};
 
 impl<K: Drop> Window<K> {
-    /// Takes back one entry, and gives the least time that may be taken from then on.
+    /// Takes back the entry `offer`, where it is new, and gives the least time that may be taken from then on, which was `minimum`.
     fn take_back<L: LentKey<K>>(
         &mut self,
         alloc: Global,
@@ -47,8 +47,8 @@ impl<K: Drop> Window<K> {
         }
     }
 
-    /// Takes back what was kept, in order, as it would take it if it came: each that is new, with `minimum` as the least
-    /// time and a clock that is above all times. What finds its time full is left out, and then no time up to its own may be
+    /// Takes back `offers`, in order, as it would take them if they came: each that is new, with `minimum` as the least
+    /// time and `clock`, which is above all times. What finds its time full is left out, and then no time up to its own may be
     /// taken any more. Gives the least time that may be taken from then on.
     ///
     /// `AllocError` where there is no memory: the window holds those before, and perhaps not all of the next.

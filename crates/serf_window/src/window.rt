@@ -1,4 +1,4 @@
-//! The window of what came last.
+//! The window: what came last, in slots by time, and the verdict on what is offered.
 
 ghost use Rattle.std.specs.Prelude.{◌≡◌, ◌≢◌, false, ℕ, ◌<◌, ◌≤◌, ◌*◌, ◌%◌, ◌^◌, ◌↔◌, ◌⊎◌, List, [], ◌∷◌, ◌++◌, map, length, sum_by, OnOk, OnErr, IfOk, IsErr, slice_index_or};
 ghost use Rattle.std.specs.List.{list_any};
@@ -74,14 +74,14 @@ pub type Ids = RoomyList<u32>;
 /// A slot of IDs of queries.
 pub type IdSlot = TimeSlot<u32>;
 
-/// Whether one of these keys is the one that is offered.
+/// Whether one of the keys `held` is the same as `key`.
 fn is_among<K, L: LentKey<K>>(held: &[K], key: &L) -> bool
     ensures { result ≡ list_any (λ h. L.same h (L.key key.now)) held.now }
 {
     held.iter().any(|other| key.is(other))
 }
 
-/// The verdict of the slot of an offer's time, where that time isn't below the minimum, nor too old.
+/// The verdict on `key` at `time` by `slot`, which is that of `time`. The time isn't below the minimum, nor too old.
 fn verdict_in<K, L: LentKey<K>>(slot: &TimeSlot<K>, per_time: u64, time: Time, key: &L) -> Verdict
     ensures { result ≡ slot_verdict L.same per_time (slot_view slot.now) time (L.key key.now) }
 {
@@ -100,7 +100,7 @@ fn verdict_in<K, L: LentKey<K>>(slot: &TimeSlot<K>, per_time: u64, time: Time, k
     }
 }
 
-/// The verdict of the slot of this place. Where that was never used, nothing was entered.
+/// The verdict on `key` at `time` by the slot at `place`. Where that was never used, nothing was entered.
 #[inline(always)]
 fn verdict_at<K, L: LentKey<K>>(
     made: &[TimeSlot<K>],
@@ -119,7 +119,7 @@ fn verdict_at<K, L: LentKey<K>>(
     }
 }
 
-/// Takes a key into the slot of its time. A slot of an older time begins anew, and keeps its memory.
+/// Takes `key` into `slot`, which is that of `time`. A slot of an older time begins anew, and keeps its memory.
 fn take_in<K: Drop>(slot: &mut TimeSlot<K>, time: Time, key: K)
     requires room { 0 < slot.old.held.room }
     requires not_later { slot.old.time ≤ time }
@@ -133,7 +133,7 @@ fn take_in<K: Drop>(slot: &mut TimeSlot<K>, time: Time, key: K)
     slot.held.add(key);
 }
 
-/// The number of keys in these slots.
+/// The number of keys in `slots`.
 fn count_held<K>(slots: &[TimeSlot<K>]) -> u64
     requires { sum_by (λ slot. length slot.held.items) slots.now < 2 ^ 64 }
     ensures { result ≡ sum_by (λ slot. length slot.held.items) slots.now }
@@ -166,8 +166,8 @@ impl<K: Drop> Window<K> {
         })
     }
 
-    /// The verdict on what is offered, by all that was ever entered, though the window holds the last of it
-    /// alone. The caller's clock has observed the offer's time and those of the slots, and `minimum` is the least time
+    /// The verdict on `key` at `time`, by all that was ever entered, though the window holds the last of it
+    /// alone. The caller's clock, `clock_after`, has observed `time` and those of the slots, and `minimum` is the least time
     /// that the caller takes. Where the clock has not, it is any verdict, but `New` only for what may enter. Takes no
     /// memory.
     #[inline]
@@ -198,7 +198,7 @@ impl<K: Drop> Window<K> {
         verdict_at(self.made.as_slice(), place, self.per_time, time, key)
     }
 
-    /// Copies what is offered and makes room for it, so that it enters without memory. What the window holds
+    /// Copies `key` and makes room for it at `time`, so that it enters without memory. What the window holds
     /// is unchanged; where there is no memory, the whole window is.
     pub fn prepare<L: LentKey<K>>(
         &mut self,
@@ -225,8 +225,8 @@ impl<K: Drop> Window<K> {
         Ok(Entry { time, key })
     }
 
-    /// Takes an entry in. There is room for its time, its slot holds no later time, and fewer than `per_time`
-    /// keys of this one: `prepare` makes room, and what `offer` calls `New` meets the rest. Takes no memory.
+    /// Takes `entry` in. There is room for its time, its slot holds no later time, and fewer than `per_time`
+    /// keys of its time: `prepare` makes room, and what `offer` calls `New` meets the rest. Takes no memory.
     pub fn enter(&mut self, entry: Entry<K>)
         requires room { 0 < room_for self.old entry.time }
         requires not_later { time_in self.old.slots entry.time ≤ entry.time }

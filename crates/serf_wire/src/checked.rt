@@ -1,4 +1,4 @@
-//! The fields of the one map after a type byte, whichever layout they have.
+//! Finds the fields of the one map that stands after a packet's type byte, whichever layout it has.
 
 ghost use Rattle.std.specs.Prelude.{◌≡◌, ◌<◌, ◌^◌};
 ghost use Rattle.serf_pack.specs.Breaks.{fault_place};
@@ -13,7 +13,7 @@ use crate::found::FoundFields;
 use crate::layout::Layout;
 use serf_pack::{Kind, PackFault, View, check};
 
-/// The fault of the bytes after the type byte, as one of the packet.
+/// `fault`, of the bytes after the type byte, as one of the whole packet: its place is one further.
 fn shift(fault: PackFault) -> PackFault
     requires { fault_place fault < 2 ^ 63 }
     ensures { result ≡ shifted fault }
@@ -26,7 +26,7 @@ fn shift(fault: PackFault) -> PackFault
     }
 }
 
-/// The values of the fields of the map that a value is, or the first fault of what was to be the map.
+/// The values of the fields of the map `value`, which `layout` names, or its first fault: `NotAMap` where it is no map.
 fn find_map<'a>(layout: Layout, value: &View<'a>) -> Result<FoundFields<'a>, WireFault>
     ensures { FindsChecked layout result (sound_pairs layout (tree_of value.now)) }
 {
@@ -36,7 +36,7 @@ fn find_map<'a>(layout: Layout, value: &View<'a>) -> Result<FoundFields<'a>, Wir
     find_known(layout, value)
 }
 
-/// The values of the fields of the map that the bytes after a type byte are, or the packet's first fault.
+/// The values of the fields of the map that `bytes` spell after a packet's type byte, or the packet's first fault.
 pub fn find_checked(layout: Layout, bytes: &[u8]) -> Result<FoundFields<'_>, WireFault>
     ensures { FindsChecked layout result (checked_pairs layout (whole_at 8 bytes.now)) }
 {

@@ -1,6 +1,7 @@
-//! Values in compact spellings, read from the start of bytes.
+//! Reads values of MessagePack in compact spellings, from the start of `bytes`.
 //!
-//! Each reader gives up, by `None`, at what is not spelled so.
+//! Each reader answers `None` where `bytes` start with anything else. The general way then reads them. The first bytes that
+//! are told apart are MessagePack's formats (`head.rt` of serf_pack).
 
 ghost use Rattle.std.specs.Prelude.{◌≡◌, ◌≤◌, ◌<◌, ◌+◌, ◌-◌, ◌^◌, ◌∷◌, [], take, drop, length, unwrap_or, None, Ok, IfSome};
 ghost use Rattle.std.specs.Option.{option_copied, option_map};
@@ -19,7 +20,7 @@ use crate::laws::laws_below;
 use crate::lists::Texts;
 use serf_pack::{View, view_packed};
 
-/// The number in one byte at the start, the highest first, and what follows it.
+/// The number that the first byte of `bytes` is, and the bytes after it.
 #[inline(always)]
 fn one_byte(bytes: &[u8]) -> Option<(u64, &[u8])>
     ensures room { IfSome result (λ x. 1 ≤ length bytes.now) }
@@ -33,7 +34,7 @@ fn one_byte(bytes: &[u8]) -> Option<(u64, &[u8])>
     }
 }
 
-/// The number in two bytes at the start, the highest first, and what follows it.
+/// The number in the first two bytes of `bytes`, the highest first, and the bytes after them.
 #[inline(always)]
 fn two_bytes(bytes: &[u8]) -> Option<(u64, &[u8])>
     ensures room { IfSome result (λ x. 2 ≤ length bytes.now) }
@@ -47,7 +48,7 @@ fn two_bytes(bytes: &[u8]) -> Option<(u64, &[u8])>
     }
 }
 
-/// The number in four bytes at the start, the highest first, and what follows it.
+/// The number in the first four bytes of `bytes`, the highest first, and the bytes after them.
 #[inline(always)]
 fn four_bytes(bytes: &[u8]) -> Option<(u64, &[u8])>
     ensures room { IfSome result (λ x. 4 ≤ length bytes.now) }
@@ -64,7 +65,7 @@ fn four_bytes(bytes: &[u8]) -> Option<(u64, &[u8])>
     }
 }
 
-/// The number in eight bytes at the start, the highest first, and what follows it.
+/// The number in the first eight bytes of `bytes`, the highest first, and the bytes after them.
 #[inline(always)]
 fn eight_bytes(bytes: &[u8]) -> Option<(u64, &[u8])>
     ensures room { IfSome result (λ x. 8 ≤ length bytes.now) }
@@ -77,7 +78,7 @@ fn eight_bytes(bytes: &[u8]) -> Option<(u64, &[u8])>
     Some((high * 0x1_0000_0000 + low, rest))
 }
 
-/// The number of 64 bits at the start, and what follows it.
+/// The number from 0 to 2^64 - 1 at the start of `bytes` (nil: 0), and the bytes after it.
 #[inline(always)]
 pub fn read_number(bytes: &[u8]) -> Option<(u64, &[u8])>
     ensures { IfSome result (λ x. Reads (number greatest_clock) x.0 bytes.now x.1.now) }
@@ -97,7 +98,7 @@ pub fn read_number(bytes: &[u8]) -> Option<(u64, &[u8])>
     }
 }
 
-/// The number of pairs in a map's shortest header, and what follows it.
+/// The number of pairs in a map's header of one byte, at the start of `bytes`, and the bytes after it.
 #[inline(always)]
 pub fn read_map_head(bytes: &[u8]) -> Option<(u8, &[u8])>
     ensures head { IfSome result (λ x. bytes.now ≡ (128 + x.0) ∷ x.1.now) }
@@ -112,7 +113,7 @@ pub fn read_map_head(bytes: &[u8]) -> Option<(u8, &[u8])>
     }
 }
 
-/// So many bytes at the start, and what follows them.
+/// The first `n` bytes of `bytes`, and the bytes after them; `None` where there are fewer.
 #[inline(always)]
 fn split(n: usize, bytes: &[u8]) -> Option<(&[u8], &[u8])>
     ensures room { IfSome result (λ x. n ≤ length bytes.now) }
@@ -125,7 +126,7 @@ fn split(n: usize, bytes: &[u8]) -> Option<(&[u8], &[u8])>
     Some((&bytes[..n], &bytes[n..]))
 }
 
-/// The byte string at the start, and what follows it.
+/// The byte string at the start of `bytes`, whose header has one byte or three, and the bytes after it.
 #[inline(always)]
 pub fn read_raw(bytes: &[u8]) -> Option<(&[u8], &[u8])>
     ensures { IfSome result (λ x. Reads raw_of x.0.now bytes.now x.1.now) }
@@ -144,7 +145,7 @@ pub fn read_raw(bytes: &[u8]) -> Option<(&[u8], &[u8])>
     }
 }
 
-/// What follows nil at the start.
+/// The bytes after a nil at the start of `bytes`.
 #[inline(always)]
 pub fn skip_nil(bytes: &[u8]) -> Option<&[u8]>
     ensures { IfSome result (λ rest. bytes.now ≡ 0xc0 ∷ rest.now) }
@@ -155,7 +156,7 @@ pub fn skip_nil(bytes: &[u8]) -> Option<&[u8]>
     }
 }
 
-/// The text at the start, and what follows it.
+/// The text at the start of `bytes` (nil: the empty one), and the bytes after it.
 #[inline(always)]
 pub fn read_text(bytes: &[u8]) -> Option<(&[u8], &[u8])>
     ensures { IfSome result (λ x. Reads text x.0.now bytes.now x.1.now) }
@@ -170,7 +171,7 @@ pub fn read_text(bytes: &[u8]) -> Option<(&[u8], &[u8])>
     }
 }
 
-/// The number of items in an array's shortest header or the next longer one, and what follows it.
+/// The number of items in an array's header of one byte or three, at the start of `bytes`, and the bytes after it.
 #[inline(always)]
 pub fn read_array_head(bytes: &[u8]) -> Option<(u64, &[u8])>
     ensures { IfSome result (λ x. head_at 0 bytes.now ≡ Ok (heads.Array x.0, x.1.now)) }
@@ -185,7 +186,7 @@ pub fn read_array_head(bytes: &[u8]) -> Option<(u64, &[u8])>
     }
 }
 
-/// The number of pairs in a map's shortest header or the next longer one, and what follows it.
+/// The number of pairs in a map's header of one byte or three, at the start of `bytes`, and the bytes after it.
 #[inline(always)]
 pub fn read_long_map_head(bytes: &[u8]) -> Option<(u64, &[u8])>
     ensures { IfSome result (λ x. head_at 0 bytes.now ≡ Ok (heads.Map x.0, x.1.now)) }
@@ -200,7 +201,7 @@ pub fn read_long_map_head(bytes: &[u8]) -> Option<(u64, &[u8])>
     }
 }
 
-/// A view of the bytes before the rest, which are one value.
+/// A view of the one value that `bytes` spell up to `rest`, their end.
 #[inline(always)]
 pub fn view_before<'a>(bytes: &'a [u8], rest: &[u8]) -> View<'a>
     requires within { length rest.now ≤ length bytes.now }
@@ -212,7 +213,7 @@ pub fn view_before<'a>(bytes: &'a [u8], rest: &[u8]) -> View<'a>
     view_packed(&bytes[..bytes.len() - rest.len()])
 }
 
-/// The truth value at the start, and what follows it.
+/// The truth value at the start of `bytes` (nil: false), and the bytes after it.
 #[inline(always)]
 fn read_flag(bytes: &[u8]) -> Option<(bool, &[u8])>
     ensures { IfSome result (λ x. Reads truth x.0 bytes.now x.1.now) }
@@ -229,7 +230,7 @@ fn read_flag(bytes: &[u8]) -> Option<(bool, &[u8])>
     }
 }
 
-/// The number of 64 bits at the start, of which nothing was found before.
+/// `read_number` for a key that comes once: `None` where `found` has its number from an earlier pair.
 #[inline(always)]
 pub fn once_number(found: Option<u64>, bytes: &[u8]) -> Option<(u64, &[u8])>
     ensures none { IfSome result (λ x. found ≡ None) }
@@ -241,7 +242,7 @@ pub fn once_number(found: Option<u64>, bytes: &[u8]) -> Option<(u64, &[u8])>
     }
 }
 
-/// The text at the start, of which nothing was found before.
+/// `read_text` for a key that comes once: `None` where `found` has its text from an earlier pair.
 #[inline(always)]
 pub fn once_text<'a>(found: Option<&[u8]>, bytes: &'a [u8]) -> Option<(&'a [u8], &'a [u8])>
     ensures none { IfSome result (λ x. option_copied found.entry ≡ None) }
@@ -253,7 +254,7 @@ pub fn once_text<'a>(found: Option<&[u8]>, bytes: &'a [u8]) -> Option<(&'a [u8],
     }
 }
 
-/// The truth value at the start, of which nothing was found before.
+/// `read_flag` for a key that comes once: `None` where `found` has its truth value from an earlier pair.
 #[inline(always)]
 pub fn once_flag(found: Option<bool>, bytes: &[u8]) -> Option<(bool, &[u8])>
     ensures none { IfSome result (λ x. found ≡ None) }
@@ -265,7 +266,7 @@ pub fn once_flag(found: Option<bool>, bytes: &[u8]) -> Option<(bool, &[u8])>
     }
 }
 
-/// So many texts at the start: what follows them.
+/// The bytes after `count` texts at the start of `bytes`.
 #[inline(always)]
 fn skip_texts(count: u64, bytes: &[u8]) -> Option<&[u8]>
     ensures { IfSome result (λ rest. AreItems 9 text count bytes.now rest.now) }
@@ -280,7 +281,7 @@ fn skip_texts(count: u64, bytes: &[u8]) -> Option<&[u8]>
     Some(rest)
 }
 
-/// The list of texts at the start: what follows it.
+/// The bytes after the list of texts at the start of `bytes`.
 #[inline(always)]
 fn skip_text_list(bytes: &[u8]) -> Option<&[u8]>
     ensures { IfSome result (λ rest. Spans 8 (list text) bytes.now rest.now) }
@@ -290,7 +291,7 @@ fn skip_text_list(bytes: &[u8]) -> Option<&[u8]>
     skip_texts(count, items)
 }
 
-/// The list of texts at the start, and what follows it.
+/// The list of texts at the start of `bytes`, and the bytes after it.
 fn read_texts(bytes: &[u8]) -> Option<(Texts<'_>, &[u8])>
     ensures { IfSome result (λ x. ReadsIn 8 (list text) (texts_left x.0) bytes.now x.1.now) }
 {
@@ -299,7 +300,7 @@ fn read_texts(bytes: &[u8]) -> Option<(Texts<'_>, &[u8])>
     Some((Texts::of(Some(list)), rest))
 }
 
-/// No texts, or nil, at the start: what follows them.
+/// The bytes after an empty list, or nil, at the start of `bytes`.
 #[inline(always)]
 fn read_no_texts(bytes: &[u8]) -> Option<&[u8]>
     ensures { IfSome result (λ rest. ReadsIn 8 (list text) [] bytes.now rest.now) }
@@ -315,7 +316,7 @@ fn read_no_texts(bytes: &[u8]) -> Option<&[u8]>
     }
 }
 
-/// The list of texts at the start, of which nothing was found before.
+/// The list of texts at the start of `bytes`, for a key that comes once: `None` where `found` has it from an earlier pair.
 #[inline(always)]
 pub fn once_texts<'a>(found: Option<Texts<'a>>, bytes: &'a [u8]) -> Option<(Texts<'a>, &'a [u8])>
     ensures none { IfSome result (λ x. option_map texts_left found.entry ≡ None) }
@@ -330,7 +331,7 @@ pub fn once_texts<'a>(found: Option<Texts<'a>>, bytes: &'a [u8]) -> Option<(Text
     }
 }
 
-/// The number that was found, or 0.
+/// The number that was `found`, or 0.
 #[inline(always)]
 pub fn or_zero(found: Option<u64>) -> u64
     ensures { result ≡ unwrap_or found 0 }
@@ -341,7 +342,7 @@ pub fn or_zero(found: Option<u64>) -> u64
     }
 }
 
-/// The list of texts that was found, or the empty one.
+/// The list of texts that was `found`, or the empty one.
 #[inline(always)]
 pub fn or_none<'a>(found: Option<Texts<'a>>) -> Texts<'a>
     ensures { texts_left result ≡ unwrap_or (option_map texts_left found.entry) [] }

@@ -1,4 +1,4 @@
-//! Messages to canonical packets.
+//! Encodes messages: each to its one canonical packet, in a new vector.
 
 ghost use Rattle.std.specs.Prelude.{◌≡◌, ◌<◌, ◌^◌, ◌++◌, ◌↔◌, IsTrue, false, true, length, map, codes, nat_lt, IfOk, OnOk, Some};
 ghost use Rattle.std.specs.List.{list_any, list_all};
@@ -28,7 +28,7 @@ use thiserror::Error;
 /// Why a message has no packet.
 #[derive(Clone, Copy, Debug, PartialEq, Eq, Error)]
 pub enum EncodeFault {
-    /// A text or a list is longer than 4,294,967,295.
+    /// A text has more than 4,294,967,295 bytes, or a list more items.
     #[error("a text or a list is longer than 4,294,967,295")]
     TooLong,
     /// There is no memory for the packet.
@@ -47,6 +47,7 @@ impl From<AllocError> for EncodeFault {
     }
 }
 
+/// The canonical packet of a user event (type 3) whose texts fit in a packet, in a new vector of just the packet's length.
 #[tactic(auto, unfolding(crate::specs::Canonical::canonical))]
 fn write_user_event(alloc: Global, event: &UserEvent) -> Result<Vec<u8>, AllocError>
     requires name { length event.now.name.now < 2 ^ 32 }
@@ -66,7 +67,7 @@ fn write_user_event(alloc: Global, event: &UserEvent) -> Result<Vec<u8>, AllocEr
     Ok(out)
 }
 
-/// Whom the query is from, and who is asked.
+/// Appends whom the query is from, and who is asked.
 fn put_query_route(out: &mut Vec<u8>, parts: &Query<&[Bytes]>) -> Result<(), AllocError>
     requires addr { length parts.now.addr.now < 2 ^ 32 }
     requires source { length parts.now.source.now < 2 ^ 32 }
@@ -85,7 +86,7 @@ fn put_query_route(out: &mut Vec<u8>, parts: &Query<&[Bytes]>) -> Result<(), All
     put_filters_field(out, b"Filters", parts.filters)
 }
 
-/// How the query is to be answered.
+/// Appends how the query is to be answered: its flags, relay factor and timeout.
 fn put_query_terms(out: &mut Vec<u8>, parts: &Query<&[Bytes]>) -> Result<(), AllocError>
     ensures flags { OnOk result (parts.now.flags < 2 ^ 32) }
     ensures relay_factor { OnOk result (parts.now.relay_factor < 2 ^ 8) }
@@ -100,7 +101,7 @@ fn put_query_terms(out: &mut Vec<u8>, parts: &Query<&[Bytes]>) -> Result<(), All
     put_timeout_field(out, parts)
 }
 
-/// What is asked.
+/// Appends what is asked: the query's name and payload.
 fn put_question(out: &mut Vec<u8>, parts: &Query<&[Bytes]>) -> Result<(), AllocError>
     requires name { length parts.now.name.now < 2 ^ 32 }
     requires payload { length parts.now.payload.now < 2 ^ 32 }
@@ -112,6 +113,7 @@ fn put_question(out: &mut Vec<u8>, parts: &Query<&[Bytes]>) -> Result<(), AllocE
     put_text_field(out, b"Payload", parts.payload)
 }
 
+/// The canonical packet of a query (type 4) whose texts and filters fit in a packet, in a new vector.
 #[tactic(auto, unfolding(crate::specs::Canonical::canonical, crate::specs::Canonical::has_long))]
 fn write_query(alloc: Global, parts: &Query<&[Bytes]>) -> Result<Vec<u8>, AllocError>
     requires { has_long (query (query_of parts.now)) ≡ false }
@@ -129,6 +131,7 @@ fn write_query(alloc: Global, parts: &Query<&[Bytes]>) -> Result<Vec<u8>, AllocE
     Ok(out)
 }
 
+/// The canonical packet of a response (type 5) whose texts fit in a packet, in a new vector.
 #[tactic(auto, unfolding(crate::specs::Canonical::canonical))]
 fn write_response(alloc: Global, response: &QueryResponse) -> Result<Vec<u8>, AllocError>
     requires from { length response.now.from.now < 2 ^ 32 }
@@ -148,6 +151,7 @@ fn write_response(alloc: Global, response: &QueryResponse) -> Result<Vec<u8>, Al
     Ok(out)
 }
 
+/// The canonical packet of a push/pull (type 2) whose texts and lists fit in a packet, in a new vector.
 fn write_push_pull(alloc: Global, parts: &PushPullParts) -> Result<Vec<u8>, AllocError>
     requires { has_long (push_pull (push_pull_of parts.now)) ≡ false }
     ensures bytes { IfOk result (λ packet. packet.items ≡ parts_bytes parts.now) }
@@ -183,8 +187,8 @@ pub fn encode_user_event(alloc: Global, event: &UserEvent) -> Result<Vec<u8>, En
     Ok(write_user_event(alloc, event)?)
 }
 
-/// The canonical packet of a query. `TooLong` comes where a text or the list of filters is longer than
-/// 4,294,967,295, and then `OutOfMemory` where the packet couldn't grow.
+/// The canonical packet of a query. `TooLong` comes where a text has more than 4,294,967,295 bytes or the list of filters
+/// more items, and then `OutOfMemory` where the packet couldn't grow.
 pub fn encode_query(alloc: Global, parts: &Query<&[Bytes]>) -> Result<Vec<u8>, EncodeFault>
     ensures canonical { IfOk result (λ packet. packet.items
         ≡ canonical (query (query_of parts.now))) }
@@ -217,8 +221,8 @@ pub fn encode_response(alloc: Global, response: &QueryResponse) -> Result<Vec<u8
     Ok(write_response(alloc, response)?)
 }
 
-/// The canonical packet of a push/pull, in which a slot without events is nil. `TooLong` comes where a text or
-/// a list is longer than 4,294,967,295, and then `OutOfMemory` where the packet couldn't grow.
+/// The canonical packet of a push/pull, in which a slot without events is nil. `TooLong` comes where a text has more than
+/// 4,294,967,295 bytes or a list more items, and then `OutOfMemory` where the packet couldn't grow.
 pub fn encode_push_pull(alloc: Global, parts: &PushPullParts) -> Result<Vec<u8>, EncodeFault>
     ensures canonical { IfOk result (λ packet. packet.items
         ≡ canonical (push_pull (push_pull_of parts.now))) }

@@ -1,7 +1,7 @@
 //! Maps in compact spellings, read in one pass: short keys, none of them twice, and no unknown one.
 //!
-//! Nearly every message comes as such a map. What is read here is what the general way reads; at anything else this
-//! way gives up.
+//! Nearly every user event and push/pull comes as such a map. What is read here is what the general way reads; at any
+//! other spelling the readers here give up, by `None`.
 
 mod event;
 mod slots;

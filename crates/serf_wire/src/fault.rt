@@ -19,19 +19,19 @@ pub enum WireFault {
     /// The value is no map.
     #[error("the value is no map")]
     NotAMap,
-    /// The key here is not raw.
+    /// The key at this offset is not raw.
     #[error("the key at {0} is not raw")]
     BadKey(usize),
-    /// The known key here stands in its map for the second time.
+    /// The known key at this offset stands in its map for the second time.
     #[error("the key at {0} stands for the second time")]
     Twice(usize),
-    /// The value here is not of its field's kind.
+    /// The value at this offset is not of its field's kind.
     #[error("the value at {0} is of another kind")]
     WrongKind(usize),
-    /// The integer here is not in its field's range.
+    /// The integer at this offset is not in its field's range.
     #[error("the integer at {0} is out of range")]
     OutOfRange(usize),
-    /// Here is 2^64 - 1, which is no time.
+    /// At this offset is 2^64 - 1, which is no time.
     #[error("the number at {0} is no time")]
     GreatestTime(usize),
 }

@@ -1,4 +1,4 @@
-//! The first fault of a map.
+//! Finds the first fault of a map. Places count from the packet's type byte, which stands before the map: hence each `+ 1`.
 
 ghost use Rattle.std.specs.Prelude.{◌≡◌, ◌++◌, ◌∷◌, [], List, Some, None, IfOk, IfErr, OnOk, IfNone};
 ghost use Rattle.serf_pack.specs.Tree.{Tree};
@@ -12,7 +12,7 @@ use crate::found::FoundFields;
 use crate::layout::{Kind, Layout, field_of};
 use serf_pack::View;
 
-/// Whether a key is this name.
+/// Whether `key` is raw, with just the bytes `name`.
 pub fn is_name(key: &View, name: &[u8]) -> bool
     ensures { result ≡ is_text name.now (raw_of (tree_of key.now)) }
 {
@@ -22,6 +22,7 @@ pub fn is_name(key: &View, name: &[u8]) -> bool
     }
 }
 
+/// The fault of `value` in a field of integers from 0 to `max`, if it has one. Nil has none.
 fn natural_fault(value: &View, max: u64) -> Option<WireFault>
     ensures { result ≡ first (number_faults max (tree_of value.now)) }
 {
@@ -36,6 +37,7 @@ fn natural_fault(value: &View, max: u64) -> Option<WireFault>
     }
 }
 
+/// The fault of `value` in a field of times, integers from 0 to 2^64 - 2, if it has one. Nil has none.
 fn time_fault(value: &View) -> Option<WireFault>
     ensures { result ≡ first (time_faults (tree_of value.now)) }
 {
@@ -51,6 +53,7 @@ fn time_fault(value: &View) -> Option<WireFault>
     }
 }
 
+/// The fault of `value` in a field of signed integers of 64 bits, if it has one. Nil has none.
 fn signed_fault(value: &View) -> Option<WireFault>
     ensures { result ≡ first (signed_faults (tree_of value.now)) }
 {
@@ -67,6 +70,7 @@ fn signed_fault(value: &View) -> Option<WireFault>
     }
 }
 
+/// The fault of `value` in a field of texts, if it has one. Nil has none.
 fn text_fault(value: &View) -> Option<WireFault>
     ensures { result ≡ first (text_faults (tree_of value.now)) }
 {
@@ -76,6 +80,7 @@ fn text_fault(value: &View) -> Option<WireFault>
     }
 }
 
+/// The fault of `value` in a field of truth values, if it has one. Nil has none.
 fn flag_fault(value: &View) -> Option<WireFault>
     ensures { result ≡ first (truth_faults (tree_of value.now)) }
 {
@@ -85,7 +90,7 @@ fn flag_fault(value: &View) -> Option<WireFault>
     }
 }
 
-/// The first fault of a list of texts.
+/// The first fault of `value` in a field of lists of texts, if it has one. Nil has none.
 pub fn texts_fault(value: &View) -> Option<WireFault>
     ensures { result ≡ first (list_faults text_faults (tree_of value.now)) }
 {
@@ -103,6 +108,7 @@ pub fn texts_fault(value: &View) -> Option<WireFault>
     }
 }
 
+/// The first fault of a member's `name` and `time` in the map of status times, if they have one.
 fn status_time_fault(name: &View, time: &View) -> Option<WireFault>
     ensures { result ≡ first (status_time_faults (tree_of name.now, tree_of time.now)) }
 {
@@ -112,6 +118,7 @@ fn status_time_fault(name: &View, time: &View) -> Option<WireFault>
     }
 }
 
+/// The first fault of `value` in the field of status times, if it has one. Nil has none.
 fn status_fault(value: &View) -> Option<WireFault>
     ensures { result ≡ first (status_faults (tree_of value.now)) }
 {
@@ -129,7 +136,7 @@ fn status_fault(value: &View) -> Option<WireFault>
     }
 }
 
-/// The first fault of a value in a field of this kind. Lists of maps stand inside one another at most `depth_left` times.
+/// The first fault of `value` in a field of kind `kind`. Of lists of maps inside one another, at most `depth_left` are looked into.
 #[cycle(faults)]
 fn value_fault(depth_left: u8, kind: Kind, value: &View) -> Option<WireFault>
     ensures { result ≡ first (value_faults depth_left kind (tree_of value.now)) }
@@ -151,6 +158,7 @@ fn value_fault(depth_left: u8, kind: Kind, value: &View) -> Option<WireFault>
     }
 }
 
+/// The first fault of `value` in a field of lists of maps, each as `layout` says, if it has one. Nil has none.
 #[cycle(faults)]
 fn maps_fault(depth_left: u8, layout: Layout, value: &View) -> Option<WireFault>
     ensures { result
@@ -170,6 +178,7 @@ fn maps_fault(depth_left: u8, layout: Layout, value: &View) -> Option<WireFault>
     }
 }
 
+/// The first fault of `value` as an item of a list of maps, each as `layout` says, if it has one. Nil has none.
 #[cycle(faults)]
 fn map_fault(depth_left: u8, layout: Layout, value: &View) -> Option<WireFault>
     ensures { result ≡ first (map_faults (value_faults depth_left) layout (tree_of value.now)) }
@@ -184,7 +193,8 @@ fn map_fault(depth_left: u8, layout: Layout, value: &View) -> Option<WireFault>
     }
 }
 
-/// The first fault of a pair, or its value is found too.
+/// Puts the value of a key that `layout` knows into `found`. Answers the pair's first fault, if it has one: `found` is of no
+/// use then.
 #[cycle(faults)]
 fn find_pair<'a>(
     depth_left: u8,
@@ -213,7 +223,7 @@ fn find_pair<'a>(
     value_fault(depth_left, field.kind, value)
 }
 
-/// The values of a map's fields, or the first fault of its pairs.
+/// The values of the fields of `map` that `layout` knows, or the first fault of its pairs.
 #[cycle(faults)]
 fn find_fields<'a>(
     depth_left: u8,
@@ -235,7 +245,8 @@ fn find_fields<'a>(
     Ok(found)
 }
 
-/// The values of the fields of a map with this layout, or the map's first fault.
+/// The values of the fields of `map` that `layout` knows, or the map's first fault. Maps stand at most 2 lists deep: the
+/// events in a push/pull's slots.
 pub fn find_known<'a>(layout: Layout, map: &View<'a>) -> Result<FoundFields<'a>, WireFault>
     ensures found { IfOk result (λ found. Finds layout found (pairs_of (tree_of map.now))) }
     ensures none { OnOk result (first (layout_faults layout (pairs_of (tree_of map.now))) ≡ None) }

@@ -1,4 +1,4 @@
-//! The fields of a map, where each is of its kind.
+//! Reads a field of a sound map as its kind. A field that is missing or nil is zero, empty or false.
 
 ghost use Rattle.std.specs.Prelude.{◌≡◌, ◌≤◌, [], false, unwrap_or};
 ghost use Rattle.std.specs.Option.{option_map};
@@ -10,7 +10,7 @@ use crate::faults::is_name;
 use serf_lamport::Time;
 use serf_pack::View;
 
-/// The value of the first pair with this key.
+/// The value of the first pair of `map` whose key is `name`.
 pub fn find_value<'a>(map: &View<'a>, name: &[u8]) -> Option<View<'a>>
     ensures { tree_or_nil (option_map tree_of result)
         ≡ value_of_key name.now (pairs_of (tree_of map.now)) }
@@ -23,7 +23,7 @@ pub fn find_value<'a>(map: &View<'a>, name: &[u8]) -> Option<View<'a>>
     None
 }
 
-/// The text that a value is, or the empty one.
+/// The text that `value` is, or the empty one.
 pub fn text_of<'a>(value: &View<'a>) -> &'a [u8]
     ensures { result.now ≡ text_in (tree_of value.now) }
 {
@@ -33,7 +33,7 @@ pub fn text_of<'a>(value: &View<'a>) -> &'a [u8]
     }
 }
 
-/// The integer from 0 to max that a value is, or 0.
+/// The integer from 0 to `max` that `value` is, or 0.
 pub fn natural_of(value: &View, max: u64) -> u64
     ensures value { result ≡ number_in max (tree_of value.now) }
     ensures within { result ≤ max }
@@ -44,7 +44,7 @@ pub fn natural_of(value: &View, max: u64) -> u64
     }
 }
 
-/// The text that a value is, or the empty one.
+/// The text that `value` is, or the empty one; `None`, a missing field, gives that too.
 pub fn text_or_empty<'a>(value: Option<View<'a>>) -> &'a [u8]
     ensures { result.now ≡ text_in (tree_or_nil (option_map tree_of value.entry)) }
 {
@@ -54,7 +54,7 @@ pub fn text_or_empty<'a>(value: Option<View<'a>>) -> &'a [u8]
     }
 }
 
-/// The truth value that a value is, or false.
+/// The truth value that `value` is, or false; `None`, a missing field, gives that too.
 pub fn flag_or_false(value: Option<View>) -> bool
     ensures { result ≡ truth_in (tree_or_nil (option_map tree_of value.entry)) }
 {
@@ -67,7 +67,7 @@ pub fn flag_or_false(value: Option<View>) -> bool
     }
 }
 
-/// The integer from 0 to max that a value is, or 0.
+/// The integer from 0 to `max` that `value` is, or 0; `None`, a missing field, gives that too.
 pub fn natural_or_zero(value: Option<View>, max: u64) -> u64
     ensures value { result ≡ number_in max (tree_or_nil (option_map tree_of value.entry)) }
     ensures within { result ≤ max }
@@ -78,7 +78,7 @@ pub fn natural_or_zero(value: Option<View>, max: u64) -> u64
     }
 }
 
-/// The time that a value is, or 0.
+/// The time that `value` is, or 0; `None`, a missing field, gives that too.
 pub fn time_or_zero(value: Option<View>) -> Time
     ensures { result ≡ time_in (tree_or_nil (option_map tree_of value.entry)) }
 {
@@ -88,7 +88,7 @@ pub fn time_or_zero(value: Option<View>) -> Time
     }
 }
 
-/// The integer of 64 bits that a value is, or 0.
+/// The signed integer of 64 bits that `value` is, or 0; `None`, a missing field, gives that too.
 pub fn signed_or_zero(value: Option<View>) -> i64
     ensures { result ≡ signed_in (tree_or_nil (option_map tree_of value.entry)) }
 {

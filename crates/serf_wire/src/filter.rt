@@ -22,7 +22,7 @@ use std::alloc::{AllocError, Global};
 /// The type byte of a node filter.
 const NODE_FILTER: u8 = 0;
 
-/// Whether this is one of the texts of a list.
+/// Whether `text` is one of the texts of `list`.
 fn has_text(list: &View, text: &[u8]) -> bool
     ensures { result ≡ list_any (λ t. bytes_eq t text.now) (list_in text_in (tree_of list.now)) }
 {
@@ -34,6 +34,7 @@ fn has_text(list: &View, text: &[u8]) -> bool
     false
 }
 
+/// Whether `value` is a list of texts, and `node` one of them.
 fn names(value: &View, node: &[u8]) -> bool
     ensures { result ≡ names_node node.now (tree_of value.now) }
 {
@@ -46,6 +47,7 @@ fn names(value: &View, node: &[u8]) -> bool
     }
 }
 
+/// Whether `bytes` are one value, a list of texts, and `node` is one of them.
 fn value_names(bytes: &[u8], node: &[u8]) -> bool
     ensures { result ≡ value_names_node node.now (whole_at 8 bytes.now) }
 {
@@ -55,6 +57,7 @@ fn value_names(bytes: &[u8], node: &[u8]) -> bool
     }
 }
 
+/// Whether `filter` is a node filter that names `node`.
 #[tactic(auto, unfolding(crate::specs::Passes::passes_of))]
 fn lets_pass(filter: &[u8], node: &[u8]) -> bool
     ensures { result ≡ passes_of filter.now node.now }
@@ -65,7 +68,7 @@ fn lets_pass(filter: &[u8], node: &[u8]) -> bool
     *kind == NODE_FILTER && value_names(body, node)
 }
 
-/// Whether a filter lets the node of this name pass.
+/// Whether `filter` lets the node of the name `node` pass.
 ///
 /// A node filter does where its bytes are one array of names, each raw or nil (the empty name), and the node's is
 /// one of them. Every other filter excludes every node: a tag filter, one of an unknown type, an empty one
@@ -78,6 +81,7 @@ pub fn passes(filter: &[u8], node: &[u8]) -> bool
     lets_pass(filter, node)
 }
 
+/// The node filter of `names`, in a new vector: its type byte, and the list of them.
 fn write_node_filter(alloc: Global, names: &[&[u8]]) -> Result<Vec<u8>, AllocError>
     requires list { length names.now < 2 ^ 32 }
     requires items { list_any (λ t. is_long t.now) names.now ≡ false }
@@ -91,7 +95,7 @@ fn write_node_filter(alloc: Global, names: &[&[u8]]) -> Result<Vec<u8>, AllocErr
     Ok(out)
 }
 
-/// The filter that lets the nodes of these names pass, and no others. `TooLong` comes where a name is longer than
+/// The filter that lets the nodes of the given `names` pass, and no others. `TooLong` comes where a name is longer than
 /// 4,294,967,295 bytes or there are more names than that, and then `OutOfMemory` where the filter couldn't grow.
 pub fn node_filter(alloc: Global, names: &[&[u8]]) -> Result<Vec<u8>, EncodeFault>
     ensures canonical { IfOk result (λ filter. filter.items

@@ -2,10 +2,10 @@
 
 use serf_pack::View;
 
-/// The most fields that a map has.
+/// The most fields that a layout has: a query's.
 pub const MAX_FIELDS: usize = 11;
 
-/// The values that were found.
+/// The values that were found so far, each at its field's place.
 #[derive(Clone, Copy)]
 pub struct FoundFields<'a> {
     values: [Option<View<'a>>; MAX_FIELDS],
@@ -19,7 +19,7 @@ impl<'a> FoundFields<'a> {
     ghost use Rattle.serf_wire.specs.Found.{found_at, trees_found, Finds};
     ghost use Rattle.serf_wire.specs.declared.layout.Layout.{Layout};
 
-    /// Nothing was found.
+    /// No value was found yet.
     pub fn new() -> FoundFields<'a>
         ensures { (layout : Layout) → Finds layout result [] }
     {
@@ -28,7 +28,7 @@ impl<'a> FoundFields<'a> {
         }
     }
 
-    /// The value at this place.
+    /// The value that was found at `place`, if one was.
     pub fn at(&self, place: usize) -> Option<View<'a>>
         requires { place < MAX_FIELDS }
         ensures { option_map tree_of result ≡ found_at self.now place }
@@ -37,7 +37,7 @@ impl<'a> FoundFields<'a> {
         found[place]
     }
 
-    /// Puts the value at this place.
+    /// Puts `value` at `place`.
     pub fn put(&mut self, place: usize, value: View<'a>)
         requires { place < MAX_FIELDS }
         ensures { trees_found self.new

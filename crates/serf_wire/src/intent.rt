@@ -40,19 +40,20 @@ pub struct Leave<'a> {
 /// What a node says of a member that comes or goes. Its name lies in the packet that it was read from.
 #[derive(Clone, Copy)]
 pub enum Intent<'a> {
-    /// Type 1.
+    /// Its type byte is 1.
     Join(Join<'a>),
-    /// Type 0.
+    /// Its type byte is 0.
     Leave(Leave<'a>),
 }
 
-/// An intent that a type byte says.
+/// Which intent a packet's type byte says.
 #[derive(Clone, Copy)]
 pub enum IntentType {
     Join,
     Leave,
 }
 
+/// The intent that the type byte `kind` says, if it says one.
 fn intent_type_for(kind: u8) -> Option<IntentType>
     ensures { result ≡ intent_type_of kind }
 {
@@ -63,6 +64,7 @@ fn intent_type_for(kind: u8) -> Option<IntentType>
     }
 }
 
+/// The fields that the map of `intent` has.
 fn layout_for(intent: IntentType) -> Layout
     ensures { result ≡ intent_layout intent }
 {
@@ -72,7 +74,7 @@ fn layout_for(intent: IntentType) -> Layout
     }
 }
 
-/// The intent of the fields of a sound map.
+/// The intent that the fields `found` of a sound map say, each at its place in the layout (`layout.rt`).
 fn intent_of_fields<'a>(intent: IntentType, found: &FoundFields<'a>) -> Intent<'a>
     ensures { (ps : List (Tree × Tree)) → Finds (intent_layout intent) found.now ps
         → intent_of result ≡ intent_in intent ps }
@@ -90,7 +92,7 @@ fn intent_of_fields<'a>(intent: IntentType, found: &FoundFields<'a>) -> Intent<'
     }
 }
 
-/// The intent of a map, or the first fault.
+/// The intent whose map `bytes` spell after the type byte, or the packet's first fault.
 fn read_map(intent: IntentType, bytes: &[u8]) -> Result<Intent<'_>, WireFault>
     ensures { Gives intent_of result (read_intent_map intent bytes.now) }
 {
@@ -100,7 +102,7 @@ fn read_map(intent: IntentType, bytes: &[u8]) -> Result<Intent<'_>, WireFault>
     }
 }
 
-/// What a packet is whose type is no intent's.
+/// The answer for a packet whose type byte `kind` is no intent's: `None`, or `UnknownType` where no message has it.
 fn no_intent<'a>(kind: u8) -> Result<Option<Intent<'a>>, WireFault>
     ensures { Gives (option_map intent_of) result (other_message (class_of kind) kind) }
 {
@@ -110,6 +112,7 @@ fn no_intent<'a>(kind: u8) -> Result<Option<Intent<'a>>, WireFault>
     }
 }
 
+/// The intent that `packet` spells, or `None`, or the first fault: what `read_intent` answers.
 #[tactic(auto, unfolding(crate::specs::Intent::intent_read))]
 fn read_packet(packet: &[u8]) -> Result<Option<Intent<'_>>, WireFault>
     ensures { Gives (option_map intent_of) result (intent_read packet.now) }

@@ -1,4 +1,4 @@
-//! Intents to canonical packets.
+//! Encodes intents: each to its one canonical packet, in a new vector.
 
 ghost use Rattle.std.specs.Prelude.{◌≡◌, ◌<◌, ◌^◌, ◌++◌, ◌↔◌, IsTrue, false, codes, length, IfOk, OnOk, Ok, Err, Some};
 ghost use Rattle.serf_lamport.specs.Clock.{greatest_clock};
@@ -22,18 +22,19 @@ const LEAVE: u8 = 0;
 /// The type byte of a join.
 const JOIN: u8 = 1;
 
-/// The length of the canonical packet of an intent. The header of a name that no packet can hold, longer than
+/// The length of the canonical packet of an intent, in bytes. The header of a name that no packet can hold, longer than
 /// 4,294,967,295 bytes, counts as five bytes. Takes no memory.
 pub fn intent_len(intent: &Intent) -> u128
     ensures { result ≡ length (canonical_intent (intent_of intent.now)) }
 {
+    // 13 and 20 count what each packet of the type has: the type byte, the map's header, the keys, and a leave's truth value.
     match *intent {
         Intent::Join(Join { time, node }) => 13 + number_len(time.get()) + text_len(node),
         Intent::Leave(Leave { time, node, .. }) => 20 + number_len(time.get()) + text_len(node),
     }
 }
 
-/// The fields that a join and a leave have.
+/// Appends the fields that a join and a leave have: the time and the node's name.
 fn put_time_and_node(out: &mut Vec<u8>, time: Time, node: &[u8]) -> Result<(), AllocError>
     requires { length node.now < 2 ^ 32 }
     ensures time { OnOk result (time < greatest_clock) }
@@ -45,6 +46,7 @@ fn put_time_and_node(out: &mut Vec<u8>, time: Time, node: &[u8]) -> Result<(), A
     put_text_field(out, b"Node", node)
 }
 
+/// The canonical packet of a join, in a new vector.
 fn write_join(alloc: Global, time: Time, node: &[u8]) -> Result<Vec<u8>, AllocError>
     requires { length node.now < 2 ^ 32 }
     ensures time { OnOk result (time < greatest_clock) }
@@ -58,6 +60,7 @@ fn write_join(alloc: Global, time: Time, node: &[u8]) -> Result<Vec<u8>, AllocEr
     Ok(out)
 }
 
+/// The canonical packet of a leave, in a new vector.
 fn write_leave(alloc: Global, time: Time, node: &[u8], prune: bool) -> Result<Vec<u8>, AllocError>
     requires { length node.now < 2 ^ 32 }
     ensures time { OnOk result (time < greatest_clock) }
@@ -82,6 +85,7 @@ fn node_of<'a>(intent: &Intent<'a>) -> &'a [u8]
     }
 }
 
+/// The canonical packet of an intent whose name fits in a packet, in a new vector.
 fn write_intent(alloc: Global, intent: &Intent) -> Result<Vec<u8>, AllocError>
     requires { is_long (intent_node (intent_of intent.now)) ≡ false }
     ensures time { OnOk result (intent_time (intent_of intent.now) < greatest_clock) }

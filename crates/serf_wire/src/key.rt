@@ -1,4 +1,4 @@
-//! Known keys, each after its raw header of one byte.
+//! Reads the known keys of user events and push/pulls, each after its raw header of one byte, 0xa0 and the key's length.
 
 ghost use Rattle.std.specs.Prelude.{◌≡◌, ◌++◌, IfSome};
 ghost use Rattle.serf_pack.specs.Canonical.{raw_bytes};
@@ -13,7 +13,7 @@ pub enum EventKey {
     Cc,
 }
 
-/// A key of a state.
+/// A key of a state, the map of a push/pull.
 #[derive(Clone, Copy)]
 pub enum StateKey {
     Time,
@@ -24,7 +24,7 @@ pub enum StateKey {
     QueryTime,
 }
 
-/// The key of a user event at the start, and what follows it.
+/// The key of a user event at the start of `bytes`, and the bytes after it.
 #[inline(always)]
 pub fn read_event_key(bytes: &[u8]) -> Option<(EventKey, &[u8])>
     ensures { IfSome result (λ x. bytes.now ≡ raw_bytes (event_name x.0) ++ x.1.now) }
@@ -41,7 +41,7 @@ pub fn read_event_key(bytes: &[u8]) -> Option<(EventKey, &[u8])>
     }
 }
 
-/// The key of a state's list of members at the start, and what follows it.
+/// The key of a state's map or list of members at the start of `bytes`, and the bytes after it.
 #[inline(always)]
 fn read_members_key(bytes: &[u8]) -> Option<(StateKey, &[u8])>
     ensures { IfSome result (λ x. bytes.now ≡ raw_bytes (state_name x.0) ++ x.1.now) }
@@ -82,7 +82,7 @@ fn read_members_key(bytes: &[u8]) -> Option<(StateKey, &[u8])>
     }
 }
 
-/// The key of a state's clock of events or queries at the start, and what follows it.
+/// The key of a state's clock of events or queries at the start of `bytes`, and the bytes after it.
 #[inline(always)]
 fn read_clock_key(bytes: &[u8]) -> Option<(StateKey, &[u8])>
     ensures { IfSome result (λ x. bytes.now ≡ raw_bytes (state_name x.0) ++ x.1.now) }
@@ -120,7 +120,7 @@ fn read_clock_key(bytes: &[u8]) -> Option<(StateKey, &[u8])>
     }
 }
 
-/// The key of a state at the start, and what follows it.
+/// The key of a state at the start of `bytes`, and the bytes after it.
 #[inline(always)]
 pub fn read_state_key(bytes: &[u8]) -> Option<(StateKey, &[u8])>
     ensures { IfSome result (λ x. bytes.now ≡ raw_bytes (state_name x.0) ++ x.1.now) }

@@ -1,4 +1,4 @@
-//! What holds of packets, whichever they are.
+//! Laws: what holds of all packets. Each function here does nothing; its clauses are the law.
 
 ghost use Rattle.serf_wire.specs.Below.{Below};
 ghost use Rattle.serf_wire.specs.Intent.{ReadsIntents, CanonicalIntents};
@@ -6,7 +6,7 @@ ghost use Rattle.serf_wire.specs.Laws.{DecodesBytes, DecodesInRange, DecodesSpel
 
 use serf_pack::{canonical_heads, exact_reading};
 
-/// What `serf_pack` promises of spellings, as far as this crate rests on it. Does nothing.
+/// What `serf_pack` promises of spellings, as far as this crate rests on it.
 #[inline(always)]
 pub(crate) fn laws_below()
     ensures { Below }

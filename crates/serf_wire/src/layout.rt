@@ -30,7 +30,7 @@ pub enum MessageType {
 /// What a packet's type byte says of what follows.
 #[derive(Clone, Copy)]
 pub enum Class {
-    /// A map with these fields.
+    /// A map with the fields of the given message.
     Read(MessageType),
     /// Anything: the message is not read.
     Foreign,
@@ -43,7 +43,7 @@ pub enum Class {
 pub enum Kind {
     /// A time.
     Time,
-    /// An integer from 0 to this one.
+    /// An integer from 0 to the given one.
     Natural(u64),
     /// An integer of 64 bits.
     Signed,
@@ -55,7 +55,7 @@ pub enum Kind {
     Texts,
     /// A map from names to times.
     Status,
-    /// A list of maps with these fields, or nils.
+    /// A list of maps with the given fields, or nils.
     Maps(Layout),
 }
 
@@ -66,6 +66,7 @@ pub struct Field {
     pub kind: Kind,
 }
 
+/// What the type byte `kind` says of the bytes after it.
 pub fn class_for(kind: u8) -> Class
     ensures { result ≡ class_of kind }
 {
@@ -79,6 +80,7 @@ pub fn class_for(kind: u8) -> Class
     }
 }
 
+/// The fields that the map of `message` has.
 pub fn layout_for(message: MessageType) -> Layout
     ensures { result ≡ layout_of message }
 {
@@ -90,20 +92,21 @@ pub fn layout_for(message: MessageType) -> Layout
     }
 }
 
+/// Whether a key's bytes `name` are those of the `known` one.
 fn is_name(name: &[u8], known: &[u8]) -> bool
     ensures { result ≡ bytes_eq name.now known.now }
 {
     name == known
 }
 
-/// A field of a layout.
+/// The field of the kind `kind` that has this `place` in its layout.
 fn known(place: usize, kind: Kind) -> Option<Field>
     ensures { result ≡ Some (field_at place kind) }
 {
     Some(Field { place, kind })
 }
 
-/// The field of a user event with this name.
+/// The field of a user event whose key is `name`, if it has one.
 fn user_event_field(name: &[u8]) -> Option<Field>
     ensures { result ≡ field_in 0 name.now (fields_of layouts.UserEvent) }
 {
@@ -120,7 +123,7 @@ fn user_event_field(name: &[u8]) -> Option<Field>
     }
 }
 
-/// The field of a query with this name.
+/// The field of a query whose key is `name`, if it has one.
 fn query_field(name: &[u8]) -> Option<Field>
     ensures { result ≡ field_in 0 name.now (fields_of layouts.Query) }
 {
@@ -151,7 +154,7 @@ fn query_field(name: &[u8]) -> Option<Field>
     }
 }
 
-/// The field of a response with this name.
+/// The field of a response whose key is `name`, if it has one.
 fn response_field(name: &[u8]) -> Option<Field>
     ensures { result ≡ field_in 0 name.now (fields_of layouts.QueryResponse) }
 {
@@ -170,7 +173,7 @@ fn response_field(name: &[u8]) -> Option<Field>
     }
 }
 
-/// The field of a push/pull with this name.
+/// The field of a push/pull whose key is `name`, if it has one.
 fn push_pull_field(name: &[u8]) -> Option<Field>
     ensures { result ≡ field_in 0 name.now (fields_of layouts.PushPull) }
 {
@@ -191,7 +194,7 @@ fn push_pull_field(name: &[u8]) -> Option<Field>
     }
 }
 
-/// The field of a slot with this name.
+/// The field of a slot whose key is `name`, if it has one.
 fn slot_field(name: &[u8]) -> Option<Field>
     ensures { result ≡ field_in 0 name.now (fields_of layouts.Slot) }
 {
@@ -204,7 +207,7 @@ fn slot_field(name: &[u8]) -> Option<Field>
     }
 }
 
-/// The field of an event in a slot with this name.
+/// The field of a slot's event whose key is `name`, if it has one.
 fn event_field(name: &[u8]) -> Option<Field>
     ensures { result ≡ field_in 0 name.now (fields_of layouts.Event) }
 {
@@ -217,7 +220,7 @@ fn event_field(name: &[u8]) -> Option<Field>
     }
 }
 
-/// The field of a join intent with this name.
+/// The field of a join whose key is `name`, if it has one.
 fn join_field(name: &[u8]) -> Option<Field>
     ensures { result ≡ field_in 0 name.now (fields_of layouts.Join) }
 {
@@ -230,7 +233,7 @@ fn join_field(name: &[u8]) -> Option<Field>
     }
 }
 
-/// The field of a leave intent with this name.
+/// The field of a leave whose key is `name`, if it has one.
 fn leave_field(name: &[u8]) -> Option<Field>
     ensures { result ≡ field_in 0 name.now (fields_of layouts.Leave) }
 {
@@ -245,7 +248,7 @@ fn leave_field(name: &[u8]) -> Option<Field>
     }
 }
 
-/// The field with this name.
+/// The field of `layout` whose key is `name`, if it has one.
 pub fn field_of(layout: Layout, name: &[u8]) -> Option<Field>
     ensures { result ≡ field_in 0 name.now (fields_of layout) }
 {

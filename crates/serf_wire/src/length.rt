@@ -1,4 +1,5 @@
-//! How long canonical packets are.
+//! How many bytes canonical packets have. The number in each sum counts what each packet of its type has: the type byte, the map's
+//! header, the keys, and a byte for each truth value.
 
 ghost use Rattle.std.specs.Prelude.{◌≡◌, ◌<◌, ◌≤◌, ◌*◌, ◌+◌, ◌^◌, length};
 ghost use Rattle.std.specs.List.{flat_map};
@@ -9,7 +10,7 @@ ghost use Rattle.serf_wire.specs.Canonical.{list_bytes, canonical};
 use crate::message::{Query, QueryResponse, UserEvent};
 use crate::texts::Bytes;
 
-/// How many bytes a text takes.
+/// How many bytes a text takes in a packet, with its header.
 pub fn text_len(text: &[u8]) -> u128
     ensures value { result ≡ length (raw_bytes text.now) }
     ensures small { result < 2 ^ 64 }
@@ -24,7 +25,7 @@ pub fn text_len(text: &[u8]) -> u128
     }
 }
 
-/// How many bytes a number takes.
+/// How many bytes a number takes in a packet, with its header.
 pub fn number_len(number: u64) -> u128
     ensures value { result ≡ length (uint_bytes number) }
     ensures small { result < 10 }
@@ -42,7 +43,7 @@ pub fn number_len(number: u64) -> u128
     }
 }
 
-/// How many bytes the query's timeout takes.
+/// How many bytes a query's timeout takes in a packet, with its header.
 fn timeout_len(parts: &Query<&[Bytes]>) -> u128
     ensures value { result ≡ length (int_bytes parts.now.timeout) }
     ensures small { result < 10 }
@@ -63,7 +64,7 @@ fn timeout_len(parts: &Query<&[Bytes]>) -> u128
     }
 }
 
-/// How many bytes the header of an array takes.
+/// How many bytes the header of an array of `count` items takes.
 fn array_head_len(count: usize) -> u128
     ensures value { result ≡ length (array_head count) }
     ensures small { result < 10 }
@@ -77,7 +78,7 @@ fn array_head_len(count: usize) -> u128
     }
 }
 
-/// How many bytes the items of a list of filters take.
+/// How many bytes the items of a list of filters take, each with its header.
 fn filters_len(filters: &[Bytes]) -> u128
     ensures value { result ≡ length (flat_map raw_bytes filters.now) }
     ensures small { result ≤ length filters.now * 2 ^ 64 }
@@ -89,7 +90,7 @@ fn filters_len(filters: &[Bytes]) -> u128
     total
 }
 
-/// How many bytes the texts of a query take.
+/// How many bytes the texts and the list of filters of a query take, with their headers.
 fn query_texts_len(parts: &Query<&[Bytes]>) -> u128
     ensures value { result
         ≡ length (raw_bytes parts.now.addr.now) + length (raw_bytes parts.now.source.now)
@@ -105,7 +106,7 @@ fn query_texts_len(parts: &Query<&[Bytes]>) -> u128
         + filters_len(parts.filters)
 }
 
-/// How many bytes the numbers of a query take.
+/// How many bytes the numbers of a query take, with their headers.
 fn query_numbers_len(parts: &Query<&[Bytes]>) -> u128
     ensures value { result ≡ length (uint_bytes parts.now.time) + length (uint_bytes parts.now.id)
         + length (uint_bytes parts.now.port) + length (uint_bytes parts.now.flags)
@@ -120,7 +121,7 @@ fn query_numbers_len(parts: &Query<&[Bytes]>) -> u128
         + timeout_len(parts)
 }
 
-/// The length of the canonical packet of a user event. The header of a text that no packet can hold, longer
+/// The length of the canonical packet of a user event, in bytes. The header of a text that no packet can hold, longer
 /// than 4,294,967,295 bytes, counts as five bytes. Takes no memory.
 #[tactic(auto, unfolding(crate::specs::Canonical::canonical))]
 pub fn user_event_len(event: &UserEvent) -> u128
@@ -129,8 +130,8 @@ pub fn user_event_len(event: &UserEvent) -> u128
     25 + number_len(event.time.get()) + text_len(event.name) + text_len(event.payload)
 }
 
-/// The length of the canonical packet of a query. The header of a text or a list that no packet can hold,
-/// longer than 4,294,967,295, counts as five bytes. Takes no memory.
+/// The length of the canonical packet of a query, in bytes. The header of a text or a list that no packet can hold, of more
+/// than 4,294,967,295 bytes or items, counts as five bytes. Takes no memory.
 #[tactic(auto, unfolding(crate::specs::Canonical::canonical))]
 pub fn query_len(parts: &Query<&[Bytes]>) -> u128
     ensures { result ≡ length (canonical (query (query_of parts.now))) }
@@ -138,7 +139,7 @@ pub fn query_len(parts: &Query<&[Bytes]>) -> u128
     79 + query_numbers_len(parts) + query_texts_len(parts)
 }
 
-/// The length of the canonical packet of a query's response. The header of a text that no packet can hold,
+/// The length of the canonical packet of a query's response, in bytes. The header of a text that no packet can hold,
 /// longer than 4,294,967,295 bytes, counts as five bytes. Takes no memory.
 #[tactic(auto, unfolding(crate::specs::Canonical::canonical))]
 pub fn response_len(response: &QueryResponse) -> u128

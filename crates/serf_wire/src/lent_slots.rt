@@ -39,7 +39,7 @@ impl<'a, T> Clone for LentSlots<'a, T> {
     }
 }
 
-/// A slot in memory, lent.
+/// The time of `slot` and what it holds, lent where they lie.
 fn lent<'a, T>(slot: &'a TimeSlot<T>) -> LentSlot<'a, T>
     ensures { lent_slot result ≡ slot_in_memory slot.now }
 {
@@ -49,7 +49,7 @@ fn lent<'a, T>(slot: &'a TimeSlot<T>) -> LentSlot<'a, T>
     }
 }
 
-/// A slot that was never used.
+/// A slot that was never used: the time 0, and nothing held.
 fn unused<'a, T>() -> LentSlot<'a, T>
     ensures { lent_slot result ≡ slot_in_memory unused_slot }
 {
@@ -60,7 +60,7 @@ fn unused<'a, T>() -> LentSlot<'a, T>
 }
 
 impl<'a, T> LentSlots<'a, T> {
-    /// These slots, and after them so many that were never used. Takes no memory.
+    /// The slots `used`, and after them `unused` ones that were never used. Takes no memory.
     pub fn of(used: &'a [TimeSlot<T>], unused: u32) -> LentSlots<'a, T>
         ensures { slots_lent result ≡ used.now ++ replicate unused unused_slot }
     {
@@ -74,7 +74,7 @@ impl<'a, T> LentSlots<'a, T> {
         self.used.len() + self.unused as usize
     }
 
-    /// The slot of this index, if there is one. Takes no memory.
+    /// The slot at `index`, if there is one. Takes no memory.
     pub fn get(&self, index: usize) -> Option<LentSlot<'a, T>>
         ensures { option_map lent_slot result
             ≡ slice_get (map slot_in_memory (slots_lent self.now)) index }

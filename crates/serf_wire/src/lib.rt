@@ -2,8 +2,8 @@
 //!
 //! A packet is a type byte and one value of MessagePack. `decode` reads it where it lies, without memory, in
 //! every spelling that MessagePack has, and answers the message or the packet's first fault. The encoders write
-//! the one canonical packet of a message. `passes` says which nodes a query asks. `read_intent` and `encode_intent` do the
-//! same for the two messages that a host of members needs beside these, and that `decode` leaves unread.
+//! the one canonical packet of a message. `passes` says which nodes a query asks. `read_intent` and `encode_intent` read and
+//! write the two intents, joins and leaves, which a host of members needs too; `decode` leaves them unread.
 #![tactic(auto)]
 
 mod checked;

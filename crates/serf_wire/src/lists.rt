@@ -64,7 +64,7 @@ impl<'a> Texts<'a> {
     ghost use Rattle.serf_wire.specs.Lookups.{text_in, list_in, tree_or_nil};
     ghost use Rattle.serf_wire.specs.Lists.{texts_left};
 
-    /// The texts of a list, where each item is one.
+    /// The texts of `list`, where each item is one. `None` has none.
     #[inline(always)]
     pub(crate) fn of(list: Option<View<'a>>) -> Texts<'a>
         ensures { texts_left result
@@ -86,7 +86,7 @@ impl<'a> StatusTimes<'a> {
     ghost use Rattle.serf_wire.specs.Lookups.{status_in, tree_or_nil};
     ghost use Rattle.serf_wire.specs.Lists.{status_left};
 
-    /// The names and times of a map, where each pair is such.
+    /// The names and times of `map`, where each pair is a name and a time. `None` has none.
     #[inline(always)]
     pub(crate) fn of(map: Option<View<'a>>) -> StatusTimes<'a>
         ensures { status_left result ≡ status_in (tree_or_nil (option_map tree_of map.entry)) }
@@ -107,7 +107,7 @@ impl<'a> EventViews<'a> {
     ghost use Rattle.serf_wire.specs.Lookups.{list_in, tree_or_nil, event_body_in};
     ghost use Rattle.serf_wire.specs.Lists.{events_left};
 
-    /// The events of a list, where each item is one.
+    /// The events of `list`, where each item is one. `None` has none.
     #[inline(always)]
     pub(crate) fn of(list: Option<View<'a>>) -> EventViews<'a>
         ensures { events_left result
@@ -131,7 +131,7 @@ impl<'a> SlotViews<'a> {
     ghost use Rattle.serf_wire.specs.Lookups.{list_in, tree_or_nil, slot_in};
     ghost use Rattle.serf_wire.specs.Lists.{slots_left};
 
-    /// The slots of a list, where each item is one.
+    /// The slots of `list`, where each item is one. `None` has none.
     #[inline(always)]
     pub(crate) fn of(list: Option<View<'a>>) -> SlotViews<'a>
         ensures { slots_left result
@@ -154,7 +154,7 @@ impl<'a> EventView<'a> {
     ghost use Rattle.serf_wire.specs.Lookups.{event_body_in};
     ghost use Rattle.serf_wire.specs.Lists.{event_of_view};
 
-    /// The event that a value is, where it is one.
+    /// The event that `value` is, where it is one.
     pub(crate) fn of(value: &View<'a>) -> EventView<'a>
         ensures { event_of_view result ≡ event_body_in (tree_of value.now) }
     {
@@ -171,7 +171,7 @@ impl<'a> SlotView<'a> {
     ghost use Rattle.serf_wire.specs.Lookups.{slot_in};
     ghost use Rattle.serf_wire.specs.Lists.{slot_of_view};
 
-    /// The slot that a value is, where it is one.
+    /// The slot that `value` is, where it is one. Nil is the empty one.
     pub(crate) fn of(value: &View<'a>) -> SlotView<'a>
         ensures { slot_of_view result ≡ slot_in (tree_of value.now) }
     {
@@ -185,7 +185,7 @@ impl<'a> SlotView<'a> {
     }
 }
 
-/// The name and the time of a pair.
+/// The member's name and time that a pair of a map is.
 fn status_time_at<'a>(name: &View<'a>, time: &View<'a>) -> StatusTime<'a>
     ensures { status_of result ≡ status_time_in (tree_of name.now, tree_of time.now) }
 {

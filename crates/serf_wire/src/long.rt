@@ -10,7 +10,7 @@ use crate::lists::StatusTime;
 use crate::message::{PushPullParts, Query};
 use crate::texts::{Bytes, EventBody, Slot};
 
-/// The longest text or list whose length a header can say.
+/// The most bytes of a text, or items of a list, that a header can count.
 pub const LONGEST: usize = 4_294_967_295;
 
 /// Whether a text is longer than 4,294,967,295 bytes.
@@ -20,6 +20,7 @@ pub fn is_long_text(text: &[u8]) -> bool
     text.len() > LONGEST
 }
 
+/// Whether one of the filters is longer than 4,294,967,295 bytes.
 fn has_long_filter(filters: &[Bytes]) -> bool
     ensures { result ≡ list_any is_long filters.now }
 {
@@ -31,7 +32,7 @@ fn has_long_filter(filters: &[Bytes]) -> bool
     false
 }
 
-/// Whether one of the texts is too long.
+/// Whether one of the texts is longer than 4,294,967,295 bytes.
 pub fn has_long_text(texts: &[&[u8]]) -> bool
     ensures { result ≡ list_any (λ t. is_long t.now) texts.now }
 {
@@ -43,6 +44,7 @@ pub fn has_long_text(texts: &[&[u8]]) -> bool
     false
 }
 
+/// Whether one of the members' names is longer than 4,294,967,295 bytes.
 fn has_long_name(status: &[StatusTime]) -> bool
     ensures { result ≡ list_any (λ s. is_long s.name.now) status.now }
 {
@@ -54,6 +56,7 @@ fn has_long_name(status: &[StatusTime]) -> bool
     false
 }
 
+/// Whether one of the events has a name or a payload of more than 4,294,967,295 bytes.
 fn has_long_event(events: &[EventBody]) -> bool
     ensures { result ≡ list_any is_long_event events.now }
 {
@@ -65,6 +68,7 @@ fn has_long_event(events: &[EventBody]) -> bool
     false
 }
 
+/// Whether one of the slots has more than 4,294,967,295 events, or an event with a text of more bytes.
 fn has_long_slot(slots: &[Slot]) -> bool
     ensures { result ≡ list_any (λ s. is_long_slot (slot_content s)) slots.now }
 {

@@ -31,6 +31,7 @@ pub struct Query<'a, F = Texts<'a>> {
     pub filters: F,
     /// 1 asks for acks, 2 for no rebroadcast.
     pub flags: u32,
+    /// How many nodes are to relay each response.
     pub relay_factor: u8,
     /// How long answers are taken, in nanoseconds.
     pub timeout: i64,

@@ -1,4 +1,4 @@
-//! Packets to messages.
+//! Decodes packets: each to its message, or to its first fault.
 
 ghost use Rattle.std.specs.Prelude.{◌≡◌, ◌<◌, ◌^◌, List, Ok, Err, IfOk, IfErr, IfSome, IsOkAnd};
 ghost use Rattle.std.specs.Option.{option_map};
@@ -24,7 +24,7 @@ use crate::layout::{Class, MessageType, class_for, layout_for};
 use crate::lists::{SlotViews, StatusTimes, Texts};
 use crate::message::{Message, PushPull, Query, QueryResponse, UserEvent};
 
-/// The message of the fields of a sound map.
+/// The message that the fields `found` of a sound map say, each at its place in the layout (`layout.rt`).
 fn message_of_fields<'a>(message: MessageType, found: &FoundFields<'a>) -> Message<'a>
     ensures { (ps : List (Tree × Tree)) → Finds (layout_of message) found.now ps
         → message_of result ≡ message_in message ps }
@@ -67,7 +67,7 @@ fn message_of_fields<'a>(message: MessageType, found: &FoundFields<'a>) -> Messa
     }
 }
 
-/// The message of a map with such fields, or the bytes' first fault.
+/// The message whose map `bytes` spell after the type byte, in any spelling, or the packet's first fault.
 #[inline(never)]
 fn read_checked(message: MessageType, bytes: &[u8]) -> Result<Message<'_>, WireFault>
     ensures { Gives message_of result (read_value message (whole_at 8 bytes.now)) }
@@ -78,7 +78,7 @@ fn read_checked(message: MessageType, bytes: &[u8]) -> Result<Message<'_>, WireF
     }
 }
 
-/// The user event of a map: in one pass where it is spelled compactly.
+/// The user event whose map `bytes` spell, or the packet's first fault: read in one pass where it is spelled compactly.
 #[inline(always)]
 fn read_event_map(bytes: &[u8]) -> Result<Message<'_>, WireFault>
     ensures { Gives message_of result (read_value MessageType.UserEvent (whole_at 8 bytes.now)) }
@@ -90,7 +90,7 @@ fn read_event_map(bytes: &[u8]) -> Result<Message<'_>, WireFault>
     }
 }
 
-/// The user event of a map in any spelling, if it spells one.
+/// The user event whose map `bytes` spell, in any spelling, if they spell one.
 #[inline(never)]
 fn event_checked(bytes: &[u8]) -> Option<UserEvent<'_>>
     ensures { GivesEvent result (read_value MessageType.UserEvent (whole_at 8 bytes.now)) }
@@ -101,7 +101,7 @@ fn event_checked(bytes: &[u8]) -> Option<UserEvent<'_>>
     }
 }
 
-/// The user event of a map, if it spells one: in one pass where it is spelled compactly.
+/// The user event whose map `bytes` spell, if they spell one: read in one pass where it is spelled compactly.
 #[inline(always)]
 fn event_in_map(bytes: &[u8]) -> Option<UserEvent<'_>>
     ensures { GivesEvent result (read_value MessageType.UserEvent (whole_at 8 bytes.now)) }
@@ -113,7 +113,7 @@ fn event_in_map(bytes: &[u8]) -> Option<UserEvent<'_>>
     }
 }
 
-/// The state of a map: in one pass where it is spelled compactly.
+/// The push/pull whose map `bytes` spell, or the packet's first fault: read in one pass where it is spelled compactly.
 fn read_state_map(bytes: &[u8]) -> Result<Message<'_>, WireFault>
     ensures { Gives message_of result (read_value MessageType.PushPull (whole_at 8 bytes.now)) }
 {
@@ -124,7 +124,7 @@ fn read_state_map(bytes: &[u8]) -> Result<Message<'_>, WireFault>
     }
 }
 
-/// The message of a map.
+/// The message whose map `bytes` spell after the type byte of `message`, or the packet's first fault.
 #[inline(always)]
 fn read_map(message: MessageType, bytes: &[u8]) -> Result<Message<'_>, WireFault>
     ensures { Gives message_of result (read_value message (whole_at 8 bytes.now)) }
@@ -136,6 +136,7 @@ fn read_map(message: MessageType, bytes: &[u8]) -> Result<Message<'_>, WireFault
     }
 }
 
+/// The message that `packet` spells, or its first fault: what `decode` answers.
 #[inline(always)]
 #[tactic(auto, unfolding(crate::specs::Decoded::decoded))]
 fn read_packet(packet: &[u8]) -> Result<Message<'_>, WireFault>
@@ -175,7 +176,7 @@ pub fn decode(packet: &[u8]) -> Result<Message<'_>, WireFault>
 
 /// The user event that a packet spells, in whatever order of keys and spelling of values, or `None` where it spells none.
 ///
-/// Where `decode` gives another message or a fault, this is `None` too; what the fault is, `decode` says. Takes no memory.
+/// Where `decode` gives another message or a fault, the answer is `None`; what the fault is, `decode` says. Takes no memory.
 #[inline(always)]
 #[tactic(auto, unfolding(crate::specs::Decoded::decoded))]
 pub fn decode_user_event(packet: &[u8]) -> Option<UserEvent<'_>>

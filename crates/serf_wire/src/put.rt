@@ -1,4 +1,4 @@
-//! Fields and lists of canonical packets, at the end of a vector.
+//! Appends fields and lists of canonical packets to a vector, `out`.
 
 ghost use Rattle.std.specs.Prelude.{◌≡◌, ◌<◌, ◌^◌, ◌++◌, false, true, length, nat_lt, codes, map, replicate, OnOk, Some};
 ghost use Rattle.std.specs.List.{flat_map, list_any, list_all};
@@ -17,6 +17,7 @@ use crate::texts::{Bytes, EventBody, Slot};
 use serf_pack::{put_array, put_bool, put_int, put_map, put_nil, put_raw, put_uint};
 use std::alloc::AllocError;
 
+/// Appends a field with a text: `name` as the key, and `text`.
 pub fn put_text_field(out: &mut Vec<u8>, name: &[u8], text: &[u8]) -> Result<(), AllocError>
     requires name { length name.now < 2 ^ 32 }
     requires text { length text.now < 2 ^ 32 }
@@ -26,6 +27,7 @@ pub fn put_text_field(out: &mut Vec<u8>, name: &[u8], text: &[u8]) -> Result<(),
     put_raw(out, text)
 }
 
+/// Appends a field with a number: `name` as the key, and `number`.
 pub fn put_number_field(out: &mut Vec<u8>, name: &[u8], number: u64) -> Result<(), AllocError>
     requires { length name.now < 2 ^ 32 }
     ensures { OnOk result (out.new.items ≡ out.old.items ++ entry name.now (uint_bytes number)) }
@@ -34,7 +36,7 @@ pub fn put_number_field(out: &mut Vec<u8>, name: &[u8], number: u64) -> Result<(
     put_uint(out, number)
 }
 
-/// The field of a query's timeout.
+/// Appends the field of a query's timeout.
 pub fn put_timeout_field(out: &mut Vec<u8>, parts: &Query<&[Bytes]>) -> Result<(), AllocError>
     ensures timeout { OnOk result (fits parts.now.timeout ≡ Some parts.now.timeout) }
     ensures bytes { OnOk result (out.new.items ≡ out.old.items
@@ -44,6 +46,7 @@ pub fn put_timeout_field(out: &mut Vec<u8>, parts: &Query<&[Bytes]>) -> Result<(
     put_int(out, parts.timeout)
 }
 
+/// Appends a field with a truth value: `name` as the key, and `flag`.
 pub fn put_flag_field(out: &mut Vec<u8>, name: &[u8], flag: bool) -> Result<(), AllocError>
     requires { length name.now < 2 ^ 32 }
     ensures { OnOk result (out.new.items ≡ out.old.items ++ entry name.now (flag_bytes flag)) }
@@ -52,7 +55,7 @@ pub fn put_flag_field(out: &mut Vec<u8>, name: &[u8], flag: bool) -> Result<(), 
     put_bool(out, flag)
 }
 
-/// The items of a list of filters.
+/// Appends the items of a list of filters, without its header.
 fn put_filters(out: &mut Vec<u8>, filters: &[Bytes]) -> Result<(), AllocError>
     requires { list_any is_long filters.now ≡ false }
     ensures { OnOk result (out.new.items ≡ out.old.items ++ flat_map raw_bytes filters.now) }
@@ -63,7 +66,7 @@ fn put_filters(out: &mut Vec<u8>, filters: &[Bytes]) -> Result<(), AllocError>
     Ok(())
 }
 
-/// A field that is a list of filters.
+/// Appends a field with a list of filters: `name` as the key, and the list.
 pub fn put_filters_field(
     out: &mut Vec<u8>,
     name: &[u8],
@@ -80,7 +83,7 @@ pub fn put_filters_field(
     put_filters(out, filters)
 }
 
-/// The items of a list of texts.
+/// Appends the items of a list of texts, without its header.
 pub fn put_texts(out: &mut Vec<u8>, texts: &[&[u8]]) -> Result<(), AllocError>
     requires { list_any (λ t. is_long t.now) texts.now ≡ false }
     ensures { OnOk result (out.new.items ≡ out.old.items
@@ -92,7 +95,7 @@ pub fn put_texts(out: &mut Vec<u8>, texts: &[&[u8]]) -> Result<(), AllocError>
     Ok(())
 }
 
-/// A field that is a list of texts.
+/// Appends a field with a list of texts: `name` as the key, and the list.
 pub fn put_texts_field(out: &mut Vec<u8>, name: &[u8], texts: &[&[u8]]) -> Result<(), AllocError>
     requires name { length name.now < 2 ^ 32 }
     requires list { length texts.now < 2 ^ 32 }
@@ -105,7 +108,7 @@ pub fn put_texts_field(out: &mut Vec<u8>, name: &[u8], texts: &[&[u8]]) -> Resul
     put_texts(out, texts)
 }
 
-/// The pairs of a map of names and times.
+/// Appends the pairs of a map of names and times, without its header.
 fn put_status_times(out: &mut Vec<u8>, status: &[StatusTime]) -> Result<(), AllocError>
     requires { list_any (λ s. is_long s.name.now) status.now ≡ false }
     ensures bytes { OnOk result (out.new.items ≡ out.old.items
@@ -118,7 +121,7 @@ fn put_status_times(out: &mut Vec<u8>, status: &[StatusTime]) -> Result<(), Allo
     Ok(())
 }
 
-/// A field that is a map of names and times.
+/// Appends a field with a map of names and times: `name` as the key, and the map.
 pub fn put_status_field(
     out: &mut Vec<u8>,
     name: &[u8],
@@ -137,6 +140,7 @@ pub fn put_status_field(
     put_status_times(out, status)
 }
 
+/// Appends an event of a slot: a map of its name and payload.
 fn put_event(out: &mut Vec<u8>, event: &EventBody) -> Result<(), AllocError>
     requires { is_long_event event.now ≡ false }
     ensures { OnOk result (out.new.items ≡ out.old.items ++ event_bytes event.now) }
@@ -146,7 +150,7 @@ fn put_event(out: &mut Vec<u8>, event: &EventBody) -> Result<(), AllocError>
     put_text_field(out, b"Payload", event.payload.as_slice())
 }
 
-/// The items of a list of events.
+/// Appends the items of a list of events, without its header.
 fn put_events(out: &mut Vec<u8>, events: &[EventBody]) -> Result<(), AllocError>
     requires { list_any is_long_event events.now ≡ false }
     ensures { OnOk result (out.new.items ≡ out.old.items ++ flat_map event_bytes events.now) }
@@ -157,7 +161,7 @@ fn put_events(out: &mut Vec<u8>, events: &[EventBody]) -> Result<(), AllocError>
     Ok(())
 }
 
-/// A slot with events.
+/// Appends a slot with events: a map of `time` and the list of `events`.
 fn put_held(out: &mut Vec<u8>, time: u64, events: &[EventBody]) -> Result<(), AllocError>
     requires list { length events.now < 2 ^ 32 }
     requires items { list_any is_long_event events.now ≡ false }
@@ -172,7 +176,7 @@ fn put_held(out: &mut Vec<u8>, time: u64, events: &[EventBody]) -> Result<(), Al
     put_events(out, events)
 }
 
-/// A slot, which is nil where it has no events.
+/// Appends a slot, which is nil where it has no events.
 fn put_slot(out: &mut Vec<u8>, slot: &Slot) -> Result<(), AllocError>
     requires { is_long_slot (slot_content slot.now) ≡ false }
     ensures bytes { OnOk result (out.new.items ≡ out.old.items
@@ -187,7 +191,7 @@ fn put_slot(out: &mut Vec<u8>, slot: &Slot) -> Result<(), AllocError>
     put_held(out, time, events)
 }
 
-/// The items of a list of slots.
+/// Appends the items of a list of slots, without its header.
 fn put_slots(out: &mut Vec<u8>, slots: &[Slot]) -> Result<(), AllocError>
     requires { list_any (λ s. is_long_slot (slot_content s)) slots.now ≡ false }
     ensures bytes { OnOk result (out.new.items ≡ out.old.items
@@ -200,7 +204,7 @@ fn put_slots(out: &mut Vec<u8>, slots: &[Slot]) -> Result<(), AllocError>
     Ok(())
 }
 
-/// So many slots that were never used, which are nil.
+/// Appends `count` slots that were never used, which are nil.
 fn put_unused(out: &mut Vec<u8>, count: u32) -> Result<(), AllocError>
     ensures { OnOk result (out.new.items ≡ out.old.items
         ++ flat_map (λ s. slot_bytes (slot_content s)) (replicate count unused_slot)) }
@@ -211,7 +215,7 @@ fn put_unused(out: &mut Vec<u8>, count: u32) -> Result<(), AllocError>
     Ok(())
 }
 
-/// A field that is a list of slots.
+/// Appends a field with a list of slots: `name` as the key, and the list.
 pub fn put_slots_field(
     out: &mut Vec<u8>,
     name: &[u8],

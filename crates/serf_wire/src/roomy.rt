@@ -1,4 +1,4 @@
-//! A list with spare room.
+//! A list with spare room, so that items can be added later without memory.
 
 ghost use Rattle.std.specs.Prelude.{◌≡◌, ◌+◌, ◌-◌, ◌<◌, ◌≤◌, [], ◌∷◌, ◌++◌, OnOk, OnErr, length, vec_len, vec_capacity};
 
@@ -59,7 +59,7 @@ impl<T> RoomyList<T> {
         items
     }
 
-    /// Makes room for one more, or changes nothing where there is no memory for it. Takes memory only where there
+    /// Makes room for one more item, or changes nothing where there is no memory for it. Takes memory only where there
     /// is no room.
     pub fn make_room(&mut self) -> Result<(), AllocError>
         ensures items { self.new.items ≡ self.old.items }
@@ -82,7 +82,7 @@ impl<T> RoomyList<T> {
 }
 
 impl<T: Drop> RoomyList<T> {
-    /// Leaves no item, and all the room that was there. Takes no memory.
+    /// Drops all items. Their places are room then, beside the room that there was. Takes no memory.
     pub fn clear(&mut self)
         ensures items { self.new.items ≡ [] }
         ensures room { self.new.room ≡ self.old.room + length self.old.items }

@@ -10,7 +10,7 @@ use crate::fast::{read_event, read_slot};
 use crate::lists::{EventView, SlotView};
 use serf_pack::Items;
 
-/// The next event, where it is compact, and what is left after it.
+/// The next event of `items`, where it is spelled compactly, and the items after it.
 #[inline(always)]
 fn compact_event<'a>(items: &Items<'a>) -> Option<(EventView<'a>, Items<'a>)>
     ensures { IfSome result (λ x. map event_body_in (items_left items.now)
@@ -26,7 +26,7 @@ fn compact_event<'a>(items: &Items<'a>) -> Option<(EventView<'a>, Items<'a>)>
     }
 }
 
-/// The next event, and what is left after it.
+/// The next event of `items`, and the items after it.
 #[inline]
 pub fn next_event<'a>(items: &Items<'a>) -> Option<(EventView<'a>, Items<'a>)>
     ensures some { IfSome result (λ x. map event_body_in (items_left items.now)
@@ -46,7 +46,7 @@ pub fn next_event<'a>(items: &Items<'a>) -> Option<(EventView<'a>, Items<'a>)>
     }
 }
 
-/// The next slot, where it is compact, and what is left after it.
+/// The next slot of `items`, where it is spelled compactly, and the items after it.
 #[inline(always)]
 fn compact_slot<'a>(items: &Items<'a>) -> Option<(SlotView<'a>, Items<'a>)>
     ensures { IfSome result (λ x. map slot_in (items_left items.now)
@@ -62,7 +62,7 @@ fn compact_slot<'a>(items: &Items<'a>) -> Option<(SlotView<'a>, Items<'a>)>
     }
 }
 
-/// The next slot, and what is left after it.
+/// The next slot of `items`, and the items after it.
 #[inline]
 pub fn next_slot<'a>(items: &Items<'a>) -> Option<(SlotView<'a>, Items<'a>)>
     ensures some { IfSome result (λ x. map slot_in (items_left items.now)

@@ -1,8 +1,9 @@
 -- Over a sink with a plan a call of an agent has one end.
-use Rattle.serf_world.proofs.Names.{zero, suc, ◌<◌, ◌≤◌, arith, length, set, get_or, ◌≡◌, ℕ, nat_le, cond, Bool, true, false, List, [], ◌∷◌, Option, Some, None, IsSome, MatchBool, map, Result, Ok, Err, refl, sym, ap, subst, ◌∙◌, slice_get, IfOk, AllByRecursion, AllocError, length-map, map-set, All-from_recursion, All-set, recursion_from_All, get_or_from_slice_get, slice_get_within, ClockKind, clock_line, Device, FailurePlan, SnapshotView, Writing, Kept, Failed, IsObservable, MayWrite, will_write, durable_left_by, last_line, RespondFault, Handed, respond_fault, Call, Ends, Notes, Replaces, MayNote, MayEnd, planned, ended, will, will_note, IdealAgent, Steps, AgentState, ConcreteState, view_of, Act, Line, NoAgent, IdealNode, Cluster, Applied, Done, apply, called, line_only, on_agent, responds, responds_as, with_handed, AreRepresentable, IsRepresentable, append-nil, EventOut, event_line, only, ◌++◌, ◌≢◌}
+use Rattle.serf_world.proofs.Names.{zero, suc, ◌<◌, ◌≤◌, arith, length, set, get_or, ◌≡◌, ℕ, nat_le, cond, Bool, true, false, List, [], ◌∷◌, Option, Some, None, IsSome, MatchBool, map, Result, Ok, Err, refl, sym, ap, subst, ◌∙◌, slice_get, AllByRecursion, length-map, map-set, All-from_recursion, All-set, recursion_from_All, get_or_from_slice_get, slice_get_within, ClockKind, clock_line, Device, FailurePlan, SnapshotView, Writing, Kept, Failed, IsObservable, MayWrite, will_write, durable_left_by, last_line, RespondFault, Handed, respond_fault, Call, Ends, Notes, Replaces, MayNote, MayEnd, planned, ended, will, will_note, IdealAgent, Steps, AgentState, ConcreteState, view_of, Act, Line, NoAgent, IdealNode, Cluster, Applied, Done, apply, called, line_only, on_agent, responds, responds_as, with_handed, AreRepresentable, IsRepresentable, append-nil, EventOut, event_line, only, ◌++◌, ◌≢◌}
 use Rattle.serf_snap.specs.declared.snapshot.NoteFault.{NoteFault}
 use Rattle.serf_snap.specs.KeptNotes.{kept_bytes}
 use Rattle.serf_snap.specs.Notes.{MayReplaceBy, will_put}
+use Rattle.serf_agent.specs.Sound.{IsSound}
 use Rattle.serf_agent.specs.Told.{text_with}
 use Rattle.serf_model.specs.declared.line.Answer.{Answer}
 use Rattle.serf_model.specs.declared.line.Refusal.{Refusal}
@@ -87,18 +88,23 @@ ok-differs : {R E : Type 0} (r : Result R E) (x : R) (g : E) → r ≡ Ok x → 
 ok-differs r x g is e = let both : Ok x ≡ Err g = sym is ∙ e in absurd (cc both)
 
 -- a call that did what it was to do
-pub call-done : {R E : Type 0} (m : IdealNode) (call : Call (Result R E)) (result : Result R E) (old : Device) (new : AgentState) (gives : Result R E → Done) (x : R) (memory : E) (a : ℕ) (before after : List (List ℕ)) (handed : List (Option Handed)) (line : Line) → IsRepresentable m.agent
-    → result ≡ Ok x → (result ≢ Err memory → Steps m.agent call result old new) → Shows a before after m.handed handed (gives (Ok x)) line → TakesTurn a before after (called m (planned m.agent call) gives) (record { concrete = new.concrete; handed = handed }) line
-call-done {R} {E} m call result old new gives x memory a before after handed line representable is steps shows =
-    does-call m call result old new gives a before after handed line representable (steps (ok-differs result x memory is)) (subst (λ (r : Result R E). Shows a before after m.handed handed (gives r) line) (sym is) shows)
+pub call-done : {R E : Type 0} (call : IdealAgent → Call (Result R E)) (gives : Result R E → Done) (x : R) (memory : E) (node given : NodeState) (result : Result R E) (old : Device) (new : AgentState) (a : ℕ) (before after : List (List ℕ)) (handed : List (Option Handed)) (line : Line) → node ≡ given → result ≡ Ok x
+    → ((i : IdealAgent) → IsSound i → node.concrete ≡ view_of i → result ≢ Err memory → Steps i (call i) result old new) → Shows a before after node.handed handed (gives (Ok x)) line
+    → (m : IdealNode) → IsRepresentable m.agent → given ≡ node_of m → TakesTurn a before after (called m (planned m.agent (call m.agent)) gives) (record { concrete = new.concrete; handed = handed }) line
+call-done {R} {E} call gives x memory node given result old new a before after handed line viewed is steps shows m representable same =
+    let was = viewed ∙ same in
+    does-call m (call m.agent) result old new gives a before after handed line representable (steps m.agent representable.consistent.sound (ap (λ (n : NodeState). n.concrete) was) (ok-differs result x memory is))
+    (subst (λ (r : Result R E). Shows a before after m.handed handed (gives r) line) (sym is) (subst (λ (l : List (Option Handed)). Shows a before after l handed (gives (Ok x)) line) (ap (λ (n : NodeState). n.handed) was) shows))
 
 -- a call that was refused, and didn't want memory
-pub call-refused : {R E : Type 0} (m : IdealNode) (call : Call (Result R E)) (result : Result R E) (old : Device) (new : AgentState) (gives : Result R E → Done) (refusal : E → Refusal) (fault memory : E) (told : Refusal) (a : ℕ) (sent : List (List ℕ)) (handed : List (Option Handed)) (line : Line) → ((e : E) → gives (Err e) ≡ refused (refusal e)) → IsRepresentable m.agent → handed ≡ m.handed
-    → result ≡ Err fault → (result ≢ Err memory → Steps m.agent call result old new) → (told ≡ refusal fault) × (fault ≢ memory) → line ≡ line_only (answers.Refused told) → TakesTurn a sent sent (called m (planned m.agent call) gives) (record { concrete = new.concrete; handed = handed }) line
-call-refused {R} {E} m call result old new gives refusal fault memory told a sent handed line by representable same is steps says shows =
-    let only_refused : Shows a sent sent m.handed handed (refused (refusal fault)) line = shows-only a sent m.handed handed (answers.Refused (refusal fault)) line same (shows ∙ ap (λ r. line_only (answers.Refused r)) says.0) in
-    does-call m call result old new gives a sent sent handed line representable (steps (err-differs result fault memory is says.1))
-    (subst (λ (r : Result R E). Shows a sent sent m.handed handed (gives r) line) (sym is) (subst (λ (d : Done). Shows a sent sent m.handed handed d line) (sym (by fault)) only_refused))
+pub call-refused : {R E : Type 0} (call : IdealAgent → Call (Result R E)) (gives : Result R E → Done) (refusal : E → Refusal) (fault memory : E) (told : Refusal) (node given : NodeState) (result : Result R E) (old : Device) (new : AgentState) (a : ℕ) (sent : List (List ℕ)) (line : Line) → ((e : E) → gives (Err e) ≡ refused (refusal e))
+    → node ≡ given → result ≡ Err fault → ((i : IdealAgent) → IsSound i → node.concrete ≡ view_of i → result ≢ Err memory → Steps i (call i) result old new) → (told ≡ refusal fault) × (fault ≢ memory) → line ≡ line_only (answers.Refused told)
+    → (m : IdealNode) → IsRepresentable m.agent → given ≡ node_of m → TakesTurn a sent sent (called m (planned m.agent (call m.agent)) gives) (record { concrete = new.concrete; handed = node.handed }) line
+call-refused {R} {E} call gives refusal fault memory told node given result old new a sent line by viewed is steps says shows m representable same =
+    let was = viewed ∙ same in
+    let only_refused : Shows a sent sent m.handed node.handed (refused (refusal fault)) line = shows-only a sent m.handed node.handed (answers.Refused (refusal fault)) line (ap (λ (n : NodeState). n.handed) was) (shows ∙ ap (λ r. line_only (answers.Refused r)) says.0) in
+    does-call m (call m.agent) result old new gives a sent sent node.handed line representable (steps m.agent representable.consistent.sound (ap (λ (n : NodeState). n.concrete) was) (err-differs result fault memory is says.1))
+    (subst (λ (r : Result R E). Shows a sent sent m.handed node.handed (gives r) line) (sym is) (subst (λ (d : Done). Shows a sent sent m.handed node.handed d line) (sym (by fault)) only_refused))
 
 -- an action that is refused before its agent does anything
 pub refuses : (m : IdealNode) (node : NodeState) (refusal : Refusal) (a : ℕ) (sent : List (List ℕ)) (line : Line) → node ≡ node_of m → line ≡ line_only (answers.Refused refusal) → TakesTurn a sent sent (does_nothing m (refused refusal)) node line
@@ -106,9 +112,17 @@ refuses m node refusal a sent line is shows =
     record { state = ap (λ (n : NodeState). n.concrete) is; shows = shows-only a sent m.handed node.handed (answers.Refused refusal) line (ap (λ (n : NodeState). n.handed) is) shows }
 
 -- a note of the member clock, or a compaction
-pub shows-note : (a : ℕ) (sent : List (List ℕ)) (old new : List (Option Handed)) (answer : Answer) (noted : Result (Unit {0}) NoteFault) (line : Line) → new ≡ old → line ≡ line_only (note_gives answer noted).answer → Shows a sent sent old new (note_gives answer noted) line
+shows-note : (a : ℕ) (sent : List (List ℕ)) (old new : List (Option Handed)) (answer : Answer) (noted : Result (Unit {0}) NoteFault) (line : Line) → new ≡ old → line ≡ line_only (note_gives answer noted).answer → Shows a sent sent old new (note_gives answer noted) line
 shows-note a sent old new answer (Ok done) line same is = shows-only a sent old new answer line same is
 shows-note a sent old new answer (Err fault) line same is = shows-only a sent old new (answers.Refused (note_refusal fault)) line same is
+
+pub noted : (call : IdealAgent → Call (Result (Unit {0}) NoteFault)) (answer : Answer) (memory : NoteFault) (node given : NodeState) (result : Result (Unit {0}) NoteFault) (old : Device) (new : AgentState) (line : Line) → node ≡ given
+    → ((i : IdealAgent) → IsSound i → node.concrete ≡ view_of i → result ≢ Err memory → Steps i (call i) result old new) → (line ≡ line_only (note_gives answer result).answer) × (result ≢ Err memory)
+    → (m : IdealNode) (number : ℕ) (sent : List (List ℕ)) → IsRepresentable m.agent → given ≡ node_of m → TakesTurn number sent sent (called m (planned m.agent (call m.agent)) (note_gives answer)) (record { concrete = new.concrete; handed = node.handed }) line
+noted call answer memory node given result old new line viewed steps says m number sent representable same =
+    let was = viewed ∙ same in
+    does-call m (call m.agent) result old new (note_gives answer) number sent sent node.handed line representable (steps m.agent representable.consistent.sound (ap (λ (n : NodeState). n.concrete) was) says.1)
+    (shows-note number sent m.handed node.handed answer result line (ap (λ (n : NodeState). n.handed) was) says.0)
 
 -- ---- answering a query
 
@@ -184,10 +198,10 @@ abbrev pub IsToldAct : List (List ℕ) → Act → Type 0
 IsToldAct sent act = BringsToldBy act × All (λ e. IsTold e.key) (events_given (given_by sent act))
 
 -- what a world owes after a turn of the agent found
-abbrev Owes : Cluster → ℕ → Act → Option IdealNode → WorldState → Line → Type 0
+abbrev pub Owes : Cluster → ℕ → Act → Option IdealNode → WorldState → Line → Type 0
 Owes c a act r w line = TakesStep (on_agent c a act r) w line
 
-owes-turn : KeepsRepresentable → (c : Cluster) (w : WorldState) (more : List (List ℕ)) (a : ℕ) (act : Act) (old new : NodeState) (line : Line) → IsViewed c w → AreRepresentable c → IsToldAct w.sent act → a < length w.nodes → old ≡ get_or w.nodes a old
+pub owes-turn : KeepsRepresentable → (c : Cluster) (w : WorldState) (more : List (List ℕ)) (a : ℕ) (act : Act) (old new : NodeState) (line : Line) → IsViewed c w → AreRepresentable c → IsToldAct w.sent act → a < length w.nodes → old ≡ get_or w.nodes a old
     → ((m : IdealNode) → IsRepresentable m.agent → old ≡ node_of m → TakesTurn a w.sent more (apply m w.sent act) new line)
     → Owes c a act (slice_get c.nodes a) (record { nodes = set w.nodes a new; sent = more }) line
 owes-turn keeps c w more a act old new line v representable told within at does = by (slice_get c.nodes a) refl
@@ -202,24 +216,13 @@ owes-turn keeps c w more a act old new line v representable told within at does 
         let node : node_of (with_handed o.done.handed o.node) ≡ new = λ k. record { concrete = sym did.state k; handed = sym did.shows.kept k } in
         record {
           line_is = λ k. record { answer = did.shows.answer k; sent = did.shows.sent k; events = did.shows.events k; handed = did.shows.handed k };
-          view = record {
-            nodes = map-set node_of c.nodes a (with_handed o.done.handed o.node) ∙ ap (λ l. set l a (node_of (with_handed o.done.handed o.node))) v.nodes ∙ ap (λ s. set w.nodes a s) node;
-            sent = sym did.shows.packets;
-          };
+          view = record { nodes = map-set node_of c.nodes a (with_handed o.done.handed o.node) ∙ ap (λ l. set l a (node_of (with_handed o.done.handed o.node))) v.nodes ∙ ap (λ s. set w.nodes a s) node; sent = sym did.shows.packets };
           representable = all-put (λ m. IsRepresentable m.agent) c.nodes a (with_handed o.done.handed o.node) representable (keeps m c.sent act (λ keeping. subst (λ (s : List (List ℕ)). IsToldAct s act) (sym v.sent) told) well);
         }
 
-pub owes-turns : KeepsRepresentable → (c : Cluster) (w : WorldState) (more : List (List ℕ)) (a : ℕ) (act : Act) (old new : NodeState) (result : Result Line AllocError) → IsViewed c w → AreRepresentable c → IsToldAct w.sent act → a < length w.nodes → old ≡ get_or w.nodes a old
-    → ((m : IdealNode) → IsRepresentable m.agent → old ≡ node_of m → IfOk result (TakesTurn a w.sent more (apply m w.sent act) new))
-    → IfOk result (Owes c a act (slice_get c.nodes a) (record { nodes = set w.nodes a new; sent = more }))
-owes-turns keeps c w more a act old new (Ok line) v representable told within at does = owes-turn keeps c w more a act old new line v representable told within at does
-owes-turns keeps c w more a act old new (Err fault) v representable told within at does = tt
-
 pub owes-none : (c : Cluster) (w : WorldState) (a : ℕ) (act : Act) (line : Line) → IsViewed c w → AreRepresentable c → length w.nodes ≤ a → line ≡ line_only (answers.Refused NoAgent) → Owes c a act (slice_get c.nodes a) w line
 owes-none c w a act line v representable past is =
-    let n = ap length v.nodes in
-    let l = length-map c.nodes node_of in
-    let none : slice_get c.nodes a ≡ None = past-none c.nodes a (omega arith) in
+    let none : slice_get c.nodes a ≡ None = (let n = ap length v.nodes in let l = length-map c.nodes node_of in past-none c.nodes a (omega arith)) in
     subst (λ (r : Option IdealNode). Owes c a act r w line) (sym none) (record { line_is = is; view = v; representable = representable })
 
 pub map-map : {X Y Z : Type 0} (f : Y → Z) (g : X → Y) (xs : List X) → map f (map g xs) ≡ map (λ x. f (g x)) xs

@@ -17,8 +17,8 @@ ghost use Rattle.serf_world.specs.View.{node_of};
 use crate::line::{
     line_only, line_with_event, line_with_packet, line_with_query, query_packets, refused,
 };
-use crate::node::Node;
 use crate::refusal::{fire_refusal, note_refusal, query_refusal, state_refusal};
+use crate::world::Node;
 use serf_agent::{Agent, Config, Fired, FiredQuery, OpenFault};
 use serf_model::{Answer, Line, NewQuery, SinkCall, representable_agents};
 use serf_snap::{MemSink, NoteFault};

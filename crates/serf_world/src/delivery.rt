@@ -1,91 +1,37 @@
-//! An agent is given a packet.
+//! An agent is given a packet: a message, or the state of another that it merges.
 
-ghost use Rattle.std.specs.Prelude.{◌≡◌, ◌∷◌, ℕ, List, [], IfOk, IsSome, OnErr, Ok, Some, slice_get, if◌then◌else◌};
+ghost use Rattle.std.specs.Prelude.{◌≡◌, ◌≢◌, ◌∷◌, ◌++◌, [], IfOk, OnErr, Err, Some, slice_get, if◌then◌else◌};
 ghost use Rattle.std.specs.Option.{option_to_list};
-ghost use Rattle.serf_model.specs.Cluster.{IdealNode, delivers, receive_gives};
+ghost use Rattle.serf_agent.specs.States.{fault_in};
+ghost use Rattle.serf_model.specs.Cluster.{IdealNode, delivers, merge_refusal_of, merges_given};
 ghost use Rattle.serf_model.specs.Ready.{IsRepresentable};
-ghost use Rattle.serf_world.specs.Turns.{Shows, TakesTurn};
+ghost use Rattle.serf_world.specs.Turns.{TakesTurn, merge_answer};
 ghost use Rattle.serf_world.specs.View.{node_of};
 
-use crate::line::{line_only, line_with_event, line_with_query, query_packets, refused};
-use crate::node::Node;
+use crate::line::{
+    line_only, line_with_event, line_with_events, line_with_query, query_packets, refused,
+};
 use crate::refusal::receive_refusal;
-use serf_agent::{HandedQuery, Outcome};
-use serf_model::{Answer, Line, Refusal, packet_at};
-use serf_wire::Bytes;
+use crate::told::know_packet;
+use crate::world::Node;
+use serf_agent::{EventOut, MergeFault, Outcome};
+use serf_model::{Answer, Line, Refusal, merged_agents, packet_at};
+use serf_wire::{Bytes, PushPull};
 use std::alloc::{AllocError, Global};
 
-/// A copy of the packet of this number.
-fn copy_at(alloc: Global, sent: &[Bytes], packet: u64) -> Result<Bytes, AllocError>
-    requires { IsSome (slice_get sent.now packet) }
-    ensures { (bytes : List ℕ) → slice_get sent.now packet ≡ Some bytes
-        → IfOk result (λ copy. copy ≡ bytes) }
-{
-    match packet_at(sent, packet) {
-        Some(bytes) => Bytes::copy_of(alloc, bytes),
-        None => unreachable!(),
-    }
-}
-
-/// A copy of the packet of this number, where it is to be sent on.
-fn sent_on(
-    alloc: Global,
-    sent: &[Bytes],
-    packet: u64,
-    rebroadcast: bool,
-) -> Result<Option<Bytes>, AllocError>
-    requires { IsSome (slice_get sent.now packet) }
-    ensures { (bytes : List ℕ) → slice_get sent.now packet ≡ Some bytes
-        → IfOk result (λ copy. option_to_list copy ≡ (if rebroadcast then bytes ∷ [] else [])) }
+/// A copy of a packet, where it is to be sent on.
+fn sent_on(alloc: Global, packet: &[u8], rebroadcast: bool) -> Result<Option<Bytes>, AllocError>
+    ensures { IfOk result (λ copy. option_to_list copy
+        ≡ (if rebroadcast then packet.now ∷ [] else [])) }
 {
     if !rebroadcast {
         return Ok(None);
     }
-    Ok(Some(copy_at(alloc, sent, packet)?))
+    Ok(Some(Bytes::copy_of(alloc, packet)?))
 }
 
-/// The line of a packet that was sent and given to an agent. A new event and, where it asks for that, a new query is
-/// sent on as it came.
-#[inline(always)]
-fn outcome_line(
-    alloc: Global,
-    agent: u64,
-    sent: &mut Vec<Bytes>,
-    handed: &mut Vec<Option<HandedQuery>>,
-    packet: u64,
-    outcome: Outcome,
-) -> Result<Line, AllocError>
-    requires { IsSome (slice_get sent.now.items packet) }
-    ensures shows { (bytes : List ℕ) → slice_get sent.old.items packet ≡ Some bytes
-        → IfOk result (Shows agent sent.old.items sent.new.items handed.old.items handed.new.items
-        (receive_gives bytes (Ok outcome))) }
-    ensures err { OnErr result (sent.new.items ≡ sent.old.items) }
-{
-    match outcome {
-        Outcome::Event(event) => {
-            let copy = copy_at(alloc, sent.as_slice(), packet)?;
-            let line = line_with_event(alloc, agent, sent, Answer::New, copy, event)?;
-            Ok(line)
-        }
-        Outcome::Query {
-            handed: query,
-            ack,
-            rebroadcast,
-        } => {
-            let copy = sent_on(alloc, sent.as_slice(), packet, rebroadcast)?;
-            let packets = query_packets(alloc, copy, ack)?;
-            let line = line_with_query(alloc, agent, sent, handed, Answer::Query, packets, query)?;
-            Ok(line)
-        }
-        Outcome::Ack => Ok(line_only(alloc, Answer::Ack)),
-        Outcome::Response => Ok(line_only(alloc, Answer::Response)),
-        Outcome::Ignored(reason) => Ok(line_only(alloc, Answer::Ignored(reason))),
-        Outcome::Foreign(kind) => Ok(line_only(alloc, Answer::Foreign(kind))),
-        Outcome::PushPull => Ok(line_only(alloc, Answer::PushPull)),
-    }
-}
-
-/// An agent is given a packet, where there is one.
+/// An agent is given a packet, where there is one. A new event and, where it asks for that, a new query is sent on as it
+/// came.
 #[inline(always)]
 pub(crate) fn deliver_at(
     alloc: Global,
@@ -103,11 +49,74 @@ pub(crate) fn deliver_at(
     let Some(bytes) = packet_at(sent.as_slice(), packet) else {
         return Ok(refused(alloc, Refusal::NoMessage));
     };
-    let received = node.agent.receive(alloc, now, bytes);
-    let outcome = match received {
-        Ok(outcome) => outcome,
-        Err(fault) => return Ok(refused(alloc, receive_refusal(fault)?)),
+    let received = node.agent.receive(alloc, now, bytes, false);
+    match received {
+        Ok(Outcome::Event(event)) => {
+            let copy = Bytes::copy_of(alloc, bytes)?;
+            let line = line_with_event(alloc, number, sent, Answer::New, copy, event)?;
+            Ok(line)
+        }
+        Ok(
+            Outcome::Query {
+                handed: query,
+                ack,
+                rebroadcast,
+            },
+        ) => {
+            let copy = sent_on(alloc, bytes, rebroadcast)?;
+            let packets = query_packets(alloc, copy, ack)?;
+            let handed = &mut node.handed;
+            let line = line_with_query(alloc, number, sent, handed, Answer::Query, packets, query)?;
+            Ok(line)
+        }
+        Ok(Outcome::Ack) => Ok(line_only(alloc, Answer::Ack)),
+        Ok(Outcome::Response) => Ok(line_only(alloc, Answer::Response)),
+        Ok(Outcome::Ignored(reason)) => Ok(line_only(alloc, Answer::Ignored(reason))),
+        Ok(Outcome::Foreign(kind)) => Ok(line_only(alloc, Answer::Foreign(kind))),
+        Ok(Outcome::PushPull) => Ok(line_only(alloc, Answer::PushPull)),
+        Err(fault) => Ok(refused(alloc, receive_refusal(fault)?)),
+    }
+}
+
+/// The answer of a merge's line, by what the agent's call gave.
+fn merge_answer(merged: &Result<PushPull, MergeFault>) -> Result<Answer, AllocError>
+    ensures { IfOk result (λ answer. (answer ≡ merge_answer (fault_in merged.now))
+        × (fault_in merged.now ≢ Some MergeFault.OutOfMemory)) }
+{
+    match merged {
+        Ok(_) => Ok(Answer::Merged),
+        Err(MergeFault::OutOfMemory) => Err(AllocError),
+        Err(MergeFault::Stopped) => Ok(Answer::Refused(Refusal::Stopped)),
+        Err(MergeFault::Wire(fault)) => Ok(Answer::Refused(Refusal::Wire(*fault))),
+        Err(MergeFault::NotPushPull) => Ok(Answer::Refused(Refusal::NotPushPull)),
+        Err(MergeFault::SinkFault) => Ok(Answer::Refused(Refusal::SinkFault)),
+    }
+}
+
+/// An agent merges the state that a packet brings, where there is one. Where its sink fails, what came before was
+/// handed out.
+pub(crate) fn merge_at(
+    alloc: Global,
+    number: u64,
+    node: &mut Node,
+    sent: &[Bytes],
+    packet: u64,
+    join: bool,
+) -> Result<Line, AllocError>
+    ensures { (m : IdealNode) → IsRepresentable m.agent → node.old ≡ node_of m
+        → IfOk result (TakesTurn number sent.now sent.now
+        (merges_given m join (slice_get sent.now packet)) node.new) }
+{
+    merged_agents();
+    let Some(bytes) = packet_at(sent, packet) else {
+        return Ok(refused(alloc, Refusal::NoMessage));
     };
-    let line = outcome_line(alloc, number, sent, &mut node.handed, packet, outcome)?;
+    know_packet(bytes);
+    let mut events: Vec<EventOut> = Vec::new(alloc);
+    let merged = node
+        .agent
+        .merge_remote_state(alloc, bytes, join, &mut events);
+    let answer = merge_answer(&merged)?;
+    let line = line_with_events(alloc, number, answer, events)?;
     Ok(line)
 }

@@ -5,15 +5,11 @@
 mod calls;
 mod delivery;
 mod line;
-mod merging;
-mod node;
 mod refusal;
 mod respond;
 mod roster;
 mod running;
-mod sizes;
 mod told;
-mod turn;
 mod turns;
 mod world;
 

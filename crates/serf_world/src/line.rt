@@ -31,20 +31,8 @@ pub(crate) fn refused(alloc: Global, refusal: Refusal) -> Line
     line_only(alloc, Answer::Refused(refusal))
 }
 
-/// Sends a packet, and says its number. Where there is no memory for it, nothing was sent.
-#[inline(always)]
-fn send_one(alloc: Global, sent: &mut Vec<Bytes>, packet: Bytes) -> Result<Numbers, AllocError>
-    ensures numbers { IfOk result (λ numbers. numbers ≡ length sent.old.items ∷ []) }
-    ensures sent { OnOk result (sent.new.items ≡ sent.old.items ++ packet ∷ []) }
-    ensures err { OnErr result (sent.new.items ≡ sent.old.items) }
-{
-    let mut numbers = Vec::with_capacity(alloc, 1)?;
-    numbers.push(sent.len() as u64)?;
-    sent.push(packet)?;
-    Ok(Numbers::from_vec(numbers))
-}
-
-/// A line with a packet that is sent. Where there is no memory for it, nothing was sent.
+/// Appends a packet to those that were sent, and gives the line that names it. Where there is no memory for it, nothing
+/// was sent.
 #[inline(always)]
 pub(crate) fn line_with_packet(
     alloc: Global,
@@ -62,27 +50,15 @@ pub(crate) fn line_with_packet(
     ensures sent { OnOk result (sent.new.items ≡ sent.old.items ++ packet ∷ []) }
     ensures err { OnErr result (sent.new.items ≡ sent.old.items) }
 {
-    let numbers = send_one(alloc, sent, packet)?;
+    let mut numbers = Vec::with_capacity(alloc, 1)?;
+    numbers.push(sent.len() as u64)?;
+    sent.push(packet)?;
     Ok(Line {
         answer,
-        sent: numbers,
+        sent: Numbers::from_vec(numbers),
         events: EventLines::from_vec(Vec::new(alloc)),
         handed: None,
     })
-}
-
-/// The line of an event that an agent hands out.
-#[inline(always)]
-fn event_line(agent: u64, event: EventOut) -> EventLine
-    ensures { result ≡ event_line agent event }
-{
-    EventLine {
-        agent,
-        time: event.time,
-        name: event.name,
-        payload: event.payload,
-        coalesce: event.coalesce,
-    }
 }
 
 /// A line with an event that an agent hands out, and the packet that is sent of it. Where there is no memory for it,
@@ -107,11 +83,20 @@ pub(crate) fn line_with_event(
     ensures err { OnErr result (sent.new.items ≡ sent.old.items) }
 {
     let mut events = Vec::with_capacity(alloc, 1)?;
-    events.push(event_line(agent, event))?;
-    let numbers = send_one(alloc, sent, packet)?;
+    let shown = EventLine {
+        agent,
+        time: event.time,
+        name: event.name,
+        payload: event.payload,
+        coalesce: event.coalesce,
+    };
+    events.push(shown)?;
+    let mut numbers = Vec::with_capacity(alloc, 1)?;
+    numbers.push(sent.len() as u64)?;
+    sent.push(packet)?;
     Ok(Line {
         answer,
-        sent: numbers,
+        sent: Numbers::from_vec(numbers),
         events: EventLines::from_vec(events),
         handed: None,
     })
@@ -134,7 +119,13 @@ pub(crate) fn line_with_events(
 {
     let mut lines = Vec::with_capacity(alloc, events.len())?;
     for event in events {
-        lines.push(event_line(agent, event))?;
+        lines.push(EventLine {
+            agent,
+            time: event.time,
+            name: event.name,
+            payload: event.payload,
+            coalesce: event.coalesce,
+        })?;
     }
     Ok(Line {
         answer,
@@ -144,7 +135,7 @@ pub(crate) fn line_with_events(
     })
 }
 
-/// The numbers of packets that are about to be sent, where so many were.
+/// The numbers of packets that are about to be sent, the first of which has the number `first`.
 fn numbers_of(alloc: Global, first: u64, packets: &[Bytes]) -> Result<Numbers, AllocError>
     requires { first + length packets.now ≤ 2 ^ 64 - 1 }
     ensures { IfOk result (λ numbers. numbers ≡ numbers_from first packets.now) }
@@ -158,7 +149,7 @@ fn numbers_of(alloc: Global, first: u64, packets: &[Bytes]) -> Result<Numbers, A
     Ok(Numbers::from_vec(numbers))
 }
 
-/// Sends packets, and says their numbers. Where there is no memory for it, nothing was sent.
+/// Appends packets to those that were sent, and gives their numbers. Where there is no memory for it, nothing was sent.
 fn send(alloc: Global, sent: &mut Vec<Bytes>, packets: BytesList) -> Result<Numbers, AllocError>
     ensures numbers { IfOk result (λ numbers. numbers
         ≡ numbers_from (length sent.old.items) packets) }

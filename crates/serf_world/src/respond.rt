@@ -7,7 +7,7 @@ ghost use Rattle.serf_world.specs.Turns.{Shows, TakesTurn, slot_after, slot_give
 ghost use Rattle.serf_world.specs.View.{node_of};
 
 use crate::line::{line_with_packet, refused};
-use crate::node::Node;
+use crate::world::Node;
 use serf_agent::{HandedQuery, RespondFault};
 use serf_model::{Answer, Line, Refusal};
 use serf_wire::Bytes;

@@ -9,8 +9,7 @@ ghost use Rattle.serf_model.specs.Trace.{outcome_of};
 ghost use Rattle.serf_world.specs.View.{AddsLine, IsViewed};
 
 use crate::roster::Roster;
-use crate::sizes::read_all_numbers;
-use crate::told::look_at_all;
+use crate::told::{look_at_all, read_all_numbers};
 use crate::world::World;
 use serf_agent::{BytesList, Config};
 use serf_model::{Action, Line, Lines, NewFault, RunFault, Trace, run_promises, turns_shown};

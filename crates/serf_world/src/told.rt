@@ -1,14 +1,48 @@
-//! What the types of an action say of what it brings: its texts are bytes, and its query's ID has 32 bits.
+//! What the types of an action say of it: its numbers have their types' sizes, its texts are bytes, and its query's ID has
+//! 32 bits.
 
 ghost use Rattle.std.specs.Prelude.{All};
 ghost use Rattle.serf_window.specs.Texts.{event_of};
 ghost use Rattle.serf_agent.specs.KeptTexts.{IsIdTold, IsTold};
 ghost use Rattle.serf_model.specs.HandOuts.{events_given};
+ghost use Rattle.serf_model.specs.Sizes.{HasSizes, IsSized};
 ghost use Rattle.serf_model.specs.Tails.{BringsTold, BringsToldBy};
 ghost use Rattle.serf_model.specs.Trace.{events_in_packet, given_by};
 
 use serf_model::{Act, Action, told_packets};
 use serf_wire::Bytes;
+
+/// Numbers have their types' sizes. Does nothing.
+#[tactic(auto, using(crate::proofs::SizeLaws::fits_signed))]
+fn know_sizes(id: u32, port: u16, relay_factor: u8, timeout: i64)
+    ensures { IsSized id port relay_factor timeout }
+{}
+
+/// Reads the numbers of an action, so that contracts know their sizes. Does nothing.
+pub(crate) fn read_numbers(action: &Action)
+    ensures { HasSizes action.now }
+{
+    match action {
+        Action::Of {
+            act: Act::Query(query),
+            ..
+        } => {
+            let query = query.get();
+            let params = &query.params;
+            know_sizes(query.id, params.port, params.relay_factor, params.timeout);
+        }
+        _ => {}
+    }
+}
+
+/// Reads the numbers of all actions, on whose sizes promises on queries and their answers rest. Does nothing.
+pub(crate) fn read_all_numbers(actions: &[Action])
+    ensures { All HasSizes actions.now }
+{
+    for action in actions {
+        read_numbers(action);
+    }
+}
 
 /// Texts are bytes. Does nothing.
 fn know_texts(name: &[u8], payload: &[u8])
@@ -42,12 +76,10 @@ fn look_at_act(act: &Act)
     }
 }
 
-/// Looks at what an act brings, and at the packet that it gives, where these were sent. Does nothing.
+/// Looks at the packet that an act gives, where these were sent. Does nothing.
 pub(crate) fn look_at_given(sent: &[Bytes], act: &Act)
-    ensures brings { BringsToldBy act.now }
-    ensures given { All (λ e. IsTold e.key) (events_given (given_by sent.now act.now)) }
+    ensures { All (λ e. IsTold e.key) (events_given (given_by sent.now act.now)) }
 {
-    look_at_act(act);
     match act.given(sent) {
         Some(packet) => know_packet(packet),
         None => {}

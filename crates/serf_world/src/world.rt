@@ -1,25 +1,27 @@
 //! A cluster that does one action after another.
 
-ghost use Rattle.std.specs.Prelude.{◌≡◌, ◌++◌, ◌∷◌, ℕ, List, [], true, map, slice_get, IfOk, OnErr, OnOk};
+ghost use Rattle.std.specs.Prelude.{◌≡◌, ◌++◌, ◌∷◌, ℕ, List, [], true, map, IfOk, OnErr, OnOk};
 ghost use Rattle.std.specs.List.{AllByRecursion};
 ghost use Rattle.std.specs.Option.{option_map};
 ghost use Rattle.serf_agent.specs.Config.{is_sound};
 ghost use Rattle.serf_agent.specs.declared.config.Config.{Config};
 ghost use Rattle.serf_model.specs.declared.action.Action.{Action};
 ghost use Rattle.serf_model.specs.declared.line.Line.{Line};
-ghost use Rattle.serf_model.specs.Cluster.{Cluster, first_node, on_agent, start, step};
-ghost use Rattle.serf_model.specs.Ready.{AreRepresentable};
+ghost use Rattle.serf_model.specs.Cluster.{Cluster, IdealNode, apply, first_node, start, step};
+ghost use Rattle.serf_model.specs.Ready.{AreRepresentable, IsRepresentable};
 ghost use Rattle.serf_model.specs.Runs.{AreConfigs};
+ghost use Rattle.serf_world.specs.Turns.{TakesTurn};
 ghost use Rattle.serf_world.specs.View.{HasDone, IsViewed, TakesStep, agent_at, node_of};
 
-use crate::calls::open_on;
+use crate::calls::{
+    break_at, close_at, compact_at, fire_at, open_on, query_at, restart_at, save_at, state_at,
+};
+use crate::delivery::{deliver_at, merge_at};
 use crate::line::{line_with_packet, refused};
-use crate::node::Node;
+use crate::respond::respond_at;
 use crate::roster::Roster;
-use crate::sizes::read_numbers;
-use crate::told::{look_at, look_at_given};
-use crate::turn::take_turn;
-use serf_agent::{Agent, BytesList, Config};
+use crate::told::{look_at, look_at_given, read_numbers};
+use serf_agent::{Agent, BytesList, Config, HandedQuery};
 use serf_model::{
     Act, Action, Answer, Line, Refusal, representable_agents, run_promises, turns_shown,
 };
@@ -27,6 +29,21 @@ use serf_snap::MemSink;
 use serf_wire::Bytes;
 use std::alloc::{AllocError, Global};
 use std::marker::Model;
+
+/// An agent, and the queries that were handed to it in this life, in order; one that was answered is gone.
+#[derive(Drop)]
+pub(crate) struct Node {
+    pub(crate) agent: Agent<MemSink>,
+    pub(crate) handed: Vec<Option<HandedQuery>>,
+}
+
+impl Model for Node {
+    ghost use Rattle.serf_world.specs.View.{NodeState};
+
+    ghost Value = { NodeState };
+
+    ghost view = { λ s. record { concrete = s.agent.concrete; handed = s.handed.items } };
+}
 
 /// A cluster: its agents, each over a sink in memory, and all packets that were sent.
 ///
@@ -67,6 +84,55 @@ fn open_all(alloc: Global, configs: Vec<Config>) -> Result<Vec<Node>, AllocError
     Ok(nodes)
 }
 
+/// Applies an act to the agent of this number. These packets were sent before, and what it sends is appended. Where
+/// there is no memory for it, nothing was sent.
+fn take_turn(
+    alloc: Global,
+    number: u64,
+    node: &mut Node,
+    sent: &mut Vec<Bytes>,
+    act: &Act,
+) -> Result<Line, AllocError>
+    ensures turn { (m : IdealNode) → IsRepresentable m.agent → node.old ≡ node_of m
+        → IfOk result (TakesTurn number sent.old.items sent.new.items
+        (apply m sent.old.items act.now) node.new) }
+    ensures err { OnErr result (sent.new.items ≡ sent.old.items) }
+{
+    match act {
+        Act::Fire {
+            name,
+            payload,
+            coalesce,
+        } => {
+            fire_at(
+                alloc,
+                number,
+                node,
+                sent,
+                name.as_slice(),
+                payload.as_slice(),
+                *coalesce,
+            )
+        }
+        Act::Deliver { packet, now } => deliver_at(alloc, number, node, sent, *packet, *now),
+        Act::State => state_at(alloc, number, node, sent),
+        Act::Merge { packet, join } => {
+            merge_at(alloc, number, node, sent.as_slice(), *packet, *join)
+        }
+        Act::Query(query) => query_at(alloc, number, node, sent, query.get()),
+        Act::Respond {
+            handed,
+            now,
+            payload,
+        } => { respond_at(alloc, number, node, sent, *handed, *now, payload.as_slice()) }
+        Act::Restart { tail } => restart_at(alloc, node, tail.as_slice()),
+        Act::Break { call, count } => Ok(break_at(alloc, node, *call, *count)),
+        Act::Close { now } => Ok(close_at(alloc, node, *now)),
+        Act::Save => save_at(alloc, node),
+        Act::Compact => compact_at(alloc, node),
+    }
+}
+
 impl World {
     /// A cluster of these agents, which are numbered from 0 in their order and have done nothing.
     pub fn new(alloc: Global, roster: Roster) -> Result<World, AllocError>
@@ -103,44 +169,25 @@ impl World {
     {
         run_promises();
         turns_shown();
+        representable_agents();
         read_numbers(action);
         look_at(action);
-        match self.try_step(alloc, action) {
-            Ok(line) => Ok(line),
-            Err(_) => Err(AllocError),
-        }
-    }
-
-    #[inline(always)]
-    fn try_step(&mut self, alloc: Global, action: &Action) -> Result<Line, AllocError>
-        ensures step { (c : Cluster) → IsViewed c self.old → AreRepresentable c
-            → IfOk result (TakesStep (step c action.now) self.new) }
-        ensures err { OnErr result (self.new.sent ≡ self.old.sent) }
-    {
         match action {
-            Action::Of { agent, act } => self.apply_act(alloc, *agent, act),
             Action::Inject { bytes } => {
                 let packet = Bytes::copy_of(alloc, bytes.as_slice())?;
                 let line = line_with_packet(alloc, &mut self.sent, Answer::Injected, packet)?;
                 Ok(line)
             }
+            Action::Of { agent, act } => {
+                let number = *agent as usize;
+                if number >= self.nodes.len() {
+                    return Ok(refused(alloc, Refusal::NoAgent));
+                }
+                look_at_given(self.sent.as_slice(), act);
+                let line = take_turn(alloc, *agent, &mut self.nodes[number], &mut self.sent, act)?;
+                Ok(line)
+            }
         }
-    }
-
-    /// The agent of this number acts.
-    fn apply_act(&mut self, alloc: Global, agent: u64, act: &Act) -> Result<Line, AllocError>
-        ensures step { (c : Cluster) → IsViewed c self.old → AreRepresentable c
-            → IfOk result (TakesStep
-            (on_agent c agent act.now (slice_get c.nodes agent)) self.new) }
-        ensures err { OnErr result (self.new.sent ≡ self.old.sent) }
-    {
-        representable_agents();
-        let number = agent as usize;
-        if number >= self.nodes.len() {
-            return Ok(refused(alloc, Refusal::NoAgent));
-        }
-        look_at_given(self.sent.as_slice(), act);
-        take_turn(alloc, agent, &mut self.nodes[number], &mut self.sent, act)
     }
 
     /// The agent of this number, lent for reading. Takes no memory.

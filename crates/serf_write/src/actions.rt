@@ -1,16 +1,15 @@
 //! The actions of a line.
 
-ghost use Rattle.std.specs.Prelude.{◌^◌, ◌-◌, ◌≡◌, ◌<◌};
-ghost use Rattle.serf_text.specs.Words.{between};
+ghost use Rattle.std.specs.Prelude.{◌<◌};
 ghost use Rattle.serf_write.specs.Gives.{Gives};
 ghost use Rattle.serf_write.specs.Lines.{actions_of, answer_of, break_of, closing_of, coalesce_in, count_in, delivery_of, firing_of, giving_of, injection_of, lone_of, merging_of, restart_of, tail_in, taking_of};
 
-use crate::fault::{LineFault, Wanted, bad};
+use crate::fault::{LineFault, Wanted, bad, or_bad};
 use crate::label::Label;
 use crate::piece::Piece;
 use crate::values::{
-    agent_at, bytes_at, end_behind, mode_at, moment_at, number_at, optional_bytes_at, packet_at,
-    sink_call_at, word,
+    agent_at, between, bytes_at, end_behind, mode_at, moment_at, number_at, optional_bytes_at,
+    packet_at, sink_call_at, word,
 };
 use serf_agent::Config;
 use serf_model::{Act, Action};
@@ -54,15 +53,6 @@ fn tail_at(alloc: Global, pieces: &[Piece], place: usize) -> Result<Bytes, LineF
     }
 }
 
-fn from_one(number: Option<u64>) -> Option<u64>
-    ensures { result ≡ between 1 (2 ^ 64 - 1) number }
-{
-    match number {
-        Some(found) => { if found >= 1 { Some(found) } else { None } }
-        None => None,
-    }
-}
-
 /// The number of a sink's call, from 1 on; 1 where the line ends before it.
 #[tactic(auto, unfolding(crate::specs::Lines::count_in))]
 fn count_at(pieces: &[Piece], place: usize) -> Result<u64, LineFault>
@@ -71,12 +61,11 @@ fn count_at(pieces: &[Piece], place: usize) -> Result<u64, LineFault>
     if pieces.len() < place {
         return Ok(1);
     }
-    match from_one(number(word(pieces, place))) {
-        Some(found) => Ok(found),
-        None => Err(bad(place, Wanted::Count)),
-    }
+    let count = between(number(word(pieces, place)), 1, u64::MAX);
+    or_bad(count, place, Wanted::Count)
 }
 
+/// The firing of an event, by the pieces of its line.
 #[tactic(auto, unfolding(crate::specs::Lines::firing_of))]
 pub(crate) fn firing(alloc: Global, pieces: &[Piece]) -> Result<Act, LineFault>
     ensures { Gives (λ a. a) result (firing_of pieces.now) }
@@ -92,6 +81,7 @@ pub(crate) fn firing(alloc: Global, pieces: &[Piece]) -> Result<Act, LineFault>
     })
 }
 
+/// The delivery of a packet, by the pieces of its line.
 #[tactic(auto, unfolding(crate::specs::Lines::delivery_of))]
 pub(crate) fn delivery(labels: &[Label], pieces: &[Piece]) -> Result<Act, LineFault>
     ensures { Gives (λ a. a) result (delivery_of labels.now pieces.now) }
@@ -102,6 +92,7 @@ pub(crate) fn delivery(labels: &[Label], pieces: &[Piece]) -> Result<Act, LineFa
     Ok(Act::Deliver { packet, now })
 }
 
+/// The merge of a state, by the pieces of its line.
 #[tactic(auto, unfolding(crate::specs::Lines::merging_of))]
 pub(crate) fn merging(labels: &[Label], pieces: &[Piece]) -> Result<Act, LineFault>
     ensures { Gives (λ a. a) result (merging_of labels.now pieces.now) }
@@ -112,6 +103,7 @@ pub(crate) fn merging(labels: &[Label], pieces: &[Piece]) -> Result<Act, LineFau
     Ok(Act::Merge { packet, join })
 }
 
+/// The answer to a query, by the pieces of its line.
 #[tactic(auto, unfolding(crate::specs::Lines::answer_of))]
 pub(crate) fn answer(alloc: Global, pieces: &[Piece]) -> Result<Act, LineFault>
     ensures { Gives (λ a. a) result (answer_of pieces.now) }
@@ -127,6 +119,7 @@ pub(crate) fn answer(alloc: Global, pieces: &[Piece]) -> Result<Act, LineFault>
     })
 }
 
+/// The restart of an agent, by the pieces of its line.
 #[tactic(auto, unfolding(crate::specs::Lines::restart_of))]
 pub(crate) fn restarting(alloc: Global, pieces: &[Piece]) -> Result<Act, LineFault>
     ensures { Gives (λ a. a) result (restart_of pieces.now) }
@@ -136,6 +129,7 @@ pub(crate) fn restarting(alloc: Global, pieces: &[Piece]) -> Result<Act, LineFau
     Ok(Act::Restart { tail })
 }
 
+/// The call of a sink that is to fail, by the pieces of its line.
 #[tactic(auto, unfolding(crate::specs::Lines::break_of))]
 pub(crate) fn breaking(pieces: &[Piece]) -> Result<Act, LineFault>
     ensures { Gives (λ a. a) result (break_of pieces.now) }
@@ -146,6 +140,7 @@ pub(crate) fn breaking(pieces: &[Piece]) -> Result<Act, LineFault>
     Ok(Act::Break { call, count })
 }
 
+/// The closing of queries, by the pieces of its line.
 #[tactic(auto, unfolding(crate::specs::Lines::closing_of))]
 pub(crate) fn closing(pieces: &[Piece]) -> Result<Act, LineFault>
     ensures { Gives (λ a. a) result (closing_of pieces.now) }
@@ -164,6 +159,7 @@ pub(crate) fn lone(act: Act, pieces: &[Piece]) -> Result<Act, LineFault>
     Ok(act)
 }
 
+/// The injection of bytes, by the pieces of its line.
 #[tactic(auto, unfolding(crate::specs::Lines::injection_of))]
 pub(crate) fn injection(alloc: Global, pieces: &[Piece]) -> Result<Deed, LineFault>
     ensures { Gives actions_of result (injection_of pieces.now) }

@@ -1,16 +1,15 @@
-//! Queries.
+//! The query of a line, and its options.
 
-ghost use Rattle.std.specs.Prelude.{◌≡◌, ◌==◌, ◌<◌, ◌≤◌, IfOk, IfSome, position};
-ghost use Rattle.serf_text.specs.Words.{between};
+ghost use Rattle.std.specs.Prelude.{◌≡◌, ◌==◌, ◌<◌, IfOk, position};
 ghost use Rattle.serf_write.specs.Gives.{Gives};
 ghost use Rattle.serf_write.specs.Queries.{option_value, options_from, options_in, plain_query, query_moment, query_of, with_option, with_pair};
 
 use crate::fault::{LineFault, Wanted, bad};
 use crate::piece::Piece;
 use crate::settings::{behind, word_in};
-use crate::values::{bytes_at, halves, time, time_at, word};
+use crate::values::{between, bytes_at, halves, time, time_at, word};
 use serf_agent::{BytesList, QueryParams};
-use serf_model::{Act, NewQuery};
+use serf_model::{Act, Boxed, NewQuery};
 use serf_text::{hex_bytes, is_word, number};
 use serf_wire::Bytes;
 use std::alloc::Global;
@@ -41,16 +40,6 @@ fn plain(alloc: Global) -> Asked
     }
 }
 
-fn up_to(number: Option<u64>, most: u64) -> Option<u64>
-    ensures value { result ≡ between 0 most number }
-    ensures within { IfSome result (λ n. n ≤ most) }
-{
-    match number {
-        Some(found) => { if found <= most { Some(found) } else { None } }
-        None => None,
-    }
-}
-
 /// Takes the value of a key.
 fn take_value(
     alloc: Global,
@@ -62,12 +51,12 @@ fn take_value(
     ensures { Gives (λ _. asked.new) result (option_value place asked.old key.now value.now) }
 {
     if is_word(key, b"id") {
-        match up_to(number(value), u64::from(u32::MAX)) {
+        match between(number(value), 0, u64::from(u32::MAX)) {
             Some(id) => asked.id = id as u32,
             None => return Err(bad(place, Wanted::Option)),
         }
     } else if is_word(key, b"timeout") {
-        match up_to(time(value), i64::MAX as u64) {
+        match between(time(value), 0, i64::MAX as u64) {
             Some(time) => asked.params.timeout = time as i64,
             None => return Err(bad(place, Wanted::Option)),
         }
@@ -82,6 +71,7 @@ fn take_value(
     Ok(())
 }
 
+/// Takes an option of a query that is a key with its value.
 fn take_pair(alloc: Global, asked: &mut Asked, place: usize, word: &[u8]) -> Result<(), LineFault>
     ensures { Gives (λ _. asked.new) result
         (with_pair place asked.old word.now (position (λ b. b == 61) word.now)) }
@@ -92,6 +82,7 @@ fn take_pair(alloc: Global, asked: &mut Asked, place: usize, word: &[u8]) -> Res
     }
 }
 
+/// Takes an option of a query: a word alone, or a key with its value.
 #[tactic(auto, unfolding(crate::specs::Queries::with_option))]
 fn take_word(alloc: Global, asked: &mut Asked, place: usize, word: &[u8]) -> Result<(), LineFault>
     ensures { Gives (λ _. asked.new) result (with_option place asked.old word.now) }
@@ -107,7 +98,7 @@ fn take_word(alloc: Global, asked: &mut Asked, place: usize, word: &[u8]) -> Res
     }
 }
 
-/// What the pieces from a place on say of a query.
+/// Takes `pieces` as options of a query; `first` is the place of the first of them in its line.
 fn take_words(
     alloc: Global,
     asked: Asked,
@@ -158,18 +149,19 @@ fn options(alloc: Global, pieces: &[Piece]) -> Result<Asked, LineFault>
 
 /// The query of a line.
 #[tactic(auto, unfolding(crate::specs::Queries::query_of))]
-pub(crate) fn query(alloc: Global, pieces: &[Piece]) -> Result<NewQuery, LineFault>
-    ensures { Gives (λ q. Act.Query q) result (query_of pieces.now) }
+pub(crate) fn query(alloc: Global, pieces: &[Piece]) -> Result<Act, LineFault>
+    ensures { Gives (λ a. a) result (query_of pieces.now) }
 {
     let name = bytes_at(alloc, pieces, 3)?;
     let payload = bytes_at(alloc, pieces, 4)?;
     let moment = moment(pieces)?;
     let Asked { id, params } = options(alloc, pieces)?;
-    Ok(NewQuery {
+    let query = NewQuery {
         moment,
         id,
         name,
         payload,
         params,
-    })
+    };
+    Ok(Act::Query(Boxed::new(alloc, query)?))
 }

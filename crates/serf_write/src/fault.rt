@@ -79,6 +79,7 @@ impl From<AllocError> for LineFault {
 }
 
 ghost use Rattle.std.specs.Prelude.{◌≡◌};
+ghost use Rattle.serf_write.specs.Gives.{Gives, or_wrong};
 
 /// A word that is wrong.
 pub(crate) fn bad(place: usize, wanted: Wanted) -> LineFault
@@ -88,4 +89,14 @@ pub(crate) fn bad(place: usize, wanted: Wanted) -> LineFault
         place: place as u64,
         wanted,
     })
+}
+
+/// What the word at a place stands for; where it is `None`, that this word is wrong.
+pub(crate) fn or_bad<T>(found: Option<T>, place: usize, wanted: Wanted) -> Result<T, LineFault>
+    ensures { Gives (λ x. x) result (or_wrong place wanted found) }
+{
+    match found {
+        Some(found) => Ok(found),
+        None => Err(bad(place, wanted)),
+    }
 }

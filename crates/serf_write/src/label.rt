@@ -1,4 +1,4 @@
-//! Labels of lines.
+//! A label: the packets of one line, by name.
 
 use serf_wire::Bytes;
 

@@ -1,4 +1,4 @@
-//! Labels of lines.
+//! The labels of a written schedule, as they are found.
 
 ghost use Rattle.std.specs.Prelude.{◌≡◌, ◌==◌};
 ghost use Rattle.std.specs.List.{list_any};
@@ -23,6 +23,7 @@ pub(crate) fn label_in(word: &[u8]) -> Option<&[u8]>
     }
 }
 
+/// Whether a name has a slash.
 fn has_slash(name: &[u8]) -> bool
     ensures { result ≡ list_any (λ b. b == 47) name.now }
 {

@@ -14,13 +14,13 @@ use crate::actions::{
     restarting, taking,
 };
 use crate::asked::query;
-use crate::fault::{LineFault, Wanted, bad};
+use crate::fault::{LineFault, Wanted, or_bad};
 use crate::label::Label;
 use crate::piece::Piece;
 use crate::values::{agent_at, word};
 use crate::verb::{Verb, verb_in};
 use serf_agent::Config;
-use serf_model::{Act, Action, Boxed};
+use serf_model::{Act, Action};
 use serf_schedule::Verb as ReplayVerb;
 use std::alloc::Global;
 
@@ -66,11 +66,8 @@ fn asking(alloc: Global, agents: &[Config], pieces: &[Piece]) -> Result<Deed, Li
     ensures { Gives actions_of result (by_agent agents.now pieces.now (query_of pieces.now)) }
 {
     let agent = agent_at(agents, pieces, 2)?;
-    let query = Boxed::new(alloc, query(alloc, pieces)?)?;
-    Ok(Deed::One(Action::Of {
-        agent,
-        act: Act::Query(query),
-    }))
+    let act = query(alloc, pieces)?;
+    Ok(Deed::One(Action::Of { agent, act }))
 }
 
 /// What a line of this verb does, where `sent` packets were sent before it.
@@ -93,13 +90,11 @@ fn deed(
     }
 }
 
+/// What a line's agent does, by its first piece.
 fn verb_at(pieces: &[Piece]) -> Result<Verb, LineFault>
     ensures { Gives (λ v. v) result (or_wrong 1 wanted.Command (verb_of (word_at 1 pieces.now))) }
 {
-    match verb_in(word(pieces, 1)) {
-        Some(verb) => Ok(verb),
-        None => Err(bad(1, Wanted::Command)),
-    }
+    or_bad(verb_in(word(pieces, 1)), 1, Wanted::Command)
 }
 
 /// What a line of actions does, where `sent` packets were sent before it.

@@ -1,42 +1,18 @@
 //! The agents of a written schedule.
 
-ghost use Rattle.std.specs.Prelude.{◌≡◌, ◌==◌, IfOk, Some, drop, position};
-ghost use Rattle.serf_agent.specs.Defaults.{default_config};
-ghost use Rattle.serf_write.specs.Gives.{Gives, or_wrong};
+ghost use Rattle.std.specs.Prelude.{◌≡◌, ◌==◌, Some, drop, position};
+ghost use Rattle.serf_write.specs.Gives.{Gives};
 ghost use Rattle.serf_write.specs.Lines.{agent_behind, agent_of, name_of, set_key, set_number, settings_from, with_agent, with_setting};
 ghost use Rattle.std.specs.Option.{option_map};
-ghost use Rattle.serf_write.specs.Values.{piece_at, word_of};
-ghost use Rattle.serf_write.specs.declared.fault.Wanted.TheVariants.{NewName};
+ghost use Rattle.serf_write.specs.Values.{word_of};
 
 use crate::fault::{LineFault, Wanted, bad};
 use crate::piece::Piece;
 use crate::values::{halves, nth};
-use serf_agent::{
-    Config, DEFAULT_EVENT_LIMIT, DEFAULT_PER_TIME, DEFAULT_QUERY_LIMIT, DEFAULT_RESPONDERS,
-    DEFAULT_RESPONSE_LIMIT, DEFAULT_SLOTS,
-};
+use serf_agent::Config;
 use serf_text::{is_word, number};
-use serf_wire::Bytes;
 use serf_world::{Roster, RosterFault};
-use std::alloc::{AllocError, Global};
-
-/// The agent of a name whose line says nothing else.
-fn plain(name: Bytes) -> Config
-    ensures { result ≡ default_config name }
-{
-    Config {
-        name,
-        event_buffer: DEFAULT_SLOTS,
-        query_buffer: DEFAULT_SLOTS,
-        event_limit: DEFAULT_EVENT_LIMIT,
-        query_limit: DEFAULT_QUERY_LIMIT,
-        response_limit: DEFAULT_RESPONSE_LIMIT,
-        responders: DEFAULT_RESPONDERS,
-        per_time: DEFAULT_PER_TIME,
-        ignore_old: false,
-        keep_events: false,
-    }
-}
+use std::alloc::Global;
 
 /// Sets the number of a key.
 fn set(config: &mut Config, place: usize, key: &[u8], value: u64) -> Result<(), LineFault>
@@ -62,6 +38,7 @@ fn set(config: &mut Config, place: usize, key: &[u8], value: u64) -> Result<(), 
     Ok(())
 }
 
+/// Sets a setting that is a key with its value.
 fn set_pair(config: &mut Config, place: usize, word: &[u8]) -> Result<(), LineFault>
     ensures { Gives (λ _. config.new) result
         (set_key place config.old word.now (position (λ b. b == 61) word.now)) }
@@ -75,6 +52,7 @@ fn set_pair(config: &mut Config, place: usize, word: &[u8]) -> Result<(), LineFa
     }
 }
 
+/// Sets a setting: a word alone, or a key with its value.
 #[tactic(auto, unfolding(crate::specs::Lines::with_setting))]
 fn set_word(config: &mut Config, place: usize, word: &[u8]) -> Result<(), LineFault>
     ensures { Gives (λ _. config.new) result (with_setting place config.old word.now) }
@@ -133,23 +111,14 @@ pub(crate) fn behind(pieces: &[Piece], count: usize) -> &[Piece]
     }
 }
 
-/// A copy of the name that a piece is.
-fn name(alloc: Global, piece: Option<&Piece>) -> Result<Option<Bytes>, AllocError>
-    ensures { IfOk result (λ found. found ≡ name_of (option_map (λ p. p.now) piece.entry)) }
+/// The name that a piece is.
+fn name(piece: Option<&Piece>) -> Option<&[u8]>
+    ensures { option_map (λ n. n.now) result
+        ≡ name_of (option_map (λ p. p.now) piece.entry) }
 {
     match piece {
-        Some(Piece::Word(word)) => Ok(Some(Bytes::copy_of(alloc, word.as_slice())?)),
-        Some(Piece::Text(text)) => Ok(Some(Bytes::copy_of(alloc, text.as_slice())?)),
-        None => Ok(None),
-    }
-}
-
-fn name_at(alloc: Global, pieces: &[Piece]) -> Result<Bytes, LineFault>
-    ensures { Gives (λ n. n) result (or_wrong 2 NewName (name_of (piece_at 2 pieces.now))) }
-{
-    match name(alloc, nth(pieces, 2))? {
-        Some(found) => Ok(found),
-        None => Err(bad(2, Wanted::NewName)),
+        Some(Piece::Word(name) | Piece::Text(name)) => Some(name.as_slice()),
+        None => None,
     }
 }
 
@@ -158,8 +127,10 @@ fn name_at(alloc: Global, pieces: &[Piece]) -> Result<Bytes, LineFault>
 fn agent(alloc: Global, pieces: &[Piece]) -> Result<Config, LineFault>
     ensures { Gives (λ c. c) result (agent_of pieces.now) }
 {
-    let name = name_at(alloc, pieces)?;
-    settings(plain(name), behind(pieces, 2))
+    match name(nth(pieces, 2)) {
+        Some(name) => settings(Config::new(alloc, name)?, behind(pieces, 2)),
+        None => Err(bad(2, Wanted::NewName)),
+    }
 }
 
 /// Adds the agent of an agent line to the others.

@@ -1,13 +1,14 @@
 //! What the pieces of a line stand for.
 
-ghost use Rattle.std.specs.Prelude.{◌≡◌, ◌==◌, ◌+◌, ◌<◌, ℕ, IfOk, IfSome, MatchOption, drop, length, not, position, take};
+ghost use Rattle.std.specs.Prelude.{◌≡◌, ◌==◌, ◌+◌, ◌<◌, ◌≤◌, ℕ, IfOk, IfSome, MatchOption, drop, length, not, position, take};
 ghost use Rattle.std.specs.Char.{is_ascii_digit};
 ghost use Rattle.std.specs.Str.{bytes_eq};
 ghost use Rattle.std.specs.Option.{option_map};
+ghost use Rattle.serf_text.specs.Words.{between};
 ghost use Rattle.serf_write.specs.Gives.{Gives};
 ghost use Rattle.serf_write.specs.Values.{agent_in, agent_named, agent_said, bytes_in, bytes_or_none, bytes_said, ends_behind, label_named, mode_in, moment_in, number_in, packet_behind, packet_cut, packet_in, packet_of, piece_at, sink_call_in, time_in, time_of, times, unit_of, word_at, word_of};
 
-use crate::fault::{LineFault, Wanted, bad};
+use crate::fault::{LineFault, Wanted, bad, or_bad};
 use crate::label::Label;
 use crate::piece::Piece;
 use serf_agent::Config;
@@ -31,6 +32,23 @@ pub(crate) fn word(pieces: &[Piece], place: usize) -> &[u8]
     match nth(pieces, place) {
         Some(Piece::Word(word)) => word.as_slice(),
         _ => &[],
+    }
+}
+
+/// A number from a least to a greatest one.
+pub(crate) fn between(number: Option<u64>, low: u64, high: u64) -> Option<u64>
+    ensures value { result ≡ between low high number }
+    ensures within { IfSome result (λ n. n ≤ high) }
+{
+    match number {
+        Some(found) => {
+            if low <= found && found <= high {
+                Some(found)
+            } else {
+                None
+            }
+        }
+        None => None,
     }
 }
 
@@ -71,10 +89,7 @@ pub(crate) fn end_behind(pieces: &[Piece], count: usize) -> Result<(), LineFault
 pub(crate) fn number_at(pieces: &[Piece], place: usize) -> Result<u64, LineFault>
     ensures { Gives (λ n. n) result (number_in place pieces.now) }
 {
-    match number(word(pieces, place)) {
-        Some(found) => Ok(found),
-        None => Err(bad(place, Wanted::Number)),
-    }
+    or_bad(number(word(pieces, place)), place, Wanted::Number)
 }
 
 /// How many nanoseconds a unit has.
@@ -94,6 +109,7 @@ fn unit(word: &[u8]) -> Option<u64>
     }
 }
 
+/// The product of two numbers, where both are there and it has 64 bits.
 fn product(number: Option<u64>, unit: Option<u64>) -> Option<u64>
     ensures { result ≡ times number unit }
 {
@@ -106,6 +122,7 @@ fn product(number: Option<u64>, unit: Option<u64>) -> Option<u64>
     }
 }
 
+/// Where the digits that a word begins with end.
 fn end_of_digits(word: &[u8]) -> Option<usize>
     ensures place { result ≡ position (λ b. not (is_ascii_digit b)) word.now }
     ensures within { IfSome result (λ at. at < length word.now) }
@@ -129,10 +146,7 @@ pub(crate) fn time(word: &[u8]) -> Option<u64>
 pub(crate) fn time_at(pieces: &[Piece], place: usize) -> Result<u64, LineFault>
     ensures { Gives (λ n. n) result (time_in place pieces.now) }
 {
-    match time(word(pieces, place)) {
-        Some(found) => Ok(found),
-        None => Err(bad(place, Wanted::Time)),
-    }
+    or_bad(time(word(pieces, place)), place, Wanted::Time)
 }
 
 /// The moment after `at`, or 0 where the line ends before it.
@@ -166,10 +180,7 @@ fn said_bytes(alloc: Global, piece: Option<&Piece>) -> Result<Option<Bytes>, All
 pub(crate) fn bytes_at(alloc: Global, pieces: &[Piece], place: usize) -> Result<Bytes, LineFault>
     ensures { Gives (λ b. b) result (bytes_in place pieces.now) }
 {
-    match said_bytes(alloc, nth(pieces, place))? {
-        Some(found) => Ok(found),
-        None => Err(bad(place, Wanted::Bytes)),
-    }
+    or_bad(said_bytes(alloc, nth(pieces, place))?, place, Wanted::Bytes)
 }
 
 /// The bytes at a place; none where the line ends before it.
@@ -188,12 +199,14 @@ pub(crate) fn optional_bytes_at(
     }
 }
 
+/// Whether an agent's name is `name`.
 fn has_name(config: &Config, name: &[u8]) -> bool
     ensures { result ≡ bytes_eq config.now.name name.now }
 {
     config.name.as_slice() == name
 }
 
+/// The number of the agent of this name.
 fn place_of_agent(agents: &[Config], name: &[u8]) -> Option<usize>
     ensures { result ≡ position (λ c. bytes_eq c.name name.now) agents.now }
 {
@@ -225,23 +238,22 @@ fn said_agent(agents: &[Config], piece: Option<&Piece>) -> Option<u64>
     }
 }
 
-/// The number of the agent at a place.
+/// The number of the agent that the piece at `place` names.
 #[tactic(auto, unfolding(crate::specs::Values::agent_in))]
 pub(crate) fn agent_at(agents: &[Config], pieces: &[Piece], place: usize) -> Result<u64, LineFault>
     ensures { Gives (λ n. n) result (agent_in agents.now place pieces.now) }
 {
-    match said_agent(agents, nth(pieces, place)) {
-        Some(found) => Ok(found),
-        None => Err(bad(place, Wanted::Agent)),
-    }
+    or_bad(said_agent(agents, nth(pieces, place)), place, Wanted::Agent)
 }
 
+/// Whether a label has this name.
 fn is_named(label: &Label, name: &[u8]) -> bool
     ensures { result ≡ bytes_eq label.now.name name.now }
 {
     label.name.as_slice() == name
 }
 
+/// Where the label of this name stands.
 fn place_of_label(labels: &[Label], name: &[u8]) -> Option<usize>
     ensures { result ≡ position (λ l. bytes_eq l.name name.now) labels.now }
 {
@@ -304,10 +316,7 @@ fn packet(labels: &[Label], word: &[u8]) -> Option<u64>
 pub(crate) fn packet_at(labels: &[Label], pieces: &[Piece], place: usize) -> Result<u64, LineFault>
     ensures { Gives (λ n. n) result (packet_in labels.now place pieces.now) }
 {
-    match packet(labels, word(pieces, place)) {
-        Some(found) => Ok(found),
-        None => Err(bad(place, Wanted::Packet)),
-    }
+    or_bad(packet(labels, word(pieces, place)), place, Wanted::Packet)
 }
 
 /// How a state at a place is merged: true for `join`.
@@ -315,10 +324,11 @@ pub(crate) fn packet_at(labels: &[Label], pieces: &[Piece], place: usize) -> Res
 pub(crate) fn mode_at(pieces: &[Piece], place: usize) -> Result<bool, LineFault>
     ensures { Gives (λ b. b) result (mode_in place pieces.now) }
 {
-    match choice(word(pieces, place), b"sync", b"join") {
-        Some(found) => Ok(found),
-        None => Err(bad(place, Wanted::Mode)),
-    }
+    or_bad(
+        choice(word(pieces, place), b"sync", b"join"),
+        place,
+        Wanted::Mode,
+    )
 }
 
 /// The call of a sink at a place.
@@ -326,8 +336,5 @@ pub(crate) fn mode_at(pieces: &[Piece], place: usize) -> Result<bool, LineFault>
 pub(crate) fn sink_call_at(pieces: &[Piece], place: usize) -> Result<SinkCall, LineFault>
     ensures { Gives (λ c. c) result (sink_call_in place pieces.now) }
 {
-    match sink_call(word(pieces, place)) {
-        Some(found) => Ok(found),
-        None => Err(bad(place, Wanted::SinkCall)),
-    }
+    or_bad(sink_call(word(pieces, place)), place, Wanted::SinkCall)
 }

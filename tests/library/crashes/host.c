@@ -62,7 +62,7 @@ static uint32_t called(const char *line, uint64_t now) {
     size_t len = bytes_of(line + 2, bytes);
     switch (line[0]) {
     case 'r':
-        return serf_agent_receive(&agent, now, bytes, len);
+        return serf_agent_receive(&agent, now, bytes, len, false);
     case 'm':
         return serf_agent_merge(&agent, bytes, len, false);
     case 'f':

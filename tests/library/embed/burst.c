@@ -76,9 +76,9 @@ static void none_next(struct serf_agent *agent, uint32_t wanted) {
 static void each(struct serf_agent *agent, uint32_t wanted) {
     uint8_t byte = 0;
     size_t total = 77;
-    is("burst_receive", serf_agent_burst_receive(agent, 1, &byte, 1), wanted);
+    is("burst_receive", serf_agent_burst_receive(agent, 1, &byte, 1, false), wanted);
     is("burst_fire", fire(agent, "x"), wanted);
-    is("burst_filter", serf_agent_burst_filter(agent, &byte, 1), wanted);
+    is("add_filter", serf_agent_add_filter(agent, &byte, 1), wanted);
     is("burst_query", query(agent), wanted);
     is("outcomes", serf_agent_outcomes(agent, &total), wanted);
     none_next(agent, wanted);
@@ -119,14 +119,14 @@ static void never_written(const struct packet *events) {
     size_t len = 77;
     open_one(&agent, "a", "");
     for (int i = 0; i < 100; i++) {
-        is("burst_receive", serf_agent_burst_receive(&agent, 1, events[i % 4].bytes, events[i % 4].len), SERF_AGENT_OK);
+        is("burst_receive", serf_agent_burst_receive(&agent, 1, events[i % 4].bytes, events[i % 4].len, false), SERF_AGENT_OK);
         is("they wait", outcomes(&agent), (uint64_t)i + 1);
         none_next(&agent, SERF_AGENT_UNWRITTEN);
         is("no event", serf_agent_event(&agent, 0, &event, room, sizeof room, NULL, 0), SERF_AGENT_UNWRITTEN);
         is("no clock", serf_agent_clocks(&agent, &clocks), SERF_AGENT_UNWRITTEN);
         is("no packet", serf_agent_packet(&agent, &len, room, sizeof room), SERF_AGENT_UNWRITTEN);
         is("nothing was given", kind(&agent), SERF_AGENT_GAVE_NOTHING);
-        is("no other call", serf_agent_receive(&agent, 1, events[0].bytes, events[0].len), SERF_AGENT_UNWRITTEN);
+        is("no other call", serf_agent_receive(&agent, 1, events[0].bytes, events[0].len, false), SERF_AGENT_UNWRITTEN);
     }
     is("nothing was read", event.time == 77 && len == 77, 1);
     is("all lines", unwritten(&agent), 60);
@@ -141,14 +141,14 @@ static void mixed(const struct packet *events) {
     struct serf_agent_gave gave;
     struct serf_agent_clocks clocks;
     open_one(&agent, "a", "");
-    is("a call before", serf_agent_receive(&agent, 1, events[0].bytes, events[0].len), SERF_AGENT_OK);
-    is("a fault", serf_agent_burst_receive(&agent, 1, room, 0), SERF_AGENT_NO_MESSAGE);
-    is("an event", serf_agent_burst_receive(&agent, 1, events[1].bytes, events[1].len), SERF_AGENT_OK);
+    is("a call before", serf_agent_receive(&agent, 1, events[0].bytes, events[0].len, false), SERF_AGENT_OK);
+    is("a fault", serf_agent_burst_receive(&agent, 1, room, 0, false), SERF_AGENT_NO_MESSAGE);
+    is("an event", serf_agent_burst_receive(&agent, 1, events[1].bytes, events[1].len, false), SERF_AGENT_OK);
     is("a query", query(&agent), SERF_AGENT_OK);
     is("too large", serf_agent_burst_fire(&agent, room, 600, NULL, 0, false), SERF_AGENT_TOO_LARGE);
     is("another query", query(&agent), SERF_AGENT_OK);
     is("fired", fire(&agent, "x"), SERF_AGENT_OK);
-    is("a repeat", serf_agent_burst_receive(&agent, 1, events[1].bytes, events[1].len), SERF_AGENT_OK);
+    is("a repeat", serf_agent_burst_receive(&agent, 1, events[1].bytes, events[1].len, false), SERF_AGENT_OK);
     is("what the call before gave", kind(&agent), SERF_AGENT_GAVE_EVENT);
     is("they wait", outcomes(&agent), 7);
     unwritten(&agent);
@@ -195,9 +195,9 @@ static void nothing_to_write(const struct packet *events) {
     struct serf_agent_clocks before, after;
     open_one(&agent, "a", "event-clock: 50\n");
     is("clocks", serf_agent_clocks(&agent, &before), SERF_AGENT_OK);
-    is("an old event", serf_agent_burst_receive(&agent, 1, events[0].bytes, events[0].len), SERF_AGENT_OK);
-    is("a cut one", serf_agent_burst_receive(&agent, 1, events[0].bytes, events[0].len - 1), SERF_AGENT_NO_MESSAGE);
-    is("no time is one", serf_agent_burst_receive(&agent, 1, (const uint8_t *)"\003\201\245LTime\317\377\377\377\377\377\377\377\377", 16), SERF_AGENT_NO_MESSAGE);
+    is("an old event", serf_agent_burst_receive(&agent, 1, events[0].bytes, events[0].len, false), SERF_AGENT_OK);
+    is("a cut one", serf_agent_burst_receive(&agent, 1, events[0].bytes, events[0].len - 1, false), SERF_AGENT_NO_MESSAGE);
+    is("no time is one", serf_agent_burst_receive(&agent, 1, (const uint8_t *)"\003\201\245LTime\317\377\377\377\377\377\377\377\377", 16, false), SERF_AGENT_NO_MESSAGE);
     is("nothing is unwritten", unwritten(&agent), 0);
     next(&agent, SERF_AGENT_OK, SERF_AGENT_GAVE_IGNORED);
     next(&agent, SERF_AGENT_NO_MESSAGE, SERF_AGENT_GAVE_NOTHING);

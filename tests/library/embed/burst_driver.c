@@ -139,7 +139,7 @@ static void made(struct burst *burst, uint32_t code, const struct packet *packet
 
 static void receive(struct burst *burst, const struct packet *packet) {
     if (!burst->is_over) {
-        made(burst, serf_agent_burst_receive(&burst->node->agent, 5, packet->bytes, packet->len), packet);
+        made(burst, serf_agent_burst_receive(&burst->node->agent, 5, packet->bytes, packet->len, false), packet);
     }
 }
 
@@ -157,7 +157,7 @@ static void ask(struct burst *burst, int64_t timeout, const char *filter) {
         return;
     }
     if (filter != NULL) {
-        code = serf_agent_burst_filter(&burst->node->agent, (const uint8_t *)filter, 8);
+        code = serf_agent_add_filter(&burst->node->agent, (const uint8_t *)filter, 8);
     }
     if (code == SERF_AGENT_OK) {
         code = serf_agent_burst_query(&burst->node->agent, 5, 9, (const uint8_t *)"load", 4, NULL, 0, NULL, 0, &params);

@@ -68,7 +68,7 @@ static void start(struct host *host, bool keep_events, const char *text, const c
 static void is_new(struct host *host, uint64_t time, const char *wanted) {
     struct serf_agent_gave gave = {0};
     struct serf_agent_event event = {0};
-    is("receive", serf_agent_receive(&host->agent, 1, packets[time].bytes, packets[time].len), SERF_AGENT_OK);
+    is("receive", serf_agent_receive(&host->agent, 1, packets[time].bytes, packets[time].len, false), SERF_AGENT_OK);
     settled("a new event", host, false, wanted);
     is("gave", serf_agent_gave(&host->agent, &gave), SERF_AGENT_OK);
     is("a new event", gave.kind, SERF_AGENT_GAVE_EVENT);
@@ -79,7 +79,7 @@ static void is_new(struct host *host, uint64_t time, const char *wanted) {
 /* The event of this time comes: it is ignored for this reason, and nothing is appended. */
 static void is_ignored(struct host *host, uint64_t time, uint32_t reason) {
     struct serf_agent_gave gave = {0};
-    is("receive", serf_agent_receive(&host->agent, 1, packets[time].bytes, packets[time].len), SERF_AGENT_OK);
+    is("receive", serf_agent_receive(&host->agent, 1, packets[time].bytes, packets[time].len, false), SERF_AGENT_OK);
     settled("an event that is ignored", host, false, "");
     is("gave", serf_agent_gave(&host->agent, &gave), SERF_AGENT_OK);
     is("an event that is ignored", gave.kind, SERF_AGENT_GAVE_IGNORED);
@@ -146,7 +146,7 @@ static void goes_on(void) {
     query(&host, "query-clock: 02\n#query 2 7\n");
     is("packet", serf_agent_packet(&host.agent, &asked.len, asked.bytes, sizeof asked.bytes), SERF_AGENT_OK);
     restart(&host, true, "");
-    is("receive", serf_agent_receive(&host.agent, 1, asked.bytes, asked.len), SERF_AGENT_OK);
+    is("receive", serf_agent_receive(&host.agent, 1, asked.bytes, asked.len, false), SERF_AGENT_OK);
     is("gave", serf_agent_gave(&host.agent, &gave), SERF_AGENT_OK);
     is("a query that was taken", gave.reason, SERF_AGENT_SEEN);
     is_ignored(&host, 2, SERF_AGENT_SEEN);
@@ -245,7 +245,7 @@ static void bursts(void) {
     uint64_t times[] = {3, 2, 3};
     start(&host, true, "", "");
     for (size_t i = 0; i < 3; i++) {
-        is("burst_receive", serf_agent_burst_receive(&host.agent, 1, packets[times[i]].bytes, packets[times[i]].len), SERF_AGENT_OK);
+        is("burst_receive", serf_agent_burst_receive(&host.agent, 1, packets[times[i]].bytes, packets[times[i]].len, false), SERF_AGENT_OK);
     }
     settled("a burst", &host, false, "event-clock: 03\n#event 3 6533 \n#event 2 6532 \n");
     restart(&host, true, "");

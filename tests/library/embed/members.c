@@ -311,12 +311,12 @@ static void hands_out(const char *what, const char *filters, bool tags_pass, boo
         uint32_t answered = 0;
         is("open", serf_agent_open(&agent, BYTES("b"), &settings, NULL, 0), SERF_AGENT_OK);
         if (is_burst) {
-            is(what, serf_agent_burst_receive_tagged(&agent, 9, packet, len, tags_pass), SERF_AGENT_OK);
-            is("and again", serf_agent_burst_receive(&agent, 9, packet, len), SERF_AGENT_OK);
+            is(what, serf_agent_burst_receive(&agent, 9, packet, len, tags_pass), SERF_AGENT_OK);
+            is("and again", serf_agent_burst_receive(&agent, 9, packet, len, false), SERF_AGENT_OK);
             is_written(&agent);
             is("the first", serf_agent_next(&agent, &answered), SERF_AGENT_OK);
         } else {
-            is(what, serf_agent_receive_tagged(&agent, 9, packet, len, tags_pass), SERF_AGENT_OK);
+            is(what, serf_agent_receive(&agent, 9, packet, len, tags_pass), SERF_AGENT_OK);
             is_written(&agent);
         }
         is("what came of it", serf_agent_gave(&agent, &gave), SERF_AGENT_OK);
@@ -325,7 +325,7 @@ static void hands_out(const char *what, const char *filters, bool tags_pass, boo
         if (is_burst) {
             is("the second", serf_agent_next(&agent, &answered), SERF_AGENT_OK);
         } else {
-            is("and again", serf_agent_receive_tagged(&agent, 9, packet, len, true), SERF_AGENT_OK);
+            is("and again", serf_agent_receive(&agent, 9, packet, len, true), SERF_AGENT_OK);
         }
         is("what came of that", serf_agent_gave(&agent, &gave), SERF_AGENT_OK);
         holds("it was taken before", gave.kind == SERF_AGENT_GAVE_IGNORED && gave.reason == SERF_AGENT_SEEN);
@@ -380,10 +380,10 @@ static void verdicts(void) {
     hands_out("an unknown filter and a tag that passes", TAG UNKNOWN, true, false);
     hands_out("its name and tags that don't pass", NODE TAG, false, false);
     struct serf_agent agent = {0};
-    is("an empty handle", serf_agent_receive_tagged(&agent, 1, NULL, 0, true), SERF_AGENT_EMPTY);
-    is("an empty handle", serf_agent_burst_receive_tagged(&agent, 1, NULL, 0, true), SERF_AGENT_EMPTY);
+    is("an empty handle", serf_agent_receive(&agent, 1, NULL, 0, true), SERF_AGENT_EMPTY);
+    is("an empty handle", serf_agent_burst_receive(&agent, 1, NULL, 0, true), SERF_AGENT_EMPTY);
     is("open", serf_agent_open(&agent, BYTES("b"), &settings, NULL, 0), SERF_AGENT_OK);
-    is("no message", serf_agent_receive_tagged(&agent, 1, NULL, 0, true), SERF_AGENT_NO_MESSAGE);
+    is("no message", serf_agent_receive(&agent, 1, NULL, 0, true), SERF_AGENT_NO_MESSAGE);
     is("close", serf_agent_close(&agent), SERF_AGENT_OK);
 }
 

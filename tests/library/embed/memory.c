@@ -88,11 +88,11 @@ static uint32_t forget(struct serf_agent *agent) {
 }
 
 static uint32_t receive_event(struct serf_agent *agent) {
-    return serf_agent_receive(agent, 1, deploy, deploy_len);
+    return serf_agent_receive(agent, 1, deploy, deploy_len, false);
 }
 
 static uint32_t receive_query(struct serf_agent *agent) {
-    return serf_agent_receive(agent, 1, ask, ask_len);
+    return serf_agent_receive(agent, 1, ask, ask_len, false);
 }
 
 static uint32_t merge(struct serf_agent *agent) {

@@ -22,12 +22,10 @@ uint32_t whole_query(struct serf_agent *handle, uint64_t now, uint32_t id, const
 uint32_t whole_add_status(struct serf_agent *handle, const uint8_t *name, size_t name_len, uint64_t status_time);
 uint32_t whole_add_left(struct serf_agent *handle, const uint8_t *name, size_t name_len);
 uint32_t whole_local_state(struct serf_agent *handle);
-uint32_t whole_burst_receive(struct serf_agent *handle, uint64_t now, const uint8_t *packet, size_t packet_len);
-uint32_t whole_burst_receive_tagged(struct serf_agent *handle, uint64_t now, const uint8_t *packet, size_t packet_len,
-                                    bool tags_pass);
+uint32_t whole_burst_receive(struct serf_agent *handle, uint64_t now, const uint8_t *packet, size_t packet_len,
+                             bool tags_pass);
 uint32_t whole_burst_fire(struct serf_agent *handle, const uint8_t *name, size_t name_len, const uint8_t *payload,
                           size_t payload_len, bool coalesce);
-uint32_t whole_burst_filter(struct serf_agent *handle, const uint8_t *filter, size_t filter_len);
 uint32_t whole_burst_query(struct serf_agent *handle, uint64_t now, uint32_t id, const uint8_t *name, size_t name_len,
                            const uint8_t *payload, size_t payload_len, const uint8_t *addr, size_t addr_len,
                            const struct serf_agent_params *params);
@@ -87,9 +85,11 @@ uint32_t serf_agent_merge(struct serf_agent *handle, const uint8_t *packet, size
     return ended(&merges, whole_merge(handle, packet, packet_len, is_join), true);
 }
 
+/* (a driver that makes bursts makes no query by itself) */
 uint32_t serf_agent_add_filter(struct serf_agent *handle, const uint8_t *filter, size_t filter_len) {
-    begin(&queries);
-    return ended(&queries, whole_add_filter(handle, filter, filter_len), false);
+    struct tries *tries = bursts.begun > 0 ? &bursts : &queries;
+    begin(tries);
+    return ended(tries, whole_add_filter(handle, filter, filter_len), false);
 }
 
 uint32_t serf_agent_query(struct serf_agent *handle, uint64_t now, uint32_t id, const uint8_t *name, size_t name_len,
@@ -119,26 +119,16 @@ uint32_t serf_agent_local_state(struct serf_agent *handle) {
     return ended(&states, whole_local_state(handle), true);
 }
 
-uint32_t serf_agent_burst_receive(struct serf_agent *handle, uint64_t now, const uint8_t *packet, size_t packet_len) {
+uint32_t serf_agent_burst_receive(struct serf_agent *handle, uint64_t now, const uint8_t *packet, size_t packet_len,
+                                  bool tags_pass) {
     begin(&bursts);
-    return ended(&bursts, whole_burst_receive(handle, now, packet, packet_len), false);
-}
-
-uint32_t serf_agent_burst_receive_tagged(struct serf_agent *handle, uint64_t now, const uint8_t *packet, size_t packet_len,
-                                         bool tags_pass) {
-    begin(&bursts);
-    return ended(&bursts, whole_burst_receive_tagged(handle, now, packet, packet_len, tags_pass), false);
+    return ended(&bursts, whole_burst_receive(handle, now, packet, packet_len, tags_pass), false);
 }
 
 uint32_t serf_agent_burst_fire(struct serf_agent *handle, const uint8_t *name, size_t name_len, const uint8_t *payload,
                                size_t payload_len, bool coalesce) {
     begin(&bursts);
     return ended(&bursts, whole_burst_fire(handle, name, name_len, payload, payload_len, coalesce), false);
-}
-
-uint32_t serf_agent_burst_filter(struct serf_agent *handle, const uint8_t *filter, size_t filter_len) {
-    begin(&bursts);
-    return ended(&bursts, whole_burst_filter(handle, filter, filter_len), false);
 }
 
 uint32_t serf_agent_burst_query(struct serf_agent *handle, uint64_t now, uint32_t id, const uint8_t *name, size_t name_len,

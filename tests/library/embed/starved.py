@@ -9,7 +9,7 @@ HERE = os.path.dirname(os.path.abspath(__file__))
 
 # The library's calls that starved.c stands before, and their names then.
 CALLS = ["merge", "add_filter", "query", "add_status", "add_left", "local_state"]
-CALLS += ["burst_receive", "burst_receive_tagged", "burst_fire", "burst_filter", "burst_query", "next"]
+CALLS += ["burst_receive", "burst_fire", "burst_query", "next"]
 NAMES = {"rattle_alloc": "starved_alloc", "rattle_realloc": "starved_realloc"} | {
     f"serf_agent_{call}": f"whole_{call}" for call in CALLS
 }

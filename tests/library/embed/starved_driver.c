@@ -126,7 +126,7 @@ int main(int count, char **words) {
     merge(&other, whole, len);
     merge(&other, whole, len);
     put("query", &other, query(&other, 'a'));
-    demand(settled(&other, serf_agent_receive(&other.agent, 1, load, load_len)) == SERF_AGENT_OK, "receive");
+    demand(settled(&other, serf_agent_receive(&other.agent, 1, load, load_len, false)) == SERF_AGENT_OK, "receive");
     put("query", &other, query(&other, 'b'));
     put("query", &other, query(&other, 'c'));
     for (char letter = 'a'; letter <= 'c'; letter++) {

@@ -113,7 +113,10 @@ def locks(cases):
     with Driver(cases.words) as other:
         with Driver(cases.words) as driver:
             cases.says("open", driver, f"open {path}", "ok")
+            write(path + ".new", b"b")
             cases.says("in another process", other, f"open {path}", "Locked")
+            cases.check("what its owner writes beside stays", os.path.exists(path + ".new"))
+            os.unlink(path + ".new")
             cases.says("in this one", driver, f"1 open {path}", "Locked")
             cases.says("by a link", other, f"open {link}", "Locked")
             cases.says("replace", driver, "replace 610a", "ok")

@@ -117,7 +117,7 @@ static enum serf_agent_store_fault burst(const char *words) {
     for (; words[0] != '\0'; words += strcspn(words, " "), words += words[0] == ' ') {
         size_t len = bytes_of(words + 1, bytes);
         if (words[0] == 'r') {
-            serf_agent_burst_receive(&agent, 0, bytes, len);
+            serf_agent_burst_receive(&agent, 0, bytes, len, false);
         } else if (words[0] == 'f') {
             serf_agent_burst_fire(&agent, bytes, len, NULL, 0, false);
         } else {
@@ -152,7 +152,7 @@ static enum serf_agent_store_fault done(const char *line) {
     case 'O':
         return open_agent(word, line[0] == 'O');
     case 'r':
-        serf_agent_receive(&agent, 0, bytes, len);
+        serf_agent_receive(&agent, 0, bytes, len, false);
         return act();
     case 'm':
     case 'j':

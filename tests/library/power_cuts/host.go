@@ -52,7 +52,7 @@ func (h *host) tellQuery(handed *serfagent.Handed, ack []byte) {
 }
 
 func (h *host) receive(packet []byte) error {
-	received, err := h.agent.Receive(0, packet)
+	received, err := h.agent.Receive(0, packet, false)
 	if err != nil {
 		return err
 	}
@@ -85,7 +85,7 @@ func (h *host) burst(words string) error {
 		data, _ := hex.DecodeString(word[1:])
 		switch word[0] {
 		case 'r':
-			burst.Receive(0, data)
+			burst.Receive(0, data, false)
 		case 'f':
 			burst.Fire(data, nil, false)
 		default:

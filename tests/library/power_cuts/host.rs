@@ -65,7 +65,7 @@ impl Host {
         let params = QueryParams { timeout: 1000, want_ack: true, ..QueryParams::default() };
         let texts: Vec<(&str, Vec<u8>)> = words.split(' ').map(|word| (&word[..1], bytes_of(&word[1..]))).collect();
         let calls = texts.iter().map(|(kind, text)| match *kind {
-            "r" => Call::Receive { now: 0, packet: text },
+            "r" => Call::Receive { now: 0, packet: text, tags_pass: false },
             "f" => Call::Fire { name: text, payload: b"", coalesce: false },
             _ => Call::Query { now: 0, id: 7, name: text, payload: b"", params: &params },
         });
@@ -84,7 +84,7 @@ impl Host {
     fn act(&mut self, call: &str, bytes: &[u8]) -> Result<(), Error> {
         let Some(mut agent) = self.agent.take() else { return Err(Error::Refused(serf_agent::Code::Empty)) };
         match call {
-            "r" => self.tell(CallOutcome::Received(agent.receive(0, bytes)?)),
+            "r" => self.tell(CallOutcome::Received(agent.receive(0, bytes, false)?)),
             "m" | "j" => agent.merge(bytes, call == "j")?.iter().for_each(|event| self.tell_event(event)),
             "f" => self.tell(CallOutcome::Fired(agent.fire(bytes, b"", false)?)),
             "q" => {

@@ -94,6 +94,7 @@ def failing_replacement(cases, path, calls, how, of, text):
         cases.says("open", driver, f"open {path}", "ok")
         cases.says("replace", driver, "replace 620a", "Failed")
         cases.says("append", driver, "append 630a", "Broken")
+        cases.check("it is locked still", is_locked(path))
     cases.check("the text", stores.read(path) == text, stores.read(path))
     cases.check("nothing is left beside it", cases.is_nothing_beside(path))
 
@@ -112,6 +113,16 @@ def failed_sync_of_the_folder(cases):
     path = old_file(cases, "name")
     # the first one is of the opening, and the new text has its name by the second
     failing_replacement(cases, path, "fsync", "error=EIO:when=2", [os.path.dirname(path)], b"b\n")
+
+
+def beside_of_another(cases):
+    """Another writes beside the text while the store has it: nothing of that comes into the text."""
+    path = old_file(cases, "beside_of_another")
+    with stores.Driver(cases.words) as driver:
+        cases.says("open", driver, f"open {path}", "ok")
+        stores.write(path + ".new", b"another's\n")
+        said, text = driver.says("replace 620a"), stores.read(path)
+    cases.check("nothing of another's is in it", text == (b"b\n" if said == "ok" else OLD), (said, text))
 
 
 def opened_in_a_race(driver, path):
@@ -193,6 +204,7 @@ PARTS = {
         failed_sync_of_the_opened_text,
         failed_sync_of_the_opened_folder,
         failed_sync_of_a_line,
+        beside_of_another,
         failed_sync_beside,
         failed_rename,
         failed_sync_of_the_folder,

@@ -23,6 +23,23 @@ static bool is(const char *fault) {
             'if (!S_ISREG(about.st_mode) && !(is("device") && S_ISCHR(about.st_mode)) &&'
             ' !(is("pipe") && S_ISFIFO(about.st_mode))) {',
         ),
+        (
+            "/* Gives back all that the store has. */",
+            "static bool remove_beside(const struct serf_agent_store *store) {\n    char beside[NAME_MAX + 1];\n"
+            "    return name_beside(store, beside) && (unlinkat(store->folder, beside, 0) == 0 || errno == ENOENT);\n}\n\n"
+            "/* Gives back all that the store has. */",
+        ),
+        (
+            "open_folder(store, path) && open_file(store)",
+            'open_folder(store, path) && (!is("left_early") || remove_beside(store)) && open_file(store)',
+        ),
+        ("| O_EXCL |", '| (is("beside_kept") ? 0 : O_EXCL) |'),
+        (
+            "        int error = errno;\n        close(file);\n        unlinkat(",
+            "        int error = errno;\n"
+            '        if (is("rename_takes_beside")) {\n            close(store->file);\n            store->file = file;\n'
+            "        } else {\n            close(file);\n        }\n        unlinkat(",
+        ),
         ("| O_NOFOLLOW |", '| (is("link_replaced") ? 0 : O_NOFOLLOW) |'),
         ("store->name, how, 0600)", 'store->name, how, is("made_for_all") ? 0644 : 0600)'),
         ("flock(store->file, LOCK_EX | LOCK_NB) != 0", '(!is("lock") && flock(store->file, LOCK_EX | LOCK_NB) != 0)'),
@@ -95,6 +112,17 @@ class Store:
         (
             "    if os.path.exists(path):",
             '    if FAULT in ("link", "link_replaced"):\n        return path\n    if os.path.exists(path):',
+        ),
+        (
+            "                self._open_file()\n",
+            '                if FAULT == "left_early" and os.path.exists(self.path + ".new"):\n'
+            '                    os.unlink(self.path + ".new")\n                self._open_file()\n',
+        ),
+        ("os.O_CREAT | os.O_EXCL", 'os.O_CREAT | (0 if FAULT == "beside_kept" else os.O_EXCL)'),
+        (
+            "                os.close(file)\n                os.unlink(beside",
+            '                if FAULT == "rename_takes_beside":\n                    os.dup2(file, self._file)\n'
+            "                os.close(file)\n                os.unlink(beside",
         ),
         ("os.O_NOFOLLOW |", '(0 if FAULT == "link_replaced" else os.O_NOFOLLOW) |'),
         ("how, 0o600, dir_fd", 'how, 0o644 if FAULT == "made_for_all" else 0o600, dir_fd'),
@@ -195,6 +223,20 @@ func syncFolder("""),
             '\tif is("made_for_all") {\n\t\trights = 0644\n\t}\n'
             "\tfile, err := os.OpenFile(path, os.O_RDWR|os.O_APPEND|os.O_CREATE|follow|syscall.O_NONBLOCK, rights)",
         ),
+        (
+            "\tfile, err := openLocked(real)",
+            '\tif is("left_early") {\n\t\tos.Remove(real + ".new")\n\t}\n\tfile, err := openLocked(real)',
+        ),
+        (
+            "\tfile, err := os.OpenFile(beside, os.O_RDWR|os.O_APPEND|os.O_CREATE|os.O_EXCL, 0600)",
+            '\talone := os.O_EXCL\n\tif is("beside_kept") {\n\t\talone = 0\n\t}\n'
+            "\tfile, err := os.OpenFile(beside, os.O_RDWR|os.O_APPEND|os.O_CREATE|alone, 0600)",
+        ),
+        (
+            "\t\tif err := step(); err != nil {\n\t\t\tfile.Close()\n",
+            '\t\tif err := step(); err != nil {\n\t\t\tif is("rename_takes_beside") {\n\t\t\t\tfile, s.file = s.file, file\n'
+            "\t\t\t}\n\t\t\tfile.Close()\n",
+        ),
         ("!own.Mode().IsRegular() {", "!own.Mode().IsRegular() && !isOther(own.Mode()) {"),
         ("\t\terr = lock(file)\n", '\t\terr = unless("lock", func() error { return lock(file) })\n'),
         (
@@ -266,6 +308,18 @@ fn sync_folder("""),
         ),
         ("create(true).mode(0o600)", 'create(true).mode(if is("made_for_all") { 0o644 } else { 0o600 })'),
         ("custom_flags(NO_FOLLOW | NO_WAIT)", 'custom_flags(if is("link_replaced") { NO_WAIT } else { NO_FOLLOW | NO_WAIT })'),
+        (
+            "let file = open_locked(&path)?;",
+            'if is("left_early") {\n            let _ = fs::remove_file(beside(&path));\n        }\n'
+            "        let file = open_locked(&path)?;",
+        ),
+        ("create_new(true)", 'create(true).create_new(!is("beside_kept"))'),
+        (
+            "let _ = fs::remove_file(&beside);\n                    return Err(error);",
+            'if let (true, Ok(file)) = (is("rename_takes_beside"), File::open(&beside)) {\n'
+            "                        store.file = file;\n                    }\n"
+            "                    let _ = fs::remove_file(&beside);\n                    return Err(error);",
+        ),
         ("if !own.is_file() {", "if !own.is_file() && !is_other(own.file_type()) {"),
         (
             "lock(&file)?;\n        match fs::symlink_metadata(path) {",

@@ -41,6 +41,9 @@ FAULTS = {
     "device": Fault(PLAIN, "a device is taken for a file", "no_plain_files", "a device"),
     "pipe": Fault(PLAIN, "a pipe is taken for a file", "no_plain_files", "a pipe"),
     "left": Fault(LEFTOVER, "what a crash left stays", "what_crashes_leave", "that is gone"),
+    "left_early": Fault(
+        LEFTOVER, "what a crash left is removed before the lock", "locks", "what its owner writes beside stays"
+    ),
     "left_ok": Fault(LEFTOVER, "a failed removal is Ok", "failed_removal", "open"),
     "read_nothing": Fault(READ, "nothing of the text is read", "what_crashes_leave", "the text stays"),
     "read_ok": Fault(READ, "a failed read is an empty text", "failed_read", "read"),
@@ -55,9 +58,15 @@ FAULTS = {
     "line_ok": Fault(LINE, "a failed sync of a line is Ok", "failed_sync_of_a_line", "append"),
     "beside_ok": Fault(BESIDE, "a failed write beside is Ok", "full", "replace on a full disk"),
     "beside_in_part": Fault(BESIDE, "a write beside in part is Ok", "full", "replace on a full disk"),
+    "beside_kept": Fault(
+        BESIDE, "what stands beside is written on", "beside_of_another", "nothing of another's is in it"
+    ),
     "beside_sync_ok": Fault(TEXT, "a failed sync beside is Ok", "failed_sync_beside", "replace"),
     "no_rename": Fault(RENAME, "nothing is renamed", "plain_file", "it is another file then"),
     "rename_ok": Fault(RENAME, "a failed rename is Ok", "failed_rename", "replace"),
+    "rename_takes_beside": Fault(
+        RENAME, "behind a failed rename the file beside is written on", "failed_rename", "it is locked still"
+    ),
     "folder_ok": Fault(NAME, "a failed sync of the folder is Ok", "failed_sync_of_the_folder", "replace"),
     "goes_on": Fault(BROKEN, "a failure is forgotten at once", "full", "and nothing more"),
     "refused_once": Fault(BROKEN, "a failure is forgotten once a call was refused", "full", "nor a replacement"),
@@ -69,10 +78,16 @@ FAULTS = {
 OF_CONTRACTS = ("opened_text_ok", "opened_name_ok", "goes_on", "refused_once", "writes_broken")
 FILE_FAULTS = {name: fault for name, fault in FAULTS.items() if name not in OF_CONTRACTS} | {
     "lock_another": Fault(LOCK, "another file is locked in the text's place", "lock_of_the_text", "the text is locked"),
+    "other_disk": Fault(
+        CURRENT, "a file of that number on another disk is the current one", "file_of_another_disk",
+        "a file of that number on another disk"
+    ),
     "link_made": Fault(PLAIN, "the file that a link names is made", "no_plain_files", "a link to nothing"),
     "write_nothing": Fault(WRITE, "nothing is written", "full", "what was there stays"),
+    "made_for_group": Fault(RIGHTS, "the group may read a file that is made", "made", "nobody else may read it"),
     "no_line": Fault(LINE, "a line isn't synced", "failed_sync_of_a_line", "append"),
     "no_text": Fault(TEXT, "the text beside isn't synced", "failed_sync_beside", "replace"),
+    "data_alone": Fault(TEXT, "of the text beside the data alone is synced", "failed_sync_beside", "replace"),
     "no_name": Fault(NAME, "the folder isn't synced", "failed_sync_of_the_folder", "replace"),
     "old_file": Fault(RENAME, "the old file is written on", "plain_file", "what is there"),
     "opened_anew": Fault(RENAME, "the new file is opened anew, without its lock", "locks", "behind a replacement"),

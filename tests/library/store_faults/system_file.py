@@ -4,6 +4,7 @@ No clause speaks of what the system does, so the contracts refuse none of these.
 """
 
 import os
+import struct
 
 import failing
 import faults
@@ -49,15 +50,15 @@ OPENING = [
         "/// Locks the file, unless another",
     ),
     (
-        "    match files.symlink_metadata(path) {\n        Ok(named) if named.is_file() => Ok(()),",
+        "    plain(files.symlink_metadata(path))\n",
         "    match look(files, path) {\n"
-        '        Ok(named) if named.is_file() || files.is("device") || files.is("pipe") => Ok(()),',
+        '        Ok(_) if files.is("device") || files.is("pipe") => Ok(()),\n        named => plain(named),\n    }\n',
     ),
     (
         "    match files.symlink_metadata(path) {\n"
         "        Ok(named) => Ok(named.dev() == own.dev() && named.ino() == own.ino()),",
         "    match look(files, path) {\n"
-        '        Ok(named) => Ok(files.is("stale")\n            || (named.dev() == own.dev()\n'
+        '        Ok(named) => Ok(files.is("stale")\n            || ((files.is("other_disk") || named.dev() == own.dev())\n'
         '                && (files.is("stale_device") || named.ino() == own.ino()))),',
     ),
     (
@@ -67,7 +68,10 @@ OPENING = [
         '    if files.is("link_replaced") || files.is("link_made") {\n        files.metadata(path)\n    } else {\n'
         "        files.symlink_metadata(path)\n    }\n}\n\n/// Refuses what is there",
     ),
-    (".mode(0o600)", '.mode(if files.is("made_for_all") { 0o644 } else { 0o600 })'),
+    (
+        ".mode(0o600)",
+        '.mode(if files.is("made_for_all") { 0o644 } else if files.is("made_for_group") { 0o640 } else { 0o600 })',
+    ),
     (
         "    remove_if_there(files, path).map_err(StoreFault::Leftover)",
         '    if files.is("left") {\n        return Ok(());\n    }\n'
@@ -79,9 +83,15 @@ OPENING = [
 SYSTEM = [
     ("use crate::opening::{open_locked,", "use crate::opening::{locked_beside, open_locked,"),
     (
-        "        remove_leftover(files, &paths.beside)?;\n",
+        "        let file = open_locked(",
+        '        if files.is("left_early") {\n            remove_leftover(files, &paths.beside)?;\n        }\n'
+        "        let file = open_locked(",
+    ),
+    (
+        "        remove_leftover(files, &paths.beside)?;\n        Ok(SystemFile {\n",
         "        remove_leftover(files, &paths.beside)?;\n"
-        '        let beside = if files.is("lock_another") { Some(locked_beside(alloc, files, &paths.file)?) } else { None };\n',
+        '        let beside = if files.is("lock_another") { Some(locked_beside(alloc, files, &paths.file)?) } else { None };\n'
+        "        Ok(SystemFile {\n",
     ),
     ("            beside: None,\n", "            beside,\n"),
     (
@@ -103,6 +113,11 @@ SYSTEM = [
         'let answer = if self.files.is("no_line") { Ok(()) } else { bring(&mut self.file) };\n'
         '        let answer = if self.files.is("line_ok") { Ok(()) } else { answer };',
     ),
+    (
+        "    remove_if_there(files, path)?;\n",
+        '    if !files.is("beside_kept") {\n        remove_if_there(files, path)?;\n    }\n',
+    ),
+    (".create_new(true)", '.create(true)\n        .create_new(!files.is("beside_kept"))'),
     ("    new.lock_now()?;\n", '    if !files.is("lock_beside") {\n        new.lock_now()?;\n    }\n'),
     ("    copy_rights(old, &new)?;\n", '    if !files.is("rights") {\n        copy_rights(old, &new)?;\n    }\n'),
     (
@@ -113,13 +128,15 @@ SYSTEM = [
     (
         "            Some(file) => bring_all(file),",
         '            Some(_) if self.files.is("no_text") => Ok(()),\n'
-        '            Some(file) => {\n                let answer = bring_all(file);\n'
+        '            Some(file) => {\n                let answer = if self.files.is("data_alone") { bring(file) } else { bring_all(file) };\n'
         '                if self.files.is("beside_sync_ok") { Ok(()) } else { answer }\n            }',
     ),
     (
         "        self.files.rename(&self.paths.beside, &self.paths.file)?;\n        self.file = file;\n",
         '        if !self.files.is("no_rename") {\n'
         "            let renamed = self.files.rename(&self.paths.beside, &self.paths.file);\n"
+        '            if self.files.is("rename_takes_beside") && renamed.is_err() {\n'
+        "                self.file = file;\n                return renamed;\n            }\n"
         '            if !self.files.is("rename_ok") {\n                renamed?;\n            }\n        }\n'
         '        if self.files.is("opened_anew") {\n            drop(file);\n'
         "            self.file = OpenOptions::new().read(true).append(true).open(self.files, &self.paths.file)?;\n"
@@ -188,5 +205,23 @@ def failed_sync_of_a_line(cases):
     failing.failed_sync(cases, "fdatasync", 2)
 
 
-OWN_PARTS = (failed_read, failed_sync_of_the_opened_text, failed_sync_of_a_line)
+def on_another_disk(path):
+    """What the system says of a file by statx, up to its disk, which is another; in hex."""
+    is_told, about = 0x17FF, os.stat(path)
+    owners = (about.st_nlink, about.st_uid, about.st_gid, about.st_mode, 0)
+    head = struct.pack("<IIQIIIHHQQQQ", is_told, about.st_blksize, 0, *owners, about.st_ino, about.st_size, about.st_blocks, 0)
+    times_and_device = bytes(72)
+    return (head + times_and_device + struct.pack("<II", os.major(about.st_dev) + 1, os.minor(about.st_dev))).hex()
+
+
+def file_of_another_disk(cases):
+    """The file that is opened is said to be on another disk each time, so its name names another one of its number."""
+    path = failing.old_file(cases, "disk")
+    # each try looks at what has the name, at the file that it opened, and again at what has the name
+    how = f"poke_exit=@arg5={on_another_disk(path)}:when=2+3"
+    with failing.Traced(cases.words, "statx", how, [path]) as driver:
+        cases.says("a file of that number on another disk", driver, f"open {path}", "Locked")
+
+
+OWN_PARTS = (failed_read, failed_sync_of_the_opened_text, failed_sync_of_a_line, file_of_another_disk)
 PARTS = failing.PARTS | {part.__name__: part for part in OWN_PARTS}

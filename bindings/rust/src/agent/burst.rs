@@ -9,15 +9,8 @@ use crate::settings::QueryParams;
 /// A call of a burst.
 #[derive(Clone, Copy, Debug)]
 pub enum Call<'a> {
-    /// A packet of the network, which comes at a moment.
+    /// A packet of the network, with what the host says of tag filters, as [`Agent::receive`] has it.
     Receive {
-        /// The moment.
-        now: u64,
-        /// The packet, with its type byte in front.
-        packet: &'a [u8],
-    },
-    /// A packet of the network, with what the host says of tag filters, as [`Agent::receive_tagged`] has it.
-    ReceiveTagged {
         /// The moment.
         now: u64,
         /// The packet, with its type byte in front.
@@ -70,7 +63,7 @@ pub(super) enum Made {
 impl Call<'_> {
     fn made(&self) -> Made {
         match self {
-            Call::Receive { packet, .. } | Call::ReceiveTagged { packet, .. } => Made::Received(packet.to_vec()),
+            Call::Receive { packet, .. } => Made::Received(packet.to_vec()),
             Call::Fire { .. } => Made::Fired,
             Call::Query { .. } => Made::Asked,
         }
@@ -151,11 +144,9 @@ impl Agent {
     /// Makes a call of a burst, whose outcome waits then.
     fn make(&mut self, call: Call<'_>) -> Result<(), Error> {
         let code = match call {
-            // SAFETY: the pointer comes with its length.
-            Call::Receive { now, packet } => unsafe { raw::serf_agent_burst_receive(&mut *self.handle, now, packet.as_ptr(), packet.len()) },
-            Call::ReceiveTagged { now, packet, tags_pass } => {
+            Call::Receive { now, packet, tags_pass } => {
                 // SAFETY: the pointer comes with its length.
-                unsafe { raw::serf_agent_burst_receive_tagged(&mut *self.handle, now, packet.as_ptr(), packet.len(), tags_pass) }
+                unsafe { raw::serf_agent_burst_receive(&mut *self.handle, now, packet.as_ptr(), packet.len(), tags_pass) }
             }
             Call::Fire { name, payload, coalesce } => {
                 // SAFETY: each pointer comes with its length.
@@ -177,7 +168,7 @@ impl Agent {
         for filter in &params.filters {
             self.stale_filters = true;
             // SAFETY: the pointer comes with its length.
-            answered(unsafe { raw::serf_agent_burst_filter(&mut *self.handle, filter.as_ptr(), filter.len()) })?;
+            answered(unsafe { raw::serf_agent_add_filter(&mut *self.handle, filter.as_ptr(), filter.len()) })?;
         }
         // SAFETY: each pointer comes with its length.
         Ok(unsafe {

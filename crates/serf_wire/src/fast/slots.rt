@@ -20,7 +20,7 @@ pub enum FoundEvents<'a> {
     Many(EventViews<'a>),
 }
 
-/// The name at the start, after its key, and what follows it.
+/// The name at the start of `bytes`, after its key, and the bytes after it.
 #[inline(always)]
 fn read_name(bytes: &[u8]) -> Option<(&[u8], &[u8])>
     ensures { IfSome result (λ x. ReadsPair 9 text (codes "Name") x.0.now bytes.now x.1.now) }
@@ -31,7 +31,7 @@ fn read_name(bytes: &[u8]) -> Option<(&[u8], &[u8])>
     read_text(value)
 }
 
-/// The payload at the start, after its key, and what follows it.
+/// The payload at the start of `bytes`, after its key, and the bytes after it.
 #[inline(always)]
 fn read_payload(bytes: &[u8]) -> Option<(&[u8], &[u8])>
     ensures { IfSome result (λ x. ReadsPair 9 text (codes "Payload") x.0.now bytes.now x.1.now) }
@@ -42,7 +42,7 @@ fn read_payload(bytes: &[u8]) -> Option<(&[u8], &[u8])>
     read_text(value)
 }
 
-/// The event at the start, and what follows it.
+/// The event at the start of `bytes`, a map of two pairs (0x82), and the bytes after it.
 #[inline(always)]
 pub fn read_event(bytes: &[u8]) -> Option<(EventView<'_>, &[u8])>
     ensures { IfSome result (λ x. ReadsIn 8 event_body (event_of_view x.0) bytes.now x.1.now) }
@@ -56,7 +56,7 @@ pub fn read_event(bytes: &[u8]) -> Option<(EventView<'_>, &[u8])>
     Some((EventView { name, payload }, rest))
 }
 
-/// What follows so many events at the start.
+/// The bytes after `count` events at the start of `bytes`.
 fn skip_events(count: u64, bytes: &[u8]) -> Option<&[u8]>
     ensures { IfSome result (λ rest. AreItems 8 event_body count bytes.now rest.now) }
 {
@@ -70,7 +70,7 @@ fn skip_events(count: u64, bytes: &[u8]) -> Option<&[u8]>
     Some(rest)
 }
 
-/// What follows a list of events at the start.
+/// The bytes after a list of events at the start of `bytes`.
 #[inline(always)]
 fn skip_event_list(bytes: &[u8]) -> Option<&[u8]>
     ensures { IfSome result (λ rest. Spans 7 (list event_body) bytes.now rest.now) }
@@ -80,7 +80,7 @@ fn skip_event_list(bytes: &[u8]) -> Option<&[u8]>
     skip_events(count, items)
 }
 
-/// The list of just one event at the start, and what follows it.
+/// The event of a list of just one event (0x91) at the start of `bytes`, and the bytes after it.
 #[inline(always)]
 fn read_only_event(bytes: &[u8]) -> Option<(EventView<'_>, &[u8])>
     ensures { IfSome result (λ x.
@@ -93,8 +93,8 @@ fn read_only_event(bytes: &[u8]) -> Option<(EventView<'_>, &[u8])>
     read_event(event)
 }
 
-/// The list of any number of events at the start, and what follows it. It stands apart, so that the reading of a
-/// slot of one event is small enough to stand where it is called.
+/// The list of any number of events at the start of `bytes`, and the bytes after it. It is a call of its own, so that the
+/// reading of a slot of one event is small enough to stand where it is called.
 #[inline(never)]
 fn read_many_events(bytes: &[u8]) -> Option<(EventViews<'_>, &[u8])>
     ensures { IfSome result (λ x. ReadsIn 7 (list event_body) (events_left x.0) bytes.now x.1.now) }
@@ -104,7 +104,7 @@ fn read_many_events(bytes: &[u8]) -> Option<(EventViews<'_>, &[u8])>
     Some((EventViews::of(Some(list)), rest))
 }
 
-/// The list of events at the start, and what follows it.
+/// The list of events at the start of `bytes`, and the bytes after it.
 #[inline(always)]
 fn read_event_list(bytes: &[u8]) -> Option<(FoundEvents<'_>, &[u8])>
     ensures { IfSome result (λ x.
@@ -119,7 +119,7 @@ fn read_event_list(bytes: &[u8]) -> Option<(FoundEvents<'_>, &[u8])>
     }
 }
 
-/// The list of events at the start, after its key, and what follows it.
+/// The list of events at the start of `bytes`, after its key, and the bytes after it.
 #[inline(always)]
 fn read_events(bytes: &[u8]) -> Option<(FoundEvents<'_>, &[u8])>
     ensures { IfSome result (λ x.
@@ -131,7 +131,7 @@ fn read_events(bytes: &[u8]) -> Option<(FoundEvents<'_>, &[u8])>
     read_event_list(value)
 }
 
-/// The time at the start, after its key, and what follows it.
+/// The time at the start of `bytes`, after its key, and the bytes after it.
 #[inline(always)]
 fn read_time(bytes: &[u8]) -> Option<(u64, &[u8])>
     ensures { IfSome result (λ x. ReadsPair 7 time (codes "LTime") x.0 bytes.now x.1.now) }
@@ -146,7 +146,7 @@ fn read_time(bytes: &[u8]) -> Option<(u64, &[u8])>
     Some((number, rest))
 }
 
-/// The time at the start, after its key, where it stands there, and what follows it.
+/// The time at the start of `fields`, where it stands before the events, and the bytes after it. Else `None`, and all of `fields`.
 #[inline(always)]
 fn read_early_time(fields: &[u8]) -> (Option<u64>, &[u8])
     ensures early { IfSome result.0 (λ t.
@@ -159,8 +159,8 @@ fn read_early_time(fields: &[u8]) -> (Option<u64>, &[u8])
     }
 }
 
-/// The slot at the start, a map of just a time and its events, and what follows it. Our encoder writes the time
-/// first, and Serf the events.
+/// The time and the events of a slot, of which `fields` are the bytes after the map's header, and the bytes after the slot.
+/// Our encoder writes the time first, and Serf the events.
 #[inline(always)]
 fn read_fields(fields: &[u8]) -> Option<(u64, FoundEvents<'_>, &[u8])>
     ensures { IfSome result (λ x.
@@ -180,7 +180,7 @@ fn read_fields(fields: &[u8]) -> Option<(u64, FoundEvents<'_>, &[u8])>
     }
 }
 
-/// The slot at the start that holds a time, and what follows it.
+/// The time and the events of the slot that is a map of two pairs (0x82) at the start of `bytes`, and the bytes after it.
 #[inline(always)]
 fn read_held(bytes: &[u8]) -> Option<(u64, FoundEvents<'_>, &[u8])>
     ensures { IfSome result (λ x. ReadsIn 6 slot (held x.0 (events_found x.1)) bytes.now x.2.now) }
@@ -191,7 +191,7 @@ fn read_held(bytes: &[u8]) -> Option<(u64, FoundEvents<'_>, &[u8])>
     read_fields(fields)
 }
 
-/// The slot of a time and its events.
+/// The slot of `time` and its `events`.
 #[inline(always)]
 fn slot_of<'a>(time: Time, events: FoundEvents<'a>) -> SlotView<'a>
     ensures { slot_of_view result ≡ held time (events_found events.entry) }
@@ -202,7 +202,7 @@ fn slot_of<'a>(time: Time, events: FoundEvents<'a>) -> SlotView<'a>
     }
 }
 
-/// The slot at the start, and what follows it.
+/// The slot at the start of `bytes`, and the bytes after it. Nil is the empty one.
 #[inline(always)]
 pub fn read_slot(bytes: &[u8]) -> Option<(SlotView<'_>, &[u8])>
     ensures { IfSome result (λ x. ReadsIn 6 slot (slot_of_view x.0) bytes.now x.1.now) }
@@ -219,7 +219,7 @@ pub fn read_slot(bytes: &[u8]) -> Option<(SlotView<'_>, &[u8])>
     }
 }
 
-/// What follows so many slots at the start.
+/// The bytes after `count` slots at the start of `bytes`.
 fn skip_slots(count: u64, bytes: &[u8]) -> Option<&[u8]>
     ensures { IfSome result (λ rest. AreItems 6 slot count bytes.now rest.now) }
 {
@@ -233,7 +233,7 @@ fn skip_slots(count: u64, bytes: &[u8]) -> Option<&[u8]>
     Some(rest)
 }
 
-/// What follows a list of slots at the start.
+/// The bytes after a list of slots, or nil, at the start of `bytes`.
 fn skip_slot_list(bytes: &[u8]) -> Option<&[u8]>
     ensures { IfSome result (λ rest. Spans 5 (list slot) bytes.now rest.now) }
 {
@@ -247,7 +247,7 @@ fn skip_slot_list(bytes: &[u8]) -> Option<&[u8]>
     }
 }
 
-/// The list of slots at the start, and what follows it.
+/// The list of slots at the start of `bytes`, and the bytes after it.
 fn read_slots(bytes: &[u8]) -> Option<(SlotViews<'_>, &[u8])>
     ensures { IfSome result (λ x. ReadsIn 5 (list slot) (slots_left x.0) bytes.now x.1.now) }
 {
@@ -256,7 +256,7 @@ fn read_slots(bytes: &[u8]) -> Option<(SlotViews<'_>, &[u8])>
     Some((SlotViews::of(Some(list)), rest))
 }
 
-/// The list of slots at the start, of which nothing was found before.
+/// `read_slots` for a key that comes once: `None` where `found` has its slots from an earlier pair.
 pub fn once_slots<'a>(
     found: Option<SlotViews<'a>>,
     bytes: &'a [u8],

@@ -1,4 +1,4 @@
-//! States.
+//! A push/pull's map, a node's whole state, in a compact spelling, read in one pass.
 
 ghost use Rattle.std.specs.Prelude.{◌≡◌, [], unwrap_or, IfSome};
 ghost use Rattle.std.specs.Option.{option_map};
@@ -16,7 +16,7 @@ use crate::laws::laws_below;
 use crate::lists::{SlotViews, StatusTimes, Texts};
 use crate::message::PushPull;
 
-/// What was found of a state.
+/// The values of a push/pull's keys that were found so far.
 #[derive(Clone, Copy)]
 struct StateFields<'a> {
     member_clock: Option<u64>,
@@ -27,7 +27,7 @@ struct StateFields<'a> {
     query_clock: Option<u64>,
 }
 
-/// Adds the pair at the start.
+/// Adds the pair at the start of `bytes` to `found`, and answers the bytes after it.
 fn read_pair<'a>(found: &mut StateFields<'a>, bytes: &'a [u8]) -> Option<&'a [u8]>
     ensures { IfSome result (λ rest. Extends IsStateSoFar found.old found.new bytes.now rest.now) }
 {
@@ -66,7 +66,8 @@ fn read_pair<'a>(found: &mut StateFields<'a>, bytes: &'a [u8]) -> Option<&'a [u8
     }
 }
 
-/// Reads so many pairs. It stands apart, so that the readers of smaller messages are as fast beside it.
+/// What the first `count` pairs of `bytes` give, and the bytes after them. It is a call of its own, so that the readers of
+/// smaller messages are as fast beside it.
 #[inline(never)]
 fn read_pairs(count: u8, bytes: &[u8]) -> Option<(StateFields<'_>, &[u8])>
     ensures { IfSome result (λ x. IsReadSoFar IsStateSoFar x.0 count bytes.now x.1.now) }
@@ -90,7 +91,7 @@ fn read_pairs(count: u8, bytes: &[u8]) -> Option<(StateFields<'_>, &[u8])>
     Some((found, rest))
 }
 
-/// The status times that were found, or none.
+/// The status times that were `found`, or none.
 fn or_no_status<'a>(found: Option<StatusTimes<'a>>) -> StatusTimes<'a>
     ensures { status_left result ≡ unwrap_or (option_map status_left found.entry) [] }
 {
@@ -100,7 +101,7 @@ fn or_no_status<'a>(found: Option<StatusTimes<'a>>) -> StatusTimes<'a>
     }
 }
 
-/// The slots that were found, or none.
+/// The slots that were `found`, or none.
 fn or_no_slots<'a>(found: Option<SlotViews<'a>>) -> SlotViews<'a>
     ensures { slots_left result ≡ unwrap_or (option_map slots_left found.entry) [] }
 {
@@ -110,7 +111,7 @@ fn or_no_slots<'a>(found: Option<SlotViews<'a>>) -> SlotViews<'a>
     }
 }
 
-/// The state of what was found.
+/// The push/pull that the values `found` make. A key that didn't come has zero or nothing.
 fn state_of<'a>(found: &StateFields<'a>) -> PushPull<'a>
     ensures { push_pull_said result ≡ found_state found.now }
 {
@@ -124,7 +125,7 @@ fn state_of<'a>(found: &StateFields<'a>) -> PushPull<'a>
     }
 }
 
-/// The state that such a map is.
+/// The push/pull whose map `bytes` are, spelled compactly.
 #[inline(never)]
 pub fn read_push_pull(bytes: &[u8]) -> Option<PushPull<'_>>
     ensures { IfSome result (λ m.

@@ -1,4 +1,4 @@
-//! The members' status times: a map of texts and numbers.
+//! The members' status times in a push/pull: a map of names and times, in a compact spelling.
 
 ghost use Rattle.std.specs.Prelude.{◌≡◌, None, Ok, IfSome};
 ghost use Rattle.std.specs.Option.{option_map};
@@ -12,7 +12,7 @@ use crate::compact::{read_long_map_head, read_number, read_raw, skip_nil, view_b
 use crate::laws::laws_below;
 use crate::lists::StatusTimes;
 
-/// What follows a name and its time at the start.
+/// The bytes after a name and its time at the start of `bytes`.
 #[inline(always)]
 fn skip_status_time(bytes: &[u8]) -> Option<&[u8]>
     ensures { IfSome result (λ rest. SpansStatusTime bytes.now rest.now) }
@@ -22,7 +22,7 @@ fn skip_status_time(bytes: &[u8]) -> Option<&[u8]>
     Some(rest)
 }
 
-/// What follows so many names with their times at the start.
+/// The bytes after `count` names with their times at the start of `bytes`.
 fn skip_status_times(count: u64, bytes: &[u8]) -> Option<&[u8]>
     ensures { IfSome result (λ rest. AreParts status_part_bytes count bytes.now rest.now) }
 {
@@ -36,7 +36,7 @@ fn skip_status_times(count: u64, bytes: &[u8]) -> Option<&[u8]>
     Some(rest)
 }
 
-/// What follows a map of names and times at the start.
+/// The bytes after a map of names and times, or nil, at the start of `bytes`.
 fn skip_status(bytes: &[u8]) -> Option<&[u8]>
     ensures { IfSome result (λ rest. Spans 8 status bytes.now rest.now) }
 {
@@ -50,7 +50,7 @@ fn skip_status(bytes: &[u8]) -> Option<&[u8]>
     }
 }
 
-/// The names with their times at the start, and what follows them.
+/// The names with their times at the start of `bytes`, and the bytes after them.
 fn read_status(bytes: &[u8]) -> Option<(StatusTimes<'_>, &[u8])>
     ensures { IfSome result (λ x. ReadsIn 8 status (status_left x.0) bytes.now x.1.now) }
 {
@@ -59,7 +59,7 @@ fn read_status(bytes: &[u8]) -> Option<(StatusTimes<'_>, &[u8])>
     Some((StatusTimes::of(Some(map)), rest))
 }
 
-/// The names with their times at the start, of which nothing was found before.
+/// `read_status` for a key that comes once: `None` where `found` has its status times from an earlier pair.
 pub fn once_status<'a>(
     found: Option<StatusTimes<'a>>,
     bytes: &'a [u8],

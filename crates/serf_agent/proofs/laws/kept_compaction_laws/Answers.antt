@@ -9,9 +9,6 @@ returns c = compaction_laws (record {
   query_texts = c.kept_text_laws.ensures.queries;
   least_own = c.least_time_laws.ensures.own_line;
   least_grows = c.least_time_laws.ensures.grows;
-  event_line_whole = c.kept_note_laws.ensures.event;
-  query_line_whole = c.kept_note_laws.ensures.query;
-  least_line_whole = c.kept_note_laws.ensures.least;
-  both = c.kept_note_laws.ensures.both;
+  quiet = record { event = c.kept_note_laws.ensures.event; query = c.kept_note_laws.ensures.query; least = c.kept_note_laws.ensures.least; both = c.kept_note_laws.ensures.both };
   whole = c.kept_note_laws.ensures.whole;
 })

@@ -1,28 +1,16 @@
 use Rattle.serf_agent.proofs.UnseenLaws as unseen
-use Rattle.serf_agent.proofs.KeptLifeLaws as lives
 use Rattle.serf_agent.proofs.laws.unseen_promises.Goals as goal
 
-below : goal.After-kept_life_promises → lives.BelowKeptLives
-below c = record {
-  life = record { times = c.text_laws.ensures.below; grows = c.text_laws.ensures.grows; ranged = c.decoded_ranges.ensures; snapshots = c.sound_snapshots.ensures; restart = c.kept_restart_laws.ensures };
-  durable = record {
-    steps = c.kept_step_laws.ensures;
-    unkept = c.unkept_laws.ensures;
-    compactions = c.kept_compaction_laws.ensures;
-    restart = c.kept_restart_laws.ensures;
-    events = c.keeping_laws.ensures.events;
-    queries = c.keeping_laws.ensures.queries;
-    recalled_events = c.recall_laws.ensures.events;
-    recalled_queries = c.recall_laws.ensures.queries;
-    event_texts = c.kept_text_laws.ensures.events;
-    query_texts = c.kept_text_laws.ensures.queries;
-    least_grows = c.least_time_laws.ensures.grows;
-    times = c.text_laws.ensures.below;
-    events_read = c.read_laws.ensures.events;
-    queries_read = c.read_laws.ensures.queries;
-    least_read = c.read_laws.ensures.least;
-  };
-}
+below : goal.After-kept_life_promises → unseen.BelowUnseen
+below c =
+    let promised = c.kept_life_promises.ensures in
+    record {
+      life = record { times = c.text_laws.ensures.below; grows = c.text_laws.ensures.grows; ranged = c.decoded_ranges.ensures; snapshots = c.sound_snapshots.ensures; restart = c.kept_restart_laws.ensures };
+      begins = promised.begins;
+      stays = promised.stays;
+      behind = promised.behind;
+      suffices = promised.suffices;
+    }
 
 pub returns-clause-once : goal.returns-clause-once
 returns-clause-once c = unseen.once_unseen (below c)

@@ -2,6 +2,6 @@ use Rattle.serf_conform.specs.Lone.{lone_cluster}
 use Rattle.serf_conform.proofs.LoneLemmas.{acted_on}
 use Rattle.serf_conform.proofs.lone.act_lone.Goals as goal
 
-pub returns-in-Ok : goal.returns-in-Ok
-returns-in-Ok c = λ config made call is does.
-    acted_on config made call c.args.world.now _ c.args.act _ does (c.in-Ok.ensures.step (lone_cluster config made c.args.world.now) is.view is.representable)
+pub returns : goal.returns
+returns c = λ config made call is does.
+    acted_on config made call c.args.world.now _ c.args.act _ does (c.in_ok-step.ensures.step (lone_cluster config made c.args.world.now) is.view is.representable)

@@ -1,11 +1,19 @@
+use Rattle.std.proofs.Common.{◌≡◌, ◌++◌, List, ℕ, ap, ◌∙◌}
 use Rattle.std.proofs.lemmas.Result.{on_ok_weaker}
 use Rattle.serf_window.specs.Texts.{event_of}
-use Rattle.serf_explain.proofs.CarriedLaws.{adds-carried}
+use Rattle.serf_explain.specs.Because.{because_line}
+use Rattle.serf_explain.specs.Carried.{carried_words}
+use Rattle.serf_explain.specs.Judging.{judged_detail}
 use Rattle.serf_explain.proofs.merges.add_carried.Goals as goal
 
 pub returns : goal.returns
 returns c =
-    on_ok_weaker c.put_because.result
-    (λ is. adds-carried c.args.merging.now.phrases.now.number c.args.slot c.args.event.now.time (event_of c.args.event.now.name.now c.args.event.now.payload.now) c.args.verdict c.deref.result.now c.clear-2.new.self.items c.put_carried.new.out.items c.deref-2.result.now c.args.lines.now.text.items c.put_because.new.out.items
-    c.clear-2.ensures.items c.in_ok-put_carried.ensures c.deref-2.ensures.value is)
-    c.put_because.ensures
+    let m = c.args.merging.now in
+    let time = c.args.event.now.time in
+    let what = event_of c.args.event.now.name.now c.args.event.now.payload.now in
+    let detail : List ℕ = judged_detail m c.args.judge.now c.args.handed time what c.args.verdict in
+    let old : List ℕ = c.args.lines.now.text.items in
+    let words : List ℕ → List ℕ = λ d. carried_words c.args.slot time what c.args.verdict d in
+    let said : c.deref.result.now ≡ detail = c.deref.ensures.value ∙ c.in_ok-put_detail.ensures ∙ ap (λ (t : List ℕ). t ++ detail) c.clear.ensures.items in
+    let reason : c.deref-2.result.now ≡ words detail = c.deref-2.ensures.value ∙ c.in_ok-put_carried.ensures ∙ ap (λ (t : List ℕ). t ++ words c.deref.result.now) c.clear-2.ensures.items ∙ ap words said in
+    on_ok_weaker c.put_because.result (λ is. is ∙ ap (λ (r : List ℕ). old ++ because_line m.number r) reason) c.put_because.ensures

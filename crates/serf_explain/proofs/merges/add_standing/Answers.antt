@@ -1,24 +1,23 @@
-use Rattle.std.proofs.Common.{◌≡◌, ◌<◌, ◌^◌, ◌++◌, List, ℕ, true, ap, ◌∙◌, arith}
-use Rattle.std.specs.List.{list_all}
+use Rattle.std.proofs.Common.{◌≡◌, ◌<◌, ◌^◌, ◌++◌, List, ℕ, true, ap, sym, ◌∙◌, arith}
 use Rattle.std.proofs.lemmas.Result.{on_ok_weaker}
 use Rattle.serf_window.specs.Texts.{event_of}
-use Rattle.serf_explain.specs.Because.{is_printable}
-use Rattle.serf_explain.specs.Words.{event_words}
+use Rattle.serf_explain.specs.Words.{event_words, stands}
 use Rattle.serf_explain.proofs.StandingLaws.{adds-standing}
 use Rattle.serf_explain.proofs.merges.add_standing.Goals as goal
 
 pub returns : goal.returns
-returns c =
+returns c = λ judge.
     let event = c.args.event.now in
+    let merging = c.args.merging.now in
+    let agent : List ℕ = merging.agent.now.concrete.config.name in
     let slot : c.args.slot < 2 ^ 64 = omega arith in
     let time : event.time < 2 ^ 64 = omega arith in
     let action : c.args.action < 2 ^ 64 = omega arith in
-    let phrases = c.args.phrases.now in
     let what = event_of event.name.now event.payload.now in
-    let named : list_all is_printable c.as_slice-named.result.now ≡ true = ap (λ (t : List ℕ). list_all is_printable t) c.as_slice-named.ensures.value ∙ phrases.named_stands in
+    let plain : stands agent ≡ true = sym merging.plain_is ∙ c.requires.agent in
     let words : c.as_slice-words.result.now ≡ event_words event.time what =
     c.as_slice-words.ensures.value ∙ c.in_ok-put_standing_event.ensures ∙ ap (λ (t : List ℕ). t ++ event_words event.time what) c.clear.ensures.items in
     on_ok_weaker c.put_seen_behind.result
-    (λ is. adds-standing phrases.number c.args.slot event.time c.args.action event.name.now event.payload.now c.as_slice-front.result.now c.as_slice-named.result.now c.as_slice-words.result.now c.args.lines.now.text.items c.put_seen_front.new.out.items c.put_seen_behind.new.out.items
-    slot time action c.requires.name c.requires.payload (c.as_slice-front.ensures.value ∙ phrases.front_is) named words c.in_ok-put_seen_front.ensures is)
+    (λ is. adds-standing merging.number c.args.slot event.time c.args.action agent event.name.now event.payload.now c.as_slice-front.result.now c.as_slice-named.result.now c.as_slice-words.result.now c.args.lines.now.text.items c.put_seen_front.new.out.items c.put_seen_behind.new.out.items
+    slot time action plain c.requires.name c.requires.payload (c.as_slice-front.ensures.value ∙ merging.front_is) (c.as_slice-named.ensures.value ∙ merging.named_is) words c.in_ok-put_seen_front.ensures is)
     c.put_seen_behind.ensures

@@ -1,9 +1,28 @@
-use Rattle.std.proofs.Common.{ℕ, OnOk, subst}
+use Rattle.std.proofs.Common.{◌++◌, ◌∷◌, [], ◌≡◌, ℕ, OnOk, ap, length, refl, subst, sym, ◌∙◌}
 use Rattle.serf_wire.specs.Decoded.{decoded}
+use Rattle.serf_explain.specs.declared.history.History.{History}
+use Rattle.serf_explain.specs.declared.marks.Mark.{Mark}
+use Rattle.serf_explain.specs.Carried.{Known}
+use Rattle.serf_explain.specs.HandOuts.{notes_in}
 use Rattle.serf_explain.specs.Judging.{AddsMerge}
+use Rattle.serf_explain.specs.Leaving.{IsMark}
 use Rattle.serf_explain.proofs.reasons.add_merge.Goals as goal
 
 pub returns : goal.returns
-returns c = λ i sound is.
-    subst (λ (n : ℕ). OnOk c.add_packet.result (AddsMerge n i c.args.is_join (decoded c.args.packet.now) c.add_packet.new.lines.raised c.args.lines.now.text.items c.add_packet.new.lines.text.items)) c.in_ok-phrases.ensures
-    (c.add_packet.ensures i sound is)
+returns c = λ before n i earlier sound is mark notes count many.
+    let made = c.in_ok-merging.ensures in
+    let k : Known = record { agent = c.args.agent_number; before = before ++ n ∷ []; lines = earlier; entered = length i.events.history } in
+    subst (λ (x : ℕ). OnOk c.add_packet.result (AddsMerge k x i c.args.is_join (decoded c.args.packet.now) c.add_packet.new.lines.raised c.args.lines.now.text.items c.add_packet.new.lines.text.items)) made.0
+    (c.add_packet.ensures k i (record {
+      sound = sound;
+      agent_is = made.2 ∙ is;
+      agent = made.1;
+      entered = refl;
+      notes = ap (λ (h : History). notes_in h.hand_outs.outs.items) made.3 ∙ notes;
+      count = made.0 ∙ many;
+      earlier = before;
+      least = n;
+      before_are = refl;
+      mark = subst (λ (m : Mark). IsMark before n m) (sym made.4) mark;
+      number = made.0 ∙ count;
+    }))

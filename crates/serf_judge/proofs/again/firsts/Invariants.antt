@@ -1,7 +1,5 @@
-use Rattle.std.proofs.Common.{take}
-use Rattle.std.specs.HashSet.{contains}
-use Rattle.serf_judge.specs.Seen.{AreFirsts}
+use Rattle.serf_judge.proofs.Names.{AreKept, contains, false, take}
 use Rattle.serf_judge.proofs.again.firsts.Given as goal
 
 abbrev pub invariant-loop-key : goal.invariant-loop-key
-invariant-loop-key g l = AreFirsts g.K.PartialEq.eq (take l.key-index l.keys) l.found.items (contains g.K.PartialEq.eq l.noted)
+invariant-loop-key g l = AreKept false g.K.PartialEq.eq (λ k. k) (take l.key-index l.keys) l.found.items (contains g.K.PartialEq.eq l.noted)

@@ -1,20 +1,25 @@
-use Rattle.std.proofs.Common.{◌∙◌, [], List, map, take, take_all, refl, sym, subst, ap}
-use Rattle.std.proofs.lemmas.List.{take_more}
-use Rattle.std.specs.HashSet.{contains}
-use Rattle.serf_judge.specs.declared.key.Handed.{Handed}
-use Rattle.serf_judge.specs.Again.{repeats_of}
-use Rattle.serf_judge.specs.Identity.{handed_seen, is_same, key_eq}
-use Rattle.serf_judge.specs.Seen.{AreRepeats, is_again}
-use Rattle.serf_judge.proofs.AgainLaws.{again-map}
-use Rattle.serf_judge.proofs.TallyLaws.{no_line}
+use Rattle.serf_judge.proofs.Names.{[], ap, handed_seen, is_same, key_eq, map, map-append, refl, repeats_among, rules, sym, take, take_all, ◌++◌, ◌∙◌, ◌∷◌}
+use Rattle.serf_judge.proofs.AgainLaws.{picked-map}
+use Rattle.serf_judge.proofs.TallyLaws.{take-next}
 use Rattle.serf_judge.proofs.again.repeats.Goals as goal
 
-pub loop-line-preserved : goal.loop-line-preserved
-loop-line-preserved c =
-    let next = take_more c.args.lines.now c.loop-line.line-index no_line c.loop-line-test.true in
-    subst (λ (ls : List Handed). AreRepeats ls c.keep_repeat.new.found.items (λ q. contains key_eq c.keep_repeat.new.noted q)) (sym next) (c.in_ok-keep_repeat.ensures (take c.loop-line.line-index c.args.lines.now) c.loop-line.invariant)
+pub loop-entry-init : goal.loop-entry-init
+loop-entry-init g c = ([], refl, record { found_are = search rules; noted_are = λ q. search rules })
+
+pub loop-entry-preserved : goal.loop-entry-preserved
+loop-entry-preserved g c =
+    let seen = g.E.HandedOut.seen in
+    let inv = c.loop-entry.invariant in
+    let line = c.handed-line.result in
+    let entry = c.entry-item.result in
+    let before = take c.loop-entry.entry-index c.args.entries.now in (
+      inv.0 ++ line ∷ [],
+      map-append handed_seen inv.0 (line ∷ []) ∙ (λ k. inv.1 k ++ c.handed-line.ensures k ∷ []) ∙ sym (ap (map seen) (take-next c.args.entries.now c.loop-entry.entry-index entry c.loop-entry-test.true c.entry-item.is) ∙ map-append seen before (entry ∷ [])),
+      c.in_ok-keep.ensures (λ h. h.key) inv.0 refl inv.2,
+    )
 
 pub returns : goal.returns
-returns c =
-    ap (map handed_seen) (c.loop-line.invariant.found_are ∙ ap (λ (ls : List Handed). repeats_of is_again ls) (take_all c.loop-line.line-index c.args.lines.now c.loop-line-test.false))
-    ∙ again-map handed_seen is_again (λ x y. is_same x.1 y.1) (λ x y. refl) [] c.args.lines.now
+returns g c =
+    let inv = c.loop-entry.invariant in
+    ap (map handed_seen) inv.2.found_are ∙ picked-map (λ again. again) handed_seen (λ x y. key_eq x.key y.key) (λ x y. is_same x.1 y.1) (λ x y. refl) [] inv.0
+    ∙ ap repeats_among (inv.1 ∙ ap (map g.E.HandedOut.seen) (take_all c.loop-entry.entry-index c.args.entries.now c.loop-entry-test.false))

@@ -1,8 +1,7 @@
-use Rattle.std.proofs.Common.{take}
-use Rattle.std.specs.HashSet.{contains}
-use Rattle.serf_judge.specs.Identity.{key_eq}
-use Rattle.serf_judge.specs.Seen.{AreRepeats}
+use Rattle.serf_judge.proofs.Names.{AreKept, Handed, List, contains, handed_seen, key_eq, map, take, true, ◌≡◌}
 use Rattle.serf_judge.proofs.again.repeats.Given as goal
 
-abbrev pub invariant-loop-line : goal.invariant-loop-line
-invariant-loop-line l = AreRepeats (take l.line-index l.lines) l.found.items (contains key_eq l.noted)
+-- those of the lines so far that come again are kept
+abbrev pub invariant-loop-entry : goal.invariant-loop-entry
+invariant-loop-entry g l = (lines : List Handed) × (map handed_seen lines ≡ map g.E.HandedOut.seen (take l.entry-index l.entries))
+    × AreKept true key_eq (λ h. h.key) lines l.found.items (contains key_eq l.noted)

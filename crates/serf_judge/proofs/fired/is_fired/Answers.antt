@@ -1,13 +1,18 @@
-use Rattle.std.proofs.Common.{◌∙◌, sym}
-use Rattle.serf_judge.proofs.FiredLaws.{none-says, noted-says}
+use Rattle.serf_judge.proofs.Names.{EventContent, ap, content_of, counts, is_same_content, list_any, log_at, one_counts, says, ℕ, ◌&&◌, ◌∙◌}
 use Rattle.serf_judge.proofs.fired.is_fired.Goals as goal
 
 pub returns-in-Some : goal.returns-in-Some
 returns-in-Some c = λ fired h.
-    let key = c.content_key-key.result in
-    rw (c.is_before.ensures, c.log_of.ensures) (noted-says c.args.starts.now fired c.args.event.now key c.in-Some.noted.now c.content_key-key.ensures (sym (h key) ∙ sym c.in-Some.ensures.value))
+    let starts = c.args.starts.now in
+    let event = c.args.event.now in
+    let at : ℕ × ℕ = (event.line, log_at starts event.line) in
+    c.is_before.ensures ∙ ap (λ log. counts c.in-Some.noted.now (event.line, log)) c.log_of.ensures ∙ ap (λ o. says counts o at) c.in-Some.ensures.value ∙ h c.content_key-key.result at
+    ∙ ap (λ (x : EventContent). list_any (λ f. is_same_content x (content_of f) && one_counts starts f at) fired) c.content_key-key.ensures
 
 pub returns-in-None : goal.returns-in-None
 returns-in-None c = λ fired h.
-    let key = c.content_key-key.result in
-    none-says c.args.starts.now fired c.args.event.now key c.content_key-key.ensures (sym (h key) ∙ sym c.in-None.ensures.value)
+    let starts = c.args.starts.now in
+    let event = c.args.event.now in
+    let at : ℕ × ℕ = (event.line, log_at starts event.line) in
+    ap (λ o. says counts o at) c.in-None.ensures.value ∙ h c.content_key-key.result at
+    ∙ ap (λ (x : EventContent). list_any (λ f. is_same_content x (content_of f) && one_counts starts f at) fired) c.content_key-key.ensures

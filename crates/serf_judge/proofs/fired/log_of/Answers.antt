@@ -1,4 +1,4 @@
-use Rattle.std.proofs.Common.{◌∙◌, length, sym, ap, unwrap_or}
+use Rattle.serf_judge.proofs.Names.{ap, length, sym, unwrap_or, ◌∙◌}
 use Rattle.serf_judge.proofs.fired.log_of.Goals as goal
 
 pub returns-in-Some : goal.returns-in-Some

@@ -1,14 +1,13 @@
-use Rattle.std.proofs.Common.{◌∙◌, sym}
-use Rattle.serf_judge.specs.Fired.{own_firings}
-use Rattle.serf_judge.proofs.FiredLaws.{first-noted, more-noted}
+use Rattle.serf_judge.proofs.Names.{arith, common_steps, max, min, refl, ◌≡◌}
+use Rattle.serf_judge.proofs.FiredLaws.{counts-more}
 use Rattle.serf_judge.proofs.fired.noted_with.Goals as goal
 
 pub returns-in-Some : goal.returns-in-Some
-returns-in-Some c = λ fired h.
-    let key = c.args.key.now in
-    rw c.with_firing.ensures (more-noted c.args.starts.now (own_firings key fired) c.args.entry.now c.in-Some.noted.now (sym (h key) ∙ sym c.in-Some.ensures.value))
+returns-in-Some c = λ at.
+    let noted = c.in-Some.noted.now in
+    let first : c.min.result ≡ min noted.first_line c.args.line = grind (arith, common_steps, c.min.ensures) in
+    let last : c.max.result ≡ max noted.last_log c.args.log = grind (arith, common_steps, c.max.ensures) in
+    rw (first, last, ← c.in-Some.ensures.value) (counts-more noted.first_line c.args.log c.args.line noted.last_log at)
 
 pub returns-in-None : goal.returns-in-None
-returns-in-None c = λ fired h.
-    let key = c.args.key.now in
-    rw c.firing_of.ensures (first-noted c.args.starts.now (own_firings key fired) c.args.entry.now (sym (h key) ∙ sym c.in-None.ensures.value))
+returns-in-None c = λ at. rw (← c.in-None.ensures.value) refl

@@ -1,9 +1,5 @@
-use Rattle.std.proofs.Common.{◌≡◌, ◌∙◌, Some, false, true, ap, sym, arith}
-use Rattle.std.specs.Prelude.{slice_get}
-use Rattle.std.proofs.lemmas.Grind.{common_steps}
-use Rattle.std.proofs.lemmas.Option.{slice_get-get_or, slice_get_within}
-use Rattle.serf_judge.specs.Fired.{was_fired}
-use Rattle.serf_judge.proofs.FiredLaws.{below-or-here}
+use Rattle.serf_judge.proofs.Names.{Some, ap, arith, common_steps, false, slice_get, slice_get-get_or, slice_get_within, sym, true, was_fired, ◌∙◌, ◌≡◌}
+use Rattle.serf_judge.proofs.PlaceLaws.{below-or-here}
 use Rattle.serf_judge.proofs.fired.unfired_by.Goals as goal
 
 pub returns-then-not-is_fired : goal.returns-then-not-is_fired

@@ -1,7 +1,4 @@
-use Rattle.std.proofs.Common.{◌≡◌, ℕ, ◌<◌, Some, List, true}
-use Rattle.std.specs.Prelude.{slice_get}
-use Rattle.serf_judge.specs.declared.entry.EventEntry.{EventEntry}
-use Rattle.serf_judge.specs.Fired.{AreNoted, was_fired}
+use Rattle.serf_judge.proofs.Names.{AreNoted, EventEntry, List, Some, slice_get, true, was_fired, ℕ, ◌<◌, ◌≡◌}
 use Rattle.serf_judge.proofs.fired.unfired_by.Given as goal
 
 abbrev pub invariant-loop-place : goal.invariant-loop-place

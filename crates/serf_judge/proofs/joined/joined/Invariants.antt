@@ -1,4 +1,4 @@
-use Rattle.std.proofs.Common.{◌≡◌, ◌++◌, map}
+use Rattle.serf_judge.proofs.Names.{map, ◌++◌, ◌≡◌}
 use Rattle.std.specs.Vec.Iter.{into_iter_items}
 use Rattle.serf_judge.specs.Joined.{moved_on}
 use Rattle.serf_judge.proofs.joined.joined.Given as goal

@@ -1,9 +1,5 @@
-use Rattle.std.proofs.Common.{◌≡◌, ◌∙◌, ◌∷◌, ◌==◌, ◌&&◌, true, length, ap, sym, cond, arith}
-use Rattle.std.specs.Prelude.{nat_lt}
-use Rattle.std.proofs.lemmas.Bool.{lt-ltb}
+use Rattle.serf_judge.proofs.Names.{ap, arith, cond, counted_from, is_leave, length, lines_of, lt-ltb, nat_lt, sym, true, ◌&&◌, ◌==◌, ◌∙◌, ◌∷◌, ◌≡◌}
 use Rattle.std.proofs.lemmas.List.Splits.{length-slice_split}
-use Rattle.serf_text.specs.Lines.{lines_of}
-use Rattle.serf_judge.specs.Kept.{counted_from, is_leave}
 use Rattle.serf_judge.proofs.kept.behind_leave.Goals as goal
 
 pub lines-preserved-then-is_leave_line : goal.lines-preserved-then-is_leave_line

@@ -1,6 +1,4 @@
-use Rattle.std.proofs.Common.{◌≡◌, length}
-use Rattle.serf_text.specs.Lines.{lines_of}
-use Rattle.serf_judge.specs.Kept.{counted_from, counted_lines}
+use Rattle.serf_judge.proofs.Names.{counted_from, counted_lines, length, lines_of, ◌≡◌}
 use Rattle.serf_judge.proofs.kept.behind_leave.Given as goal
 
 -- what counts so far, and what is left, come to what counts of all

@@ -1,7 +1,4 @@
-use Rattle.std.proofs.Common.{◌≡◌, length}
-use Rattle.std.specs.List.{list_any}
-use Rattle.serf_text.specs.Lines.{lines_of}
-use Rattle.serf_judge.specs.Kept.{is_line_wanted}
+use Rattle.serf_judge.proofs.Names.{is_line_wanted, length, lines_of, list_any, ◌≡◌}
 use Rattle.serf_judge.proofs.kept.has_line.Given as goal
 
 -- what is left has such a line just where all has one

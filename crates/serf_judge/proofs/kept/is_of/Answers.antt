@@ -1,6 +1,4 @@
-use Rattle.std.proofs.Common.{◌∙◌, ℕ, ap}
-use Rattle.std.specs.Str.{bytes_eq}
-use Rattle.serf_judge.specs.Identity.{Identity}
+use Rattle.serf_judge.proofs.Names.{Identity, ap, bytes_eq, ℕ, ◌∙◌}
 use Rattle.serf_judge.proofs.kept.is_of.Goals as goal
 
 pub returns : goal.returns

@@ -1,5 +1,4 @@
-use Rattle.std.proofs.Common.{◌≡◌, ◌++◌, length, map}
-use Rattle.serf_text.specs.Words.{words_of}
+use Rattle.serf_judge.proofs.Names.{length, map, words_of, ◌++◌, ◌≡◌}
 use Rattle.serf_judge.proofs.log.words_in.Given as goal
 
 -- the words so far, and then those of the rest

@@ -1,10 +1,5 @@
-use Rattle.std.proofs.Common.{◌∙◌, length, get_or, map, not, take, sym, ap}
-use Rattle.std.specs.Prelude.{filter}
-use Rattle.std.proofs.lemmas.List.{length-map}
-use Rattle.serf_judge.specs.Fired.{key_content}
-use Rattle.serf_judge.specs.Missed.{missing_view, was_handed}
-use Rattle.serf_judge.specs.Nodes.{texts_of}
-use Rattle.serf_judge.proofs.MissedLaws.{no_content, rows-all, rows-more}
+use Rattle.serf_judge.proofs.Names.{Bor, List, None, ap, get_or, key_content, lacks, length, length-map, map, missing_view, not, sym, texts_of, ℕ, ◌∙◌}
+use Rattle.serf_judge.proofs.MissedLaws.{no_content, rows-all, rows-more, some-missing}
 use Rattle.serf_judge.proofs.missed.missed_events.Goals as goal
 
 pub returns-clause-events : goal.returns-clause-events
@@ -17,7 +12,12 @@ returns-clause-missed c =
 
 pub loop-event-preserved : goal.loop-event-preserved
 loop-event-preserved c =
-    let named = ap texts_of c.as_slice-receivers.ensures.value ∙ c.in_ok-nodes.ensures in
-    let missing = c.in_ok-missing.ensures c.args.entries.now c.in_ok-handed.ensures in
-    rows-more c.args.most c.args.entries.now c.as_slice-all.result.now c.loop-event.event-index (map missing_view c.loop-event.missed.items) (map missing_view c.put_missed.new.missed.items) (texts_of c.in_ok-missing.missing.items)
-    c.loop-event-test.true c.loop-event.invariant c.in_ok-put_missed.ensures (missing ∙ ap (λ ns. take c.args.most (filter (λ n. not (was_handed c.args.entries.now (key_content (get_or c.as_slice-all.result.now c.loop-event.event-index no_content)) n)) ns)) named)
+    let most = c.args.most in
+    let entries = c.args.entries.now in
+    let events = c.as_slice-all.result.now in
+    let event = get_or events c.loop-event.event-index no_content in
+    let missing = c.in_ok-missing.missing.items in
+    let agree = λ (t : Bor (List ℕ)). ap not (c.in_ok-handed.ensures (record { node = t; time = event.time; id = None; name = event.name; payload = event.payload })) in
+    rows-more most entries events c.loop-event.event-index (map missing_view c.loop-event.missed.items) (map missing_view c.put_missed.new.missed.items) (texts_of missing)
+    c.loop-event-test.true c.loop-event.invariant c.in_ok-put_missed.ensures
+    (some-missing most entries (key_content event) (lacks c.in_ok-handed.handed event) c.as_slice-receivers.result.now missing agree c.in_ok-missing.ensures (ap texts_of c.as_slice-receivers.ensures.value ∙ c.in_ok-nodes.ensures))

@@ -1,6 +1,4 @@
-use Rattle.std.proofs.Common.{◌≡◌, map, take}
-use Rattle.std.specs.Prelude.{filter}
-use Rattle.serf_judge.specs.Missed.{has_nodes, missing_view}
+use Rattle.serf_judge.proofs.Names.{filter, has_nodes, map, missing_view, take, ◌≡◌}
 use Rattle.serf_judge.proofs.MissedLaws.{row_of}
 use Rattle.serf_judge.proofs.missed.missed_events.Given as goal
 

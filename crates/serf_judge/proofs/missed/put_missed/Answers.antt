@@ -1,9 +1,4 @@
-use Rattle.std.proofs.Common.{◌≡◌, ◌∙◌, ◌<◌, ℕ, Bor, List, length, map, sym, ap, arith}
-use Rattle.std.proofs.lemmas.Grind.{common_steps}
-use Rattle.std.proofs.lemmas.List.{length-map, map_push}
-use Rattle.serf_judge.specs.Fired.{key_content}
-use Rattle.serf_judge.specs.Missed.{missing_view}
-use Rattle.serf_judge.specs.Nodes.{texts_of}
+use Rattle.serf_judge.proofs.Names.{Bor, List, ap, arith, common_steps, key_content, length, length-map, map, map_push, missing_view, sym, texts_of, ℕ, ◌<◌, ◌∙◌, ◌≡◌}
 use Rattle.serf_judge.proofs.MissedLaws.{put-none, put-some}
 use Rattle.serf_judge.proofs.missed.put_missed.Goals as goal
 

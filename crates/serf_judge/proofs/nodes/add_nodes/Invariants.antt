@@ -1,5 +1,4 @@
-use Rattle.std.proofs.Common.{◌≡◌, ◌++◌, take}
-use Rattle.serf_judge.specs.Nodes.{nodes_in, texts_of}
+use Rattle.serf_judge.proofs.Names.{nodes_in, take, texts_of, ◌++◌, ◌≡◌}
 use Rattle.serf_judge.proofs.nodes.add_nodes.Given as goal
 
 abbrev pub invariant-loop-entry : goal.invariant-loop-entry

@@ -1,9 +1,4 @@
-use Rattle.std.proofs.Common.{◌≡◌, ◌∙◌, ◌++◌, ℕ, List, ap, subst}
-use Rattle.std.specs.Prelude.{IfOk}
-use Rattle.std.specs.Str.{bytes_eq}
-use Rattle.serf_judge.specs.Again.{firsts_of}
-use Rattle.serf_judge.specs.Identity.{event_seen, query_seen}
-use Rattle.serf_judge.specs.Nodes.{nodes_in, texts_of}
+use Rattle.serf_judge.proofs.Names.{IfOk, List, ap, bytes_eq, event_seen, firsts_of, nodes_in, query_seen, subst, texts_of, ℕ, ◌++◌, ◌∙◌, ◌≡◌}
 use Rattle.serf_judge.proofs.nodes.log_nodes.Goals as goal
 
 pub returns : goal.returns

@@ -1,8 +1,4 @@
-use Rattle.std.proofs.Common.{◌≡◌, ◌∙◌, ◌++◌, ℕ, List, ap, subst}
-use Rattle.std.specs.Prelude.{IfOk}
-use Rattle.std.specs.Str.{bytes_eq}
-use Rattle.serf_judge.specs.Again.{firsts_of}
-use Rattle.serf_judge.specs.Nodes.{nodes_in, texts_of}
+use Rattle.serf_judge.proofs.Names.{IfOk, List, ap, bytes_eq, firsts_of, nodes_in, subst, texts_of, ℕ, ◌++◌, ◌∙◌, ◌≡◌}
 use Rattle.serf_judge.proofs.nodes.receivers.Goals as goal
 
 pub returns : goal.returns

@@ -1,6 +1,4 @@
-use Rattle.std.proofs.Common.{map}
-use Rattle.std.proofs.lemmas.Result.{IfOk-weaker}
-use Rattle.serf_judge.specs.Identity.{event_identity}
+use Rattle.serf_judge.proofs.Names.{IfOk-weaker, event_identity, map}
 use Rattle.serf_judge.proofs.OnceLaws.{none-once}
 use Rattle.serf_judge.proofs.once.first_event_twice.Goals as goal
 

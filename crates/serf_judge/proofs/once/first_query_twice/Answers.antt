@@ -1,6 +1,4 @@
-use Rattle.std.proofs.Common.{map}
-use Rattle.std.proofs.lemmas.Result.{IfOk-weaker}
-use Rattle.serf_judge.specs.Identity.{query_identity}
+use Rattle.serf_judge.proofs.Names.{IfOk-weaker, map, query_identity}
 use Rattle.serf_judge.proofs.OnceLaws.{none-once}
 use Rattle.serf_judge.proofs.once.first_query_twice.Goals as goal
 

@@ -1,10 +1,4 @@
-use Rattle.std.proofs.Common.{◌≡◌, ◌∙◌, ℕ, List, map, take_all, sym, subst, ap}
-use Rattle.std.specs.Prelude.{IfOk}
-use Rattle.std.specs.Str.{bytes_eq}
-use Rattle.serf_judge.specs.declared.key.Handed.{Handed}
-use Rattle.serf_judge.specs.Again.{firsts_of}
-use Rattle.serf_judge.specs.Nodes.{texts_of}
-use Rattle.serf_judge.specs.Identity.{Identity, handed_seen}
+use Rattle.serf_judge.proofs.Names.{Handed, Identity, IfOk, List, ap, bytes_eq, firsts_of, handed_seen, map, subst, sym, take_all, texts_of, ℕ, ◌∙◌, ◌≡◌}
 use Rattle.serf_judge.proofs.TallyLaws.{map-map}
 use Rattle.serf_judge.proofs.tally.nodes_in_order.Goals as goal
 

@@ -1,5 +1,4 @@
-use Rattle.std.proofs.Common.{◌≡◌, map, take}
-use Rattle.serf_judge.specs.Nodes.{texts_of}
+use Rattle.serf_judge.proofs.Names.{map, take, texts_of, ◌≡◌}
 use Rattle.serf_judge.proofs.tally.nodes_in_order.Given as goal
 
 abbrev pub invariant-loop-line : goal.invariant-loop-line

@@ -1,7 +1,4 @@
-use Rattle.std.proofs.Common.{ℕ, List, map, take, take_all, sym, subst, ap}
-use Rattle.std.proofs.lemmas.List.{map_more}
-use Rattle.serf_judge.specs.Identity.{Identity, handed_seen}
-use Rattle.serf_judge.specs.Tallied.{AreTallied}
+use Rattle.serf_judge.proofs.Names.{AreTallied, Identity, List, ap, handed_seen, map, map_more, subst, sym, take, take_all, ℕ}
 use Rattle.serf_judge.proofs.TallyLaws.{no_line}
 use Rattle.serf_judge.proofs.tally.table_of.Goals as goal
 

@@ -1,6 +1,4 @@
-use Rattle.std.proofs.Common.{map, take}
-use Rattle.serf_judge.specs.Identity.{handed_seen}
-use Rattle.serf_judge.specs.Tallied.{AreTallied}
+use Rattle.serf_judge.proofs.Names.{AreTallied, handed_seen, map, take}
 use Rattle.serf_judge.proofs.tally.table_of.Given as goal
 
 abbrev pub invariant-loop-line : goal.invariant-loop-line

@@ -1,6 +1,4 @@
-use Rattle.std.proofs.Common.{map}
-use Rattle.serf_judge.specs.Identity.{handed_seen}
-use Rattle.serf_judge.specs.Tallies.{told_of}
+use Rattle.serf_judge.proofs.Names.{handed_seen, map, told_of}
 use Rattle.serf_judge.proofs.TallyLaws.{told-all}
 use Rattle.serf_judge.proofs.tally.tallies.Goals as goal
 

@@ -1,6 +1,4 @@
-use Rattle.std.proofs.Common.{◌≡◌, map, take}
-use Rattle.serf_judge.specs.Identity.{handed_seen}
-use Rattle.serf_judge.specs.Tallies.{lines_to, tally_of, told_of}
+use Rattle.serf_judge.proofs.Names.{handed_seen, lines_to, map, take, tally_of, told_of, ◌≡◌}
 use Rattle.serf_judge.proofs.tally.tallies.Given as goal
 
 abbrev pub invariant-loop-node : goal.invariant-loop-node

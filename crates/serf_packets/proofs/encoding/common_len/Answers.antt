@@ -1,7 +1,7 @@
 use Rattle.std.proofs.Common.{◌≡◌, ◌≤◌, ◌∙◌, ◌+◌, ℕ, List, [], ap, arith, length, drop}
 use Rattle.std.proofs.lemmas.Grind.{common_steps}
 use Rattle.serf_packets.specs.Encoded.{common}
-use Rattle.serf_packets.proofs.TextLaws.{common_nothing}
+use Rattle.serf_packets.proofs.ListLaws.{common_nothing}
 use Rattle.serf_packets.proofs.encoding.common_len.Goals as goal
 
 pub returns-else-len-other-clause-count : goal.returns-else-len-other-clause-count

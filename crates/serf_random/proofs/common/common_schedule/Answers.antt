@@ -5,6 +5,7 @@ use Rattle.serf_random.specs.Draft.{IsShort}
 use Rattle.serf_schedule.specs.ScheduleText.{action_text, agent_text}
 use Rattle.serf_random.specs.Comment.{comment_text}
 use Rattle.serf_random.proofs.CommentBack.{behind-comment, comment-short}
+use Rattle.serf_random.proofs.DraftLemmas.{all_text}
 use Rattle.serf_random.proofs.common.common_schedule.Goals as goal
 
 pub returns-clause-reads_back : goal.returns-clause-reads_back
@@ -13,7 +14,7 @@ returns-clause-reads_back g c =
     let kept = c.in_ok-kept.ensures.kept in
     let text : c.add_common.new.text.items ≡ comment_text true c.args.ask.now ++ (flat_map agent_text c.in_ok-agents.agents ++ flat_map action_text c.in_ok-kept.kept.items) =
     kept.text_is
-    ∙ ap (λ t. t ++ flat_map action_text c.in_ok-kept.kept.items) (c.in_ok-agents.ensures.text ∙ ap (λ t. t ++ flat_map agent_text c.in_ok-agents.agents) first)
+    ∙ ap (λ t. t ++ flat_map action_text c.in_ok-kept.kept.items) (all_text _ _ _ c.in_ok-agents.ensures ∙ ap (λ t. t ++ flat_map agent_text c.in_ok-agents.agents) first)
     ∙ append_assoc (comment_text true c.args.ask.now) (flat_map agent_text c.in_ok-agents.agents) (flat_map action_text c.in_ok-kept.kept.items) in
     ap schedule_of text
     ∙ behind-comment c.comments_skipped.ensures.skipped c.comments_skipped.ensures.numbers true c.args.ask.now _ _ c.know_numbers.ensures (c.know_read_back.ensures kept.sayable)

@@ -1,4 +1,4 @@
-use Rattle.serf_world.proofs.Names.{◌≡◌, ℕ, List, [], Ok, Option, Result, ap, refl, subst, ◌∙◌, fire_query, query_gives, Handed, IdealAgent, Call, Steps}
+use Rattle.serf_world.proofs.Names.{◌≡◌, ℕ, List, [], Option, Result, ap, refl, subst, ◌∙◌, fire_query, query_gives, Handed, IdealAgent, Call, Steps}
 use Rattle.serf_agent.specs.declared.outcome.FiredQuery.{FiredQuery}
 use Rattle.serf_agent.specs.declared.outcome.QueryFault.{QueryFault}
 use Rattle.serf_agent.specs.declared.outcome.QueryFault.TheVariants.{OutOfMemory}
@@ -6,7 +6,6 @@ use Rattle.serf_agent.specs.declared.outcome.QueryParams.{QueryParams}
 use Rattle.serf_model.specs.Cluster.{query_refusal}
 use Rattle.serf_model.specs.declared.line.Answer.TheVariants.{Queried}
 use Rattle.serf_world.specs.Turns.{Shows}
-use Rattle.serf_world.specs.View.{NodeState}
 use Rattle.serf_world.proofs.TurnLaws.{call-done, call-refused}
 use Rattle.serf_world.proofs.calls.query_at.Goals as goal
 
@@ -15,27 +14,17 @@ same-query : (i : IdealAgent) (now id : ℕ) (name payload n p : List ℕ) (para
 same-query i now id name payload n p params first second = ap (λ (x : List ℕ). fire_query i now id x p params) first ∙ ap (λ (x : List ℕ). fire_query i now id name x params) second
 
 pub returns-in-Err-clause-turn : goal.returns-in-Err-clause-turn
-returns-in-Err-clause-turn c = λ m representable is.
-    let was = c.node.view_is ∙ is in
-    let q = c.args.query.now in
-    let same = same-query m.agent q.moment q.id q.name q.payload c.as_slice.result.now c.as_slice-2.result.now q.params c.as_slice.ensures c.as_slice-2.ensures in
-    call-refused m (fire_query m.agent q.moment q.id q.name q.payload q.params) c.query-fired.result c.node.inside.agent.device c.query-fired.new.self query_gives query_refusal c.in-Err.fault OutOfMemory c.in_ok-query_refusal-in-Err.field-0
-    c.args.number c.args.sent.now.items c.node.inside.handed.items c.refused.result (λ e. refl) representable (ap (λ (s : NodeState). s.handed) was) c.in-Err.is
-    (λ differs. subst (λ (k : Call (Result FiredQuery QueryFault)). Steps m.agent k c.query-fired.result c.node.inside.agent.device c.query-fired.new.self) same
-    (c.query-fired.ensures.step m.agent representable.consistent.sound (ap (λ (s : NodeState). s.concrete) was) differs)) c.in_ok-query_refusal-in-Err.ensures c.refused.ensures
+returns-in-Err-clause-turn c =
+    call-refused (λ i. fire_query i c.args.query.now.moment c.args.query.now.id c.args.query.now.name c.args.query.now.payload c.args.query.now.params) query_gives query_refusal c.in-Err.fault OutOfMemory c.in_ok-query_refusal-in-Err.field-0 (record { concrete = c.node.inside.agent.concrete; handed = c.node.inside.handed.items }) c.args.node.now c.query-fired.result c.node.inside.agent.device c.query-fired.new.self
+    c.args.number c.args.sent.now.items c.refused.result (λ e. refl) c.node.view_is c.in-Err.is (λ i sound is differs. subst (λ (k : Call (Result FiredQuery QueryFault)). Steps i k c.query-fired.result c.node.inside.agent.device c.query-fired.new.self)
+    (same-query i c.args.query.now.moment c.args.query.now.id c.args.query.now.name c.args.query.now.payload c.as_slice.result.now c.as_slice-2.result.now c.args.query.now.params c.as_slice.ensures c.as_slice-2.ensures) (c.query-fired.ensures.step i sound is differs)) c.in_ok-query_refusal-in-Err.ensures c.refused.ensures
 
 pub returns-clause-turn : goal.returns-clause-turn
-returns-clause-turn c = λ m representable is.
-    let was = c.node.view_is ∙ is in
-    let q = c.args.query.now in
-    let same = same-query m.agent q.moment q.id q.name q.payload c.as_slice.result.now c.as_slice-2.result.now q.params c.as_slice.ensures c.as_slice-2.ensures in
+returns-clause-turn c =
     let before : List (List ℕ) = c.args.sent.now.items in
     let after : List (List ℕ) = c.line_with_query.new.sent.items in
     let new : List (Option Handed) = c.line_with_query.new.handed.items in
-    let packets = subst (λ (p : List (List ℕ)). Shows c.args.number before after c.node.inside.handed.items new (record { answer = Queried c.in-Ok.fired.time; packets = p; events = []; handed = c.in-Ok.fired.handed }) c.in_ok-line.line)
-    c.in_ok-packets.ensures c.in_ok-line.ensures.shows in
-    call-done m (fire_query m.agent q.moment q.id q.name q.payload q.params) c.query-fired.result c.node.inside.agent.device c.query-fired.new.self query_gives c.in-Ok.fired OutOfMemory
-    c.args.number before after new c.in_ok-line.line representable c.in-Ok.is
-    (λ differs. subst (λ (k : Call (Result FiredQuery QueryFault)). Steps m.agent k c.query-fired.result c.node.inside.agent.device c.query-fired.new.self) same
-    (c.query-fired.ensures.step m.agent representable.consistent.sound (ap (λ (s : NodeState). s.concrete) was) differs))
-    (subst (λ (old : List (Option Handed)). Shows c.args.number before after old new (query_gives (Ok c.in-Ok.fired)) c.in_ok-line.line) (ap (λ (s : NodeState). s.handed) was) packets)
+    call-done (λ i. fire_query i c.args.query.now.moment c.args.query.now.id c.args.query.now.name c.args.query.now.payload c.args.query.now.params) query_gives c.in-Ok.fired OutOfMemory (record { concrete = c.node.inside.agent.concrete; handed = c.node.inside.handed.items }) c.args.node.now c.query-fired.result c.node.inside.agent.device c.query-fired.new.self
+    c.args.number before after new c.in_ok-line.line c.node.view_is c.in-Ok.is (λ i sound is differs. subst (λ (k : Call (Result FiredQuery QueryFault)). Steps i k c.query-fired.result c.node.inside.agent.device c.query-fired.new.self)
+    (same-query i c.args.query.now.moment c.args.query.now.id c.args.query.now.name c.args.query.now.payload c.as_slice.result.now c.as_slice-2.result.now c.args.query.now.params c.as_slice.ensures c.as_slice-2.ensures) (c.query-fired.ensures.step i sound is differs))
+    (subst (λ (p : List (List ℕ)). Shows c.args.number before after c.node.inside.handed.items new (record { answer = Queried c.in-Ok.fired.time; packets = p; events = []; handed = c.in-Ok.fired.handed }) c.in_ok-line.line) c.in_ok-packets.ensures c.in_ok-line.ensures.shows)

@@ -4,5 +4,5 @@ use Rattle.serf_agent.specs.KeptTexts.{IsTold}
 use Rattle.serf_model.specs.HandOuts.{events_given}
 use Rattle.serf_world.proofs.told.look_at_given.Goals as goal
 
-pub returns-in-Some-clause-given : goal.returns-in-Some-clause-given
-returns-in-Some-clause-given c = subst (λ (o : Option (List ℕ)). All (λ e. IsTold e.key) (events_given o)) c.in-Some.ensures c.know_packet.ensures
+pub returns-in-Some : goal.returns-in-Some
+returns-in-Some c = subst (λ (o : Option (List ℕ)). All (λ e. IsTold e.key) (events_given o)) c.in-Some.ensures c.know_packet.ensures

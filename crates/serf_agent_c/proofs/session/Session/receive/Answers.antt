@@ -4,6 +4,6 @@ use Rattle.serf_agent_c.proofs.session.Session.receive.Goals as goal
 
 pub returns-clause-takes : goal.returns-clause-takes
 returns-clause-takes c = λ ready calm r e i sound same.
-    let is : c.receive_tagged-answer.result ≡ r = cc (e, c.give.ensures.gave) in
-    let wanted : c.receive_tagged-answer.result ≢ Err OutOfMemory = λ none. calm (c.received_code-code.ensures.memory none) in
-    rw (← is, c.give.ensures.rest.0, ← c.begin.ensures.agent) (c.receive_tagged-answer.ensures.step i sound (rw (c.begin.ensures.agent) same) wanted)
+    let is : c.receive-answer.result ≡ r = cc (e, c.give.ensures.gave) in
+    let wanted : c.receive-answer.result ≢ Err OutOfMemory = λ none. calm (c.received_code-code.ensures.memory none) in
+    rw (← is, c.give.ensures.rest.0, ← c.begin.ensures.agent) (c.receive-answer.ensures.step i sound (rw (c.begin.ensures.agent) same) wanted)

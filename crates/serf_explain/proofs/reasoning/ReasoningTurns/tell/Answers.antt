@@ -1,6 +1,5 @@
-use Rattle.std.proofs.Common.{◌≡◌, inr, List, [], ◌∷◌, ◌++◌, ℕ, Bool, Option, ap, ◌∙◌, subst, sym}
+use Rattle.std.proofs.Common.{◌≡◌, ◌+◌, inr, List, [], ◌∷◌, ◌++◌, ℕ, Bool, Option, ap, ◌∙◌, subst, sym}
 use Rattle.std.specs.List.{flat_map}
-use Rattle.std.proofs.lemmas.Result.{on_ok_weaker}
 use Rattle.serf_model.specs.declared.action.Action.{Action}
 use Rattle.serf_model.specs.declared.line.Line.{Line}
 use Rattle.serf_model.specs.Cluster.{Run, run_of}
@@ -12,8 +11,9 @@ use Rattle.serf_explain.specs.Explained.{AddsTurn, TellsAll, clusters_before}
 use Rattle.serf_explain.specs.HandOuts.{KnowsSeen, Note, notes_in}
 use Rattle.serf_explain.specs.Judging.{TellsText}
 use Rattle.serf_explain.specs.Range.{is_shown}
+use Rattle.serf_explain.specs.Reasoned.{lines_of}
 use Rattle.serf_explain.proofs.KnownLaws.{knows-seen}
-use Rattle.serf_explain.proofs.TellLaws.{next-number, run-push, told-after, told-next, turn-behind}
+use Rattle.serf_explain.proofs.TellLaws.{clusters-length, hold-next, next-number, on-ok-both, run-push, told-after, told-next, turn-behind}
 use Rattle.serf_explain.proofs.reasoning.ReasoningTurns.tell.Goals as goal
 
 pub returns : goal.returns
@@ -26,27 +26,33 @@ returns c = λ range configs done lines front found has takes counted.
     let old : List ℕ = c.args.out.now.items in
     let told : List ℕ = c.put_turn.new.out.items in
     let h = found.0.1 in
+    let hold = found.0.2 in
+    let before = clusters_before configs done in
+    let number_is = counted ∙ ap (λ n. n + 1) (sym (clusters-length configs done)) in
     let count = next-number configs done number counted in
     let raised : Option ℕ = c.args.self.now.lines.raised in
-    let tells : TellsText number r.cluster action raised c.args.self.now.lines.text.items = subst (λ n. TellsText n r.cluster action raised c.args.self.now.lines.text.items) (sym counted) found.1 in
+    let tells : TellsText number (lines_of r) (before ++ r.cluster ∷ []) r.cluster action raised c.args.self.now.lines.text.items =
+    subst (λ n. TellsText n (lines_of r) (before ++ r.cluster ∷ []) r.cluster action raised c.args.self.now.lines.text.items) (sym counted) found.1 in
     let carried : List (List ℕ) = tells.carried in
     let lines_are : c.deref.result.now ≡ flat_map (because_line number) carried = c.deref.ensures.value ∙ tells.text_is in
-    let past : List Note = notes_in c.args.self.now.history.hand_outs.outs.items in
+    let history = c.args.self.now.history in
+    let past : List Note = notes_in history.hand_outs.outs.items in
     let noted : List Note = notes_in c.note.new.self.hand_outs.outs.items in
     let is_told : Bool = is_shown range number (actor_of action) in
     let shown = c.shows.ensures ∙ ap (λ o. is_shown c.args.self.now.range number o) c.actor.ensures ∙ ap (λ (asked : Range). is_shown asked number (actor_of action)) found.0.0 in
-    let adds : AddsTurn (TellsAll is_told raised carried past new action line) is_told new.sent number line old told =
-    subst (λ b. AddsTurn (TellsAll b raised carried past new action line) b new.sent number line old told) shown (c.in_ok-put_turn.ensures carried lines_are) in
-    let behind = turn-behind (TellsAll is_told raised carried past new action line) is_told new.sent number line front old told adds in
+    let adds : AddsTurn (TellsAll is_told raised carried history number new action line) is_told new.sent number line old told =
+    subst (λ b. AddsTurn (TellsAll b raised carried history number new action line) b new.sent number line old told) shown (c.in_ok-put_turn.ensures carried lines_are) in
+    let behind = turn-behind (TellsAll is_told raised carried history number new action line) is_told new.sent number line front old told adds in
     let known : KnowsSeen configs past new.sent action line =
     knows-seen configs r action new.sent line past
     (subst (λ (q : Run). SeenWasHandedOrTailed configs q.turns) (run-push configs done action) (c.run_promises.ensures.held configs (done ++ action ∷ []) has.settings (inr has.told)).1)
     (c.lines_stay.ensures.sent r.cluster action) takes.view.sent takes.line_is h.notes_are in
-    on_ok_weaker c.note.result
-    (λ is. (
+    on-ok-both c.note.result
+    (λ is holds. (
       found.0.0,
       told-next range configs done action noted (front ++ told)
-          (told-after configs range r (clusters_before configs done) action new line raised carried past noted (front ++ old) (front ++ told) number
-          (c.lines_stay.ensures.sent r.cluster action) (λ more. c.lines_stay.ensures.lines r.cluster action number more) h count tells.tells takes known behind is),
+          (told-after configs range r before action new line raised carried history noted (front ++ old) (front ++ told) number
+          (c.lines_stay.ensures.sent r.cluster action) (λ more. c.lines_stay.ensures.lines r.cluster action number more) h hold count tells.tells takes known behind is),
+      hold-next configs done action c.note.new.self.marks holds,
     ))
-    c.note.ensures
+    c.note.ensures.notes (c.note.ensures.marks before r.cluster hold takes.view number_is)

@@ -1,0 +1,142 @@
+//! What a host reads of a query's filters, before it says whether its tags pass.
+
+ghost use Rattle.std.specs.Prelude.{◌≡◌, ◌≢◌, ◌++◌, ◌∷◌, [], length, map, IfOk, OnOk};
+ghost use Rattle.std.specs.List.{flat_map};
+ghost use Rattle.std.specs.Option.{option_map};
+ghost use Rattle.serf_wire.specs.Decoded.{decoded};
+ghost use Rattle.serf_wire.specs.Lists.{texts_left};
+ghost use Rattle.serf_wire.specs.Message.{message_of};
+ghost use Rattle.serf_agent_c.specs.Codes.{number_of};
+ghost use Rattle.serf_agent_c.specs.Filters.{ReadsFilters, filter_bytes, filter_lens, filters_head, filters_in, filters_lent, filters_of};
+ghost use Rattle.serf_agent_c.specs.Texts.{copied};
+
+use crate::code::Code;
+use crate::copies::copy_into;
+use crate::told::put_texts;
+use serf_wire::{Message, Texts, decode};
+use std::alloc::{AllocError, Global};
+
+/// How many filters a query has, and how long they are together.
+#[repr(C)]
+#[derive(Clone, Copy)]
+pub struct FiltersHead {
+    pub filters: usize,
+    pub filters_len: usize,
+}
+
+/// The filters that a query has, lent from its packet.
+#[derive(Clone, Copy)]
+pub struct LentFilters<'a> {
+    filters: Texts<'a>,
+}
+
+/// The filters that a message has, if it is a query.
+fn filters_of<'a>(message: &Message<'a>) -> Option<LentFilters<'a>>
+    ensures { option_map filters_lent result ≡ filters_of (message_of message.now) }
+{
+    match message {
+        Message::Query(query) => Some(LentFilters {
+            filters: query.filters,
+        }),
+        _ => None,
+    }
+}
+
+/// The filters that a packet has, if it is a query.
+fn lent_filters(packet: &[u8]) -> Option<LentFilters<'_>>
+    ensures { option_map filters_lent result ≡ filters_in (decoded packet.now) }
+{
+    match decode(packet) {
+        Ok(message) => filters_of(&message),
+        Err(_) => None,
+    }
+}
+
+/// Appends the length of a filter, in bytes.
+fn put_len(out: &mut Vec<usize>, len: usize) -> Result<(), AllocError>
+    ensures { OnOk result (out.new.items ≡ out.old.items ++ len ∷ []) }
+{
+    out.push(len)?;
+    Ok(())
+}
+
+/// Appends the length of each filter, in bytes.
+fn put_lens(out: &mut Vec<usize>, filters: Texts) -> Result<(), AllocError>
+    ensures { OnOk result (out.new.items ≡ out.old.items
+        ++ map (λ filter. length filter) (texts_left filters.entry)) }
+{
+    for filter in filters {
+        put_len(out, filter.len())?;
+    }
+    Ok(())
+}
+
+/// How many bytes each filter has, in order.
+fn lens_of(alloc: Global, lent: &LentFilters) -> Result<Vec<usize>, AllocError>
+    ensures { IfOk result (λ lens. lens.items ≡ filter_lens (filters_lent lent.now)) }
+{
+    let mut lens = Vec::new(alloc);
+    put_lens(&mut lens, lent.filters)?;
+    Ok(lens)
+}
+
+/// The bytes of the filters, one after the other.
+fn bytes_of(alloc: Global, lent: &LentFilters) -> Result<Vec<u8>, AllocError>
+    ensures { IfOk result (λ bytes. bytes.items ≡ filter_bytes (filters_lent lent.now)) }
+{
+    let mut bytes = Vec::new(alloc);
+    put_texts(&mut bytes, lent.filters)?;
+    Ok(bytes)
+}
+
+/// The filters that a query's packet has.
+fn read_filters(
+    alloc: Global,
+    packet: &[u8],
+    all: &mut FiltersHead,
+    lens: &mut [usize],
+    filters: &mut [u8],
+) -> Code
+    ensures reads { ReadsFilters (filters_in (decoded packet.now))
+        (λ f. (all.new ≡ filters_head f) × (lens.new ≡ copied (filter_lens f) lens.old)
+        × (filters.new ≡ copied (filter_bytes f) filters.old)) result }
+    ensures same { result ≢ Code.Done
+        → (all.new ≡ all.old) × (lens.new ≡ lens.old) × (filters.new ≡ filters.old) }
+{
+    let Some(lent) = lent_filters(packet) else {
+        return Code::Nothing;
+    };
+    let Ok(told) = lens_of(alloc, &lent) else {
+        return Code::OutOfMemory;
+    };
+    let Ok(bytes) = bytes_of(alloc, &lent) else {
+        return Code::OutOfMemory;
+    };
+    *all = FiltersHead {
+        filters: told.len(),
+        filters_len: bytes.len(),
+    };
+    copy_into(lens, told.as_slice());
+    copy_into(filters, bytes.as_slice());
+    Code::Done
+}
+
+/// The filters that a query's packet has, in its order: how many they are, the length of as many of them as fit, and as
+/// much of their bytes, one after the other, as fits. Of another packet it says `NOTHING`.
+#[unsafe(no_mangle)]
+pub extern "C" fn serf_agent_query_filters(
+    alloc: Global,
+    packet: &[u8],
+    all: &mut FiltersHead,
+    lens: &mut [usize],
+    filters: &mut [u8],
+) -> u32
+    ensures { (code : Code) × (result ≡ number_of code)
+        × ReadsFilters (filters_in (decoded packet.now))
+        (λ f. (all.new ≡ filters_head f) × (lens.new ≡ copied (filter_lens f) lens.old)
+        × (filters.new ≡ copied (filter_bytes f) filters.old)) code
+        × (code ≢ Code.Done
+        → (all.new ≡ all.old) × (lens.new ≡ lens.old) × (filters.new ≡ filters.old)) }
+{
+    read_filters(alloc, packet, all, lens, filters).number()
+}

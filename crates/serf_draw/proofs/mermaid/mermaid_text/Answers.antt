@@ -1,0 +1,21 @@
+use Rattle.std.proofs.Common.{◌≡◌, ◌∙◌, ◌++◌, [], List, ℕ, ap, codes, rules}
+use Rattle.std.specs.List.{flat_map}
+use Rattle.serf_draw.specs.declared.picture.Lane.{Lane}
+use Rattle.serf_draw.specs.declared.picture.Row.{Row}
+use Rattle.serf_draw.specs.Mermaid.{mermaid_of, participant_line, row_line}
+use Rattle.serf_draw.proofs.FilledLemmas.{three_more}
+use Rattle.serf_draw.proofs.mermaid.mermaid_text.Goals as goal
+
+pub returns : goal.returns
+unfolding mermaid_of
+returns c =
+    let picture = c.args.picture.now in
+    let title : c.extend_from_slice.new.self.items ≡ codes "sequenceDiagram\n" = c.in_ok-extend_from_slice.ensures.items ∙ ap (λ t. t ++ codes "sequenceDiagram\n") c.new-out.ensures.items in
+    let lanes : c.put_each.new.out.items ≡ c.extend_from_slice.new.self.items ++ flat_map participant_line picture.lanes.items =
+    c.in_ok-put_each.ensures participant_line (search rules) ∙ ap (λ (ls : List Lane). c.extend_from_slice.new.self.items ++ flat_map participant_line ls) c.as_slice-lanes.ensures.value
+    in
+    let rows : c.put_each-2.new.out.items ≡ c.put_each.new.out.items ++ flat_map (row_line picture.lanes.items) picture.rows.items =
+    c.in_ok-put_each-2.ensures (row_line c.as_slice-lanes.result.now) (search rules)
+    ∙ (λ k. c.put_each.new.out.items ++ flat_map (row_line (c.as_slice-lanes.ensures.value k)) (c.as_slice-rows.ensures.value k))
+    in
+    rows ∙ ap (λ t. t ++ flat_map (row_line picture.lanes.items) picture.rows.items) (lanes ∙ ap (λ t. t ++ flat_map participant_line picture.lanes.items) title)

@@ -1,0 +1,20 @@
+use Rattle.std.proofs.Common.{◌≡◌, ◌∙◌, ◌++◌, List, ℕ, ap, rules}
+use Rattle.std.proofs.lemmas.Result.{on_ok_weaker}
+use Rattle.std.specs.List.{flat_map}
+use Rattle.serf_draw.specs.Svg.{arrow_text, cross_text, front_text, row_text}
+use Rattle.serf_draw.proofs.FilledLemmas.{three_more}
+use Rattle.serf_draw.proofs.svg.put_front.Goals as goal
+
+pub returns : goal.returns
+unfolding front_text
+returns c =
+    let lanes = c.args.lanes.now in
+    let out = c.args.out.now.items in
+    let arrows = flat_map (arrow_text lanes) c.args.rows.now in
+    let crosses = flat_map (cross_text lanes) c.args.lost.now in
+    let first : c.put_each.new.out.items ≡ out ++ arrows = c.in_ok-put_each.ensures (arrow_text lanes) (search rules) in
+    let second : c.put_each-2.new.out.items ≡ c.put_each.new.out.items ++ crosses = c.in_ok-put_each-2.ensures (cross_text lanes) (search rules) in
+    let rows = flat_map (row_text lanes) c.args.rows.now in
+    on_ok_weaker c.put_each-3.result
+    (λ is. is ∙ ap (λ t. t ++ rows) (second ∙ ap (λ t. t ++ crosses) first) ∙ three_more out arrows crosses rows)
+    (c.put_each-3.ensures (row_text lanes) (search rules))

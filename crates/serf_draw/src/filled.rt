@@ -1,0 +1,97 @@
+//! Texts that are put together: of items, one after another, and by what fills blanks.
+
+ghost use Rattle.std.specs.List.{flat_map};
+ghost use Rattle.std.specs.Prelude.{◌≡◌, ◌++◌, ◌∷◌, ℕ, IfOk, List, OnOk, drop};
+ghost use Rattle.serf_draw.specs.Filled.{filled, part_text};
+
+use crate::escape::put_escaped;
+use crate::label::put_short;
+use crate::mermaid::{put_coded, put_participant};
+use crate::picture::Lane;
+use crate::places::{put_label_place, put_place};
+use serf_text::put_number;
+use std::alloc::AllocError;
+
+/// What fills a blank.
+#[derive(Clone, Copy)]
+pub(crate) enum Part<'a> {
+    /// These bytes, as they stand.
+    Text(&'a [u8]),
+    Number(u64),
+    /// These bytes, or the beginning of many and how many they are.
+    Short(&'a [u8]),
+    /// These bytes, escaped for an SVG file.
+    Escaped(&'a [u8]),
+    /// These bytes, coded for Mermaid.
+    Coded(&'a [u8]),
+    /// The middle of an agent's lane among these, on the line below so many rows.
+    Place(&'a [Lane], Option<u64>, u64),
+    /// Where all labels begin beside these lanes.
+    LabelPlace(&'a [Lane]),
+    /// An agent's participant, or the one for all that have no lane among these.
+    Participant(&'a [Lane], Option<u64>),
+}
+
+/// Appends a part of a text.
+fn put_part(out: &mut Vec<u8>, part: Part) -> Result<(), AllocError>
+    ensures { OnOk result (out.new.items ≡ out.old.items ++ part_text part.entry) }
+{
+    match part {
+        Part::Text(text) => out.extend_from_slice(text),
+        Part::Number(number) => put_number(out, number),
+        Part::Short(text) => put_short(out, text),
+        Part::Escaped(text) => put_escaped(out, text),
+        Part::Coded(text) => put_coded(out, text),
+        Part::Place(lanes, agent, rows) => put_place(out, lanes, agent, rows),
+        Part::LabelPlace(lanes) => put_label_place(out, lanes),
+        Part::Participant(lanes, agent) => put_participant(out, lanes, agent),
+    }
+}
+
+/// Appends a byte, or the part of this number where the byte is a blank; and gives the number of the part that is next.
+fn put_next(out: &mut Vec<u8>, byte: u8, parts: &[Part], number: usize) -> Result<usize, AllocError>
+    ensures { IfOk result (λ next. (rest : List ℕ)
+        → out.new.items ++ filled rest (drop next parts.entry.now)
+        ≡ out.old.items ++ filled (byte ∷ rest) (drop number parts.entry.now)) }
+{
+    if byte != b'~' {
+        out.push(byte)?;
+        return Ok(number);
+    }
+    match parts.get(number) {
+        Some(part) => {
+            put_part(out, *part)?;
+            Ok(number + 1)
+        }
+        None => Ok(number),
+    }
+}
+
+/// Appends a text in which each `~` is a blank, and the parts fill them, one after another.
+pub(crate) fn put_filled(out: &mut Vec<u8>, text: &[u8], parts: &[Part]) -> Result<(), AllocError>
+    ensures { OnOk result (out.new.items ≡ out.old.items ++ filled text.now parts.entry.now) }
+{
+    let mut number: usize = 0;
+    for byte in text {
+        number = put_next(out, *byte, parts, number)?;
+    }
+    Ok(())
+}
+
+/// Appends what each of these items is written as.
+pub(crate) fn put_each<T, F: Fn(&mut Vec<u8>, &T) -> Result<(), AllocError>>(
+    out: &mut Vec<u8>,
+    items: &[T],
+    put: F,
+) -> Result<(), AllocError>
+    requires { F.IsAlwaysCallable put }
+    ensures { (text : T → List ℕ)
+        → ((o : _) (x : _) (r : _) (after : _) → F.post put o x r after
+        → OnOk r (after.now.items ≡ o.now.items ++ text x.now))
+        → OnOk result (out.new.items ≡ out.old.items ++ flat_map text items.now) }
+{
+    for item in items {
+        put(out, item)?;
+    }
+    Ok(())
+}

@@ -1,0 +1,22 @@
+use Rattle.std.proofs.Common.{◌++◌, ◌∷◌, [], OnOk, subst, sym}
+use Rattle.std.proofs.lemmas.Result.{on_ok_weaker}
+use Rattle.serf_model.specs.declared.action.Action.{Action}
+use Rattle.serf_model.specs.Cluster.{step}
+use Rattle.serf_world.specs.View.{IsViewed}
+use Rattle.serf_explain.specs.Leaving.{HoldMarks}
+use Rattle.serf_explain.proofs.MarkLaws.{held_acted, held_injected, held_nobody}
+use Rattle.serf_explain.proofs.marks.AllMarks.note.Goals as goal
+
+pub returns-in-Inject : goal.returns-in-Inject
+returns-in-Inject c = λ before d hold view count. rw c.in-Inject.is (held_injected _ c.args.number before d c.args.self.now hold count)
+
+pub returns-in-Some : goal.returns-in-Some
+returns-in-Some c = λ before d hold view count.
+    let seen = subst (λ (x : Action). IsViewed (step d x).cluster c.args.world.now) c.in-Of.is view in
+    subst (λ (x : Action). OnOk c.look.result (HoldMarks (before ++ d ∷ []) (step d x).cluster c.look.new.self)) (sym c.in-Of.is)
+    (on_ok_weaker c.look.result (λ look. held_acted c.in-Of.actor c.args.number c.in-Of.act before d c.args.world.now c.in-Some.agent.now.concrete c.args.self.now c.look.new.self hold seen (sym c.in-Some.ensures) count look) c.look.ensures)
+
+pub returns-in-None : goal.returns-in-None
+returns-in-None c = λ before d hold view count.
+    let seen = subst (λ (x : Action). IsViewed (step d x).cluster c.args.world.now) c.in-Of.is view in
+    subst (λ (x : Action). HoldMarks (before ++ d ∷ []) (step d x).cluster c.args.self.now) (sym c.in-Of.is) (held_nobody c.in-Of.actor c.args.number c.in-Of.act before d c.args.world.now c.args.self.now hold seen (sym c.in-None.ensures) count)

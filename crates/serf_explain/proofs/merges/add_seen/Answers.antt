@@ -1,0 +1,11 @@
+use Rattle.std.proofs.Common.{◌≡◌, ◌++◌, ℕ, Option, Some, OnOk, subst, sym}
+use Rattle.serf_window.specs.Texts.{event_of}
+use Rattle.serf_agent.specs.declared.outcome.Reason.TheVariants.{Seen}
+use Rattle.serf_explain.specs.Judging.{judged_line}
+use Rattle.serf_explain.proofs.merges.add_seen.Goals as goal
+
+pub returns-in-Some : goal.returns-in-Some
+returns-in-Some c =
+    let event = c.args.event.now in
+    subst (λ (o : Option ℕ). OnOk c.add_standing.result (c.add_standing.new.lines.text.items ≡ c.args.lines.now.text.items ++ judged_line c.args.merging.now c.args.judge.now o c.args.slot event.time (event_of event.name.now event.payload.now) (Some Seen)))
+    (sym c.in-Some.is) (c.add_standing.ensures c.args.judge.now)

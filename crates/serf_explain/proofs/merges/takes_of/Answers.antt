@@ -1,0 +1,11 @@
+use Rattle.std.proofs.Common.{ap}
+use Rattle.serf_agent.specs.declared.config.Config.{Config}
+use Rattle.serf_explain.proofs.merges.takes_of.Goals as goal
+
+pub returns : goal.returns
+returns c = λ q. record {
+  least = c.behind.ensures q;
+  clock = c.args.judge.now.clock;
+  slots = ap (λ (k : Config). k.event_buffer) c.config-config.ensures.config q;
+  per_time = ap (λ (k : Config). k.per_time) c.config-config.ensures.config q;
+}

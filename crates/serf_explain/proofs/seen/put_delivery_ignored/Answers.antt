@@ -1,0 +1,22 @@
+use Rattle.std.proofs.Common.{sym, ap, ◌∙◌}
+use Rattle.std.proofs.lemmas.Result.{on_ok_weaker}
+use Rattle.std.specs.Option.{option_map}
+use Rattle.serf_explain.specs.Noted.{delivered_as}
+use Rattle.serf_explain.proofs.LeftLaws.{adds_delivered, adds_other}
+use Rattle.serf_explain.proofs.seen.put_delivery_ignored.Goals as goal
+
+pub returns-in-Some : goal.returns-in-Some
+returns-in-Some c =
+    let told = c.args.told.now in
+    on_ok_weaker c.put_delivered.result
+    (λ h. adds_delivered c.args.reason told.past.now told.number told.world.now told.action.now c.in-Some.of c.args.out.now.items c.put_delivered.new.out.items
+    (ap (λ o. option_map delivered_as o) (sym c.in-Some.is) ∙ c.seen_event.ensures) h)
+    c.put_delivered.ensures
+
+pub returns-in-None : goal.returns-in-None
+returns-in-None c =
+    let told = c.args.told.now in
+    on_ok_weaker c.put_lone.result
+    (λ h. adds_other c.args.reason told.past.now told.number told.world.now told.action.now c.args.out.now.items c.put_lone.new.out.items
+    (ap (λ o. option_map delivered_as o) (sym c.in-None.is) ∙ c.seen_event.ensures) h)
+    c.put_lone.ensures

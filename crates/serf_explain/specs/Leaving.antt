@@ -1,0 +1,117 @@
+-- What is remembered of the agents, why one left what came to it, and what is said of queries, as the code has it: private to the crate.
+use Rattle.std.specs.Prelude.{◌≡◌, ℕ, ◌+◌, ◌==◌, Bool, if◌then◌else◌, nat_eq, false, List, [], ◌∷◌, ◌++◌, Option, Some, None, length, codes, true, decimal}
+use Rattle.indexmap.specs.IndexMap.{get}
+use Rattle.serf_agent.specs.View.{ConcreteState}
+use Rattle.serf_model.specs.Cluster.{Cluster}
+use Rattle.serf_agent.specs.Ideal.{IdealAgent}
+use Rattle.serf_explain.specs.declared.marks.AllMarks.{AllMarks}
+use Rattle.serf_explain.specs.declared.marks.Mark.{Mark}
+use Rattle.serf_explain.specs.declared.marks.Marks.{Marks}
+use Rattle.serf_explain.specs.declared.marks.Numbers.{Numbers}
+use Rattle.serf_wire.specs.declared.texts.EventBody.{EventBody}
+use Rattle.serf_window.specs.Window.{TimedEntry, held_count}
+use Rattle.serf_agent.specs.declared.outcome.Reason.{Reason}
+use Rattle.serf_agent.specs.declared.outcome.Reason.TheVariants.{BelowMinimum, TooOld, TimeFull, Oversize, OtherId, Closed, AckNotAsked, AckTwice}
+use Rattle.serf_model.specs.declared.action.Action.{Action}
+use Rattle.serf_world.specs.View.{WorldState, agent_at}
+use Rattle.serf_explain.specs.declared.left.Takes.{Takes}
+use Rattle.serf_explain.specs.Left.{IsSince, events_clock, events_least, number_in, numbers_in, queries_clock, queries_least, first_words, full_words, is_left, mark_words, oversize_words, texts_told, too_old_words}
+use Rattle.serf_explain.specs.Seen.{event_delivered}
+use Rattle.serf_explain.specs.Words.{event_words, quoted}
+
+-- a mark has a number that is this now, and was these before one action after another
+abbrev pub IsMark : List ℕ → ℕ → Mark → Type 0
+IsMark before now m = (m.value ≡ now) × IsSince before now m.since
+
+abbrev pub first_mark : Mark
+first_mark = record { value = 1; since = 0 }
+
+abbrev pub first_numbers : Numbers
+first_numbers = record { event_clock = first_mark; query_clock = first_mark; event_minimum = first_mark; query_minimum = first_mark }
+
+-- the mark behind an action, where its number is this then
+abbrev pub mark_behind : Mark → ℕ → ℕ → Mark
+mark_behind m value action = if m.value == value then m else record { value = value; since = action }
+
+-- and those of an agent that stores this then
+abbrev pub numbers_behind : Numbers → ConcreteState → ℕ → Numbers
+numbers_behind ns s action = record {
+  event_clock = mark_behind ns.event_clock s.events.clock action;
+  query_clock = mark_behind ns.query_clock s.queries.clock action;
+  event_minimum = mark_behind ns.event_minimum s.events.minimum action;
+  query_minimum = mark_behind ns.query_minimum s.queries.minimum action;
+}
+
+-- what is found of an agent, or what each begins with
+abbrev pub marks_or_first : Option Marks → Numbers
+marks_or_first None = first_numbers
+marks_or_first (Some m) = m.numbers
+
+abbrev pub numbers_of : AllMarks → ℕ → Numbers
+numbers_of marks a = marks_or_first (get nat_eq marks.agents a)
+
+-- an agent that stores this was looked at behind an action, and no other
+pub record IsLooked (old new : AllMarks) (actor : ℕ) (s : ConcreteState) (action : ℕ) : Type 0 where
+  pub own : numbers_of new actor ≡ numbers_behind (numbers_of old actor) s action
+  pub others : (a : ℕ) → nat_eq actor a ≡ false → numbers_of new a ≡ numbers_of old a
+
+-- a mark is that of a number of an agent, in a cluster and in those before one action after another
+abbrev pub IsMarkOf : (IdealAgent → ℕ) → ℕ → List Cluster → Cluster → Mark → Type 0
+IsMarkOf number a before c m = IsMark (numbers_in number a before) (number_in number a c) m
+
+pub record AreNumbers (a : ℕ) (before : List Cluster) (c : Cluster) (ns : Numbers) : Type 0 where
+  pub event_clock : IsMarkOf events_clock a before c ns.event_clock
+  pub query_clock : IsMarkOf queries_clock a before c ns.query_clock
+  pub event_minimum : IsMarkOf events_least a before c ns.event_minimum
+  pub query_minimum : IsMarkOf queries_least a before c ns.query_minimum
+
+-- the marks are those of all agents
+abbrev pub HoldMarks : List Cluster → Cluster → AllMarks → Type 0
+HoldMarks before c marks = (a : ℕ) → AreNumbers a before c (numbers_of marks a)
+
+-- ---- what is left
+
+-- what an agent takes behind the action of this number, by these numbers; before it the least time had this mark
+abbrev pub takes_by : Mark → ℕ → ℕ → ℕ → ℕ → ℕ → Takes
+takes_by old least clock slots per_time action = record { least = mark_behind old least action; clock = clock; slots = slots; per_time = per_time }
+
+abbrev pub takes_events : Mark → ConcreteState → ℕ → Takes
+takes_events old s action = takes_by old s.events.minimum s.events.clock s.config.event_buffer s.config.per_time action
+
+abbrev pub takes_queries : Mark → ConcreteState → ℕ → Takes
+takes_queries old s action = takes_by old s.queries.minimum s.queries.clock s.config.query_buffer s.config.per_time action
+
+-- what is said by that
+abbrev pub left_words : Takes → List ℕ → ℕ → ℕ → Reason → List ℕ
+left_words takes name time bytes BelowMinimum = mark_words takes.least.value takes.least.since
+left_words takes name time bytes TooOld = too_old_words time takes.slots name takes.clock
+left_words takes name time bytes TimeFull = full_words takes.per_time time
+left_words takes name time bytes Oversize = oversize_words bytes
+left_words takes name time bytes _ = []
+
+-- so of an event that was delivered
+abbrev pub ignored_words : Takes → ℕ → EventBody → Reason → List ℕ
+ignored_words takes time what r = event_words time what ++ codes ": " ++ first_words r ++ left_words takes (codes "event") time (texts_told what) r
+
+-- ---- queries, and what a restart found
+
+-- how a query came to an agent that has it: at this action, or else by a text, where it keeps its events
+abbrev pub way_words : Option ℕ → Bool → List ℕ
+way_words (Some action) keeps = codes " took it at action " ++ decimal action
+way_words None true = codes " was opened on a text with its line"
+way_words None false = codes " took it before"
+
+unfoldable pub took_words : List ℕ → Option ℕ → Bool → List ℕ
+took_words name entered keeps = quoted name ++ way_words entered keeps
+
+-- what is said of an open query where an answer to it is ignored, before a number or a name
+abbrev pub uncounted_words : Reason → List ℕ
+uncounted_words OtherId = codes " has ID "
+uncounted_words Closed = codes " took answers until "
+uncounted_words AckNotAsked = codes " asked for no acks"
+uncounted_words AckTwice = codes " has an ack of "
+uncounted_words _ = codes " has a response of "
+
+-- what the buffers of an agent have that stores this
+unfoldable pub buffers_words : ConcreteState → List ℕ
+buffers_words s = codes ", and its buffers go on, events held: " ++ decimal (held_count s.events.slots) ++ codes ", event clock " ++ decimal s.events.clock ++ codes ", query clock " ++ decimal s.queries.clock

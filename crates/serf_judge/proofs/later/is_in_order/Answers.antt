@@ -1,0 +1,7 @@
+use Rattle.serf_judge.proofs.Names.{nat_le, rules}
+use Rattle.std.proofs.lemmas.Fn.{always_returns_same}
+use Rattle.serf_judge.proofs.LaterLaws.{in-order}
+use Rattle.serf_judge.proofs.later.is_in_order.Goals as goal
+
+pub returns : goal.returns
+returns c = in-order c.args.entries.now c.is_sorted_by.result (c.is_sorted_by.ensures.cases (λ x y. nat_le x.line y.line) (always_returns_same _ _ _ (λ a r q k. search rules)))

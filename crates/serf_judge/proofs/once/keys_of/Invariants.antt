@@ -1,6 +1,0 @@
-use Rattle.std.proofs.Common.{◌≡◌, map, take}
-use Rattle.serf_judge.specs.Identity.{key_identity}
-use Rattle.serf_judge.proofs.once.keys_of.Given as goal
-
-abbrev pub invariant-loop-entry : goal.invariant-loop-entry
-invariant-loop-entry g l = map key_identity l.keys.items ≡ map (λ e. (g.E.HandedOut.seen e).1) (take l.entry-index l.entries)

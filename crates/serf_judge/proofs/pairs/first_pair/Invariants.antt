@@ -1,6 +1,0 @@
-use Rattle.std.specs.HashMap.{get}
-use Rattle.serf_judge.proofs.PairLaws.{Notes}
-use Rattle.serf_judge.proofs.pairs.first_pair.Given as goal
-
-abbrev pub invariant-loop-place : goal.invariant-loop-place
-invariant-loop-place g l = Notes g.K.PartialEq.eq l.keys l.place (λ q. get g.K.PartialEq.eq l.places q)

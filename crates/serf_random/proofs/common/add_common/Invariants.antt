@@ -1,0 +1,11 @@
+use Rattle.std.proofs.Common.{◌+◌, ◌≤◌, length}
+use Rattle.std.specs.Vec.Iter.{into_iter_items}
+use Rattle.serf_random.specs.Cut.{IsAlong}
+use Rattle.serf_random.proofs.common.add_common.Given as goal
+
+-- the world goes along with what is kept, and no more is kept than was done
+abbrev pub invariant-loop-action : goal.invariant-loop-action
+invariant-loop-action l = record {
+  along : IsAlong l.agents l.fn.text.items l.text.items l.kept.items l.world;
+  few : length l.kept.items + length (into_iter_items l.action-iterator) ≤ length l.fn.actions.items;
+}

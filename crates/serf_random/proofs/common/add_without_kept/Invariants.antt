@@ -1,0 +1,6 @@
+use Rattle.std.proofs.Common.{[]}
+use Rattle.serf_random.specs.Draft.{AddsAgents}
+use Rattle.serf_random.proofs.common.add_without_kept.Given as goal
+
+abbrev pub invariant-loop-config : goal.invariant-loop-config
+invariant-loop-config l = AddsAgents l.fn.text.items l.text.items [] l.roster

@@ -1,7 +1,0 @@
-use Rattle.std.proofs.Common.{◌+◌, ◌≤◌, length}
-use Rattle.std.specs.Vec.Iter.{into_iter_items}
-use Rattle.serf_random.proofs.rounds.round.Given as goal
-
--- no more are kept than were done
-abbrev pub invariant-loop-action : goal.invariant-loop-action
-invariant-loop-action l = length l.kept.items + length (into_iter_items l.action-iterator) ≤ length l.fn.actions.items

@@ -1,0 +1,134 @@
+//! The values of a packet, in the forms that MessagePack has for each.
+
+use serf_pack::{put_array, put_bool, put_int, put_map, put_nil, put_raw, put_uint};
+use serf_wire::Bytes;
+use std::alloc::AllocError;
+
+/// Numbers of 8, 16, 32 and 64 bits, without a sign and with one.
+const NUMBERS: [u8; 8] = [0xcc, 0xcd, 0xce, 0xcf, 0xd0, 0xd1, 0xd2, 0xd3];
+
+/// Numbers with a sign.
+const SIGNED: [u8; 4] = [0xd0, 0xd1, 0xd2, 0xd3];
+
+/// Texts, and bytes (the bin forms), with a length of 8, 16 or 32 bits.
+const TEXTS: [u8; 6] = [0xd9, 0xda, 0xdb, 0xc4, 0xc5, 0xc6];
+
+/// Arrays with a count of 16 or 32 bits.
+const ARRAYS: [u8; 2] = [0xdc, 0xdd];
+
+/// Maps with a count of 16 or 32 bits.
+const MAPS: [u8; 2] = [0xde, 0xdf];
+
+/// What has a length or a count of its own.
+pub(crate) const LENGTHS: [u8; 10] = [0xc4, 0xc5, 0xc6, 0xd9, 0xda, 0xdb, 0xdc, 0xdd, 0xde, 0xdf];
+
+/// What no message has: the byte that is never used, extensions and fractions.
+pub(crate) const UNSUPPORTED: [u8; 11] = [
+    0xc1, 0xc7, 0xc8, 0xc9, 0xca, 0xcb, 0xd4, 0xd5, 0xd6, 0xd7, 0xd8,
+];
+
+/// How many bytes stand after a head.
+pub(crate) fn width_of(head: u8) -> usize {
+    match head {
+        0xc4 | 0xcc | 0xd0 | 0xd9 => 1,
+        0xc5 | 0xcd | 0xd1 | 0xda | 0xdc | 0xde => 2,
+        0xc6 | 0xce | 0xd2 | 0xdb | 0xdd | 0xdf => 4,
+        _ => 8,
+    }
+}
+
+/// The greatest number that may stand after a head.
+pub(crate) fn most_of(head: u8) -> u64 {
+    match head {
+        0xd0 => 0x7f,
+        0xd1 => 0x7fff,
+        0xd2 => 0x7fff_ffff,
+        0xd3 => 0x7fff_ffff_ffff_ffff,
+        _ => match width_of(head) {
+            1 => 0xff,
+            2 => 0xffff,
+            4 => 0xffff_ffff,
+            _ => u64::MAX,
+        },
+    }
+}
+
+/// A value, or the head of one whose parts follow.
+#[derive(Clone, Copy)]
+pub(crate) enum Value<'a> {
+    Nil,
+    Truth(bool),
+    Number(u64),
+    Signed(i64),
+    Text(&'a [u8]),
+    Key(&'a [u8]),
+    /// An array of so many items.
+    Items(u64),
+    /// An array of these texts.
+    Texts(&'a [Bytes]),
+    /// A map of so many pairs.
+    Pairs(u64),
+}
+
+/// A field of a message: its key and its value.
+pub(crate) type Field<'a> = (&'static [u8], Value<'a>);
+
+impl Value<'_> {
+    /// Whether nil may stand for it.
+    pub(crate) fn may_be_nil(self) -> bool {
+        match self {
+            Value::Number(number) => number == 0,
+            Value::Signed(number) => number == 0,
+            Value::Truth(truth) => !truth,
+            Value::Text(text) => text.is_empty(),
+            _ => false,
+        }
+    }
+
+    /// The heads of its wide forms, what a head has to have room for, and the bits behind it; `None` where there are none.
+    pub(crate) fn wide_forms(self) -> Option<(&'static [u8], u64, u64)> {
+        let (heads, size): (&'static [u8], u64) = match self {
+            Value::Nil | Value::Truth(_) => return None,
+            Value::Number(number) => (&NUMBERS, number),
+            Value::Signed(number) => {
+                if number < 0 {
+                    let below = (-(number + 1)) as u64;
+                    return Some((&SIGNED, below, u64::MAX.saturating_sub(below)));
+                }
+                (&NUMBERS, number as u64)
+            }
+            Value::Text(text) | Value::Key(text) => (&TEXTS, text.len() as u64),
+            Value::Items(count) => (&ARRAYS, count),
+            Value::Texts(texts) => (&ARRAYS, texts.len() as u64),
+            Value::Pairs(count) => (&MAPS, count),
+        };
+        Some((heads, size, size))
+    }
+}
+
+/// A text that may live longer than the others of its message.
+pub(crate) fn text(text: &[u8]) -> Value<'_> {
+    Value::Text(text)
+}
+
+/// A text. One of 4 GiB and more, which is never made, is left out.
+fn put_text(out: &mut Vec<u8>, text: &[u8]) -> Result<(), AllocError> {
+    if text.len() as u64 > u64::from(u32::MAX) {
+        return Ok(());
+    }
+    put_raw(out, text)
+}
+
+/// A value in its canonical form. No count is above 255.
+pub(crate) fn put_canonical(out: &mut Vec<u8>, value: Value) -> Result<(), AllocError> {
+    match value {
+        Value::Nil => put_nil(out),
+        Value::Truth(truth) => put_bool(out, truth),
+        Value::Number(number) => put_uint(out, number),
+        Value::Signed(number) => put_int(out, number),
+        Value::Text(text) | Value::Key(text) => put_text(out, text),
+        Value::Items(count) => put_array(out, count.min(255) as u32),
+        Value::Texts(texts) => put_array(out, texts.len().min(255) as u32),
+        Value::Pairs(count) => put_map(out, count.min(255) as u32),
+    }
+}

@@ -1,0 +1,12 @@
+use Rattle.serf_schedule.proofs.Names.{◌≡◌, ◌+◌, ◌++◌, [], List, length, Action}
+use Rattle.std.specs.Vec.Iter.{into_iter_items}
+use Rattle.serf_world.specs.Acts.{Acts}
+use Rattle.serf_schedule.proofs.run.tell_schedule.Given as goal
+
+-- the actions so far were done and told, and those that are left come after them
+abbrev pub invariant-loop-action : goal.invariant-loop-action
+invariant-loop-action g l = ((asked : g.row.T-Asked.Denot) → g.T.Turns.told asked l.fn.teller l.fn.schedule.agents [] [] → (done : List Action)
+    × Acts (g.T.Turns.told asked) l.fn.schedule.agents done l.world l.teller l.text.items
+    × (l.number ≡ length done)
+    × (done ++ into_iter_items l.action-iterator ≡ l.fn.schedule.actions.items))
+    × (l.number + length (into_iter_items l.action-iterator) ≡ length l.fn.schedule.actions.items)
