@@ -42,12 +42,15 @@ OPENING = [
         '        if !files.is("lock") && !files.is("lock_another") {\n            lock(&file)?;\n        }\n',
     ),
     (
-        "/// Locks the file, unless another",
-        "/// A file beside the text, locked.\npub fn locked_beside<R: Files>(alloc: Global, files: &R, path: &str) -> "
+        "    locked(file.lock_now())\n}\n",
+        "    locked(file.lock_now())\n}\n\n/// A file beside the text, locked.\npub fn locked_beside<R: Files>(alloc: Global, files: &R, path: &str) -> "
         "Result<R::File, StoreFault>\nwhere\n    R::File: LockFile,\n{\n"
         "    let mut name = String::from_str(alloc, path)?;\n    name.push_str(\".lock\")?;\n"
         "    let file = open_text(files, &name)?;\n    lock(&file)?;\n    Ok(file)\n}\n\n"
-        "/// Locks the file, unless another",
+        "/// What has a name: a link itself, or its file where a link is opened.\n"
+        "fn look<R: Files>(files: &R, path: &str) -> io::Result<std::fs::Metadata> {\n"
+        '    if files.is("link_replaced") || files.is("link_made") {\n        files.metadata(path)\n    } else {\n'
+        "        files.symlink_metadata(path)\n    }\n}\n",
     ),
     (
         "    plain(files.symlink_metadata(path))\n",
@@ -60,13 +63,6 @@ OPENING = [
         "    match look(files, path) {\n"
         '        Ok(named) => Ok(files.is("stale")\n            || ((files.is("other_disk") || named.dev() == own.dev())\n'
         '                && (files.is("stale_device") || named.ino() == own.ino()))),',
-    ),
-    (
-        "/// Refuses what is there",
-        "/// What has a name: a link itself, or its file where a link is opened.\n"
-        "fn look<R: Files>(files: &R, path: &str) -> io::Result<std::fs::Metadata> {\n"
-        '    if files.is("link_replaced") || files.is("link_made") {\n        files.metadata(path)\n    } else {\n'
-        "        files.symlink_metadata(path)\n    }\n}\n\n/// Refuses what is there",
     ),
     (
         ".mode(0o600)",
