@@ -4,7 +4,8 @@ An edit's sum is of
 
 - its own texts, and the line of crates.txt of its crate;
 - the edited functions: their bodies, contracts and attributes;
-- their proof files, and the lemma files that these import, in turn;
+- their proof files, and the lemma files that these import, in turn, each without its imports, but with the place from which
+  each imported name that it uses comes, however many files of proofs pass it on;
 - each definition of specs/, type, trait, constant and contract that is reached from these by names, where each name is
   what the imports of its own file say, of the crate and of those below it, in turn. A type reaches its trait impls
   whole, and of its own methods those whose names stand in the edited function.
@@ -23,7 +24,8 @@ NAME = re.compile(r"[^\s(){}\[\],;:.&<>'\"=+*/|!?#`@^%~λ→≡≤∷∧∨¬×�
 WORD = re.compile(r"\w+")
 
 # An import of a file of definitions or proofs, in such a file and in code.
-USE = re.compile(r"^(?:pub )?(?:unfoldable )?use\s+([^\s{};]+?)(?:\.\{([^}]*)\})?(?:\s+as\s+(\S+))?$", re.M)
+USE = re.compile(r"^(?:pub |unfoldable )*use\s+([^\s{};]+?)(?:\.\{([^}]*)\})?(?:\s+as\s+(\S+))?$", re.M)
+MOD = re.compile(r"(?:pub )?mod \S+$")
 GHOST_USE = re.compile(r"ghost use\s+([^\s{};]+?)(?:\.\{([^}]*)\})?(?:\s+as\s+(\S+?))?;")
 MODULE = re.compile(r"Rattle\.(serf_\w+)\.(specs|proofs)\.?(.*)")
 
@@ -61,6 +63,16 @@ def plain_proof(text):
         at = 0 if line.startswith("-- ") or line == "--" else line.find(" -- ")
         out.append(line[:at].rstrip() if at >= 0 else line.rstrip())
     return "\n".join(line for line in out if line)
+
+
+def one_line_uses(text):
+    """A file of definitions or proofs whose imports stand on a line each."""
+    return re.sub(r"\n\s+(?=[^\n]*\})", " ", text)
+
+
+def without_uses(text):
+    """The lines of a file of proofs that are no imports, and name no other file."""
+    return "\n".join(line for line in one_line_uses(text).split("\n") if not USE.match(line) and not MOD.match(line))
 
 
 def without_bodies(text):
@@ -190,6 +202,8 @@ class Reach:
         self.code, self.methods = {}, {}
         # of each file what it imports, what it imports whole or as an operator, its own definitions, and its crate
         self.files = {}
+        # of each file of proofs where each name that it imports comes from, or each module that it imports whole
+        self.origins = {}
         # of each file of code what its imports of code stand for, and the attributes of the whole file
         self.rust = {}
         self.memo = {}
@@ -221,11 +235,31 @@ class Reach:
                     always.add(target)
         return found, always
 
+    @staticmethod
+    def origins_of(uses):
+        """Each name that imports give a file, with the module that it is from, and its name there."""
+        for use in USE.finditer(uses):
+            if use[2] is None:
+                yield use[3] or use[1].split(".")[-1], (use[1], None)
+                continue
+            for word in filter(None, (word.strip() for word in use[2].split(","))):
+                name, _, local = word.partition(" as ")
+                yield (local or name).strip(), (use[1], name.strip())
+
+    def origin(self, module, name, depth=0):
+        """Where an imported name comes from, however many files of proofs pass it on."""
+        passing = re.match(r"Rattle\.(serf_\w+)\.proofs\.(.+)$", module)
+        own = self.origins.get(f"{passing[1]}/proofs/{passing[2].replace('.', '/')}.antt", {}) if passing else {}
+        return self.origin(*own[name], depth + 1) if name in own and depth < 6 else f"{module} {name}"
+
     def read_proof(self, crate, file):
         text = self.sources.texts[file]
-        imports, always = self.imports_of(re.sub(r"\n\s+(?=[^\n]*\})", " ", plain_proof(text)), USE)
+        uses = one_line_uses(plain_proof(text))
+        imports, always = self.imports_of(uses, USE)
         own = {}
         _, part, module = file[: -len(".antt")].split("/", 2)
+        if part == "proofs":
+            self.origins[file] = dict(self.origins_of(uses))
         if part == "specs":
             for number, (names, item) in enumerate(definitions_of(text)):
                 key = ("definition", crate, module.replace("/", "."), number)
@@ -319,9 +353,12 @@ class Reach:
     def named(self, crate, part, module, name, depth=0):
         """What a name of a module stands for: definitions, or names of code."""
         if part == "proofs":
-            # a function's own modules, or a lemma file (which is followed as a file)
-            is_file = f"{crate}/proofs/{module.replace('.', '/')}.antt" in self.sources.texts
-            return [] if is_file else [("name", (crate, word)) for word in module.split(".")[-2:]]
+            # a function's own modules, or a lemma file (which is followed as a file), or what such a file passes on
+            file = f"{crate}/proofs/{module.replace('.', '/')}.antt"
+            if file not in self.sources.texts:
+                return [("name", (crate, word)) for word in module.split(".")[-2:]]
+            passed = self.files[file][0].get(name) if file in self.files and depth < 6 else None
+            return self.named(*passed, depth + 1) if passed else []
         if module.startswith(("declared.", "contracts.")):
             words = [word for word in module.split(".")[1:] if not word.startswith("The")]
             return [("name", (crate, word)) for word in [*words[-1:], *([name] if name else [])]]
@@ -381,16 +418,27 @@ class Reach:
                 if name in names:
                     said.append(plain_code(text))
                     todo.update(self.reached_by(file, f"{plain_code(text)} {news}"))
-                    words.update(WORD.findall(text + news))
+                    words.update(WORD.findall(f"{plain_code(text)} {news}"))
         if edit.is_definition:
             for file, _, new in edit.pairs:
                 todo.update(self.reached_by(f"{crate}/{file}", new))
                 todo.update(key for keys in self.files[f"{crate}/{file}"][2].values() for key in keys)
         for file in sources.proof_files(crate, edit):
-            text = plain_proof(sources.texts[file])
-            said.append(f"{file}\n{text}")
-            todo.update(self.once(("file", file), lambda file=file, text=text: self.reached_by(file, text)))
+            text, reached = self.once(("file", file), lambda file=file: self.said_by_proof(file))
+            said += [text] if text else []
+            todo.update(reached)
         return said, todo, words
+
+    def said_by_proof(self, file):
+        """What a file of proofs says: its lines, and where the names in them come from; and what they reach. A file that only
+        passes names on says nothing."""
+        text = without_uses(plain_proof(self.sources.texts[file]))
+        if not text:
+            return "", set()
+        names = set(NAME.findall(text)) | set(WORD.findall(text))
+        used = {name: origin for name, origin in self.origins[file].items() if name in names or any(part in text for part in name.split("◌") if part and "◌" in name)}
+        places = [f"{name} {self.origin(*used[name])}" for name in sorted(used)]
+        return "\n".join([file, *places, text]), self.reached_by(file, text)
 
     def sum_of(self, crate, edit):
         """The sum of all that the check of an edit of a crate reads."""

@@ -20,6 +20,8 @@ import evidence
 import mutants
 import reach
 
+PROOF = "crates/serf_high/proofs/double/Answers.antt"
+
 FILES = {
     "crates.txt": "serf_low:\nserf_high: serf_low\n",
     "crates/serf_low/src/lib.rt": """//! Low.
@@ -65,9 +67,8 @@ pub fn half(a: u8) -> u8
     "crates/serf_high/specs/Twice.antt": (
         "use Rattle.serf_low.specs.Sum.{total}\n\nabbrev pub twice : ℕ → ℕ\ntwice a = total a a\n"
     ),
-    "crates/serf_high/proofs/double/Answers.antt": (
-        "use Rattle.serf_high.proofs.Lemmas.{doubled}\n\nanswers = doubled\n"
-    ),
+    PROOF: "use Rattle.std.proofs.Common.{arith}\nuse Rattle.serf_high.proofs.Lemmas.{doubled}\n\nanswers = (doubled, arith)\n",
+    "crates/serf_high/proofs/Names.antt": "pub use Rattle.std.proofs.Common.{arith}\n",
     "crates/serf_high/proofs/Lemmas.antt": "pub doubled : ℕ\ndoubled = 2\n",
     "crates/serf_high/proofs/Others.antt": "pub halved : ℕ\nhalved = 1\n",
     "crates/serf_high/mutants/lib.edits": """file: src/lib.rt
@@ -112,6 +113,11 @@ CHANGES = [
     ("a lemma that its proof imports", "crates/serf_high/proofs/Lemmas.antt", "doubled = 2", "doubled = 3", True),
     ("a lemma that it doesn't import", "crates/serf_high/proofs/Others.antt", "halved = 1", "halved = 2", False),
     ("its definition", "crates/serf_high/specs/Twice.antt", "twice a = total a a", "twice a = total a (a + 0)", True),
+    ("a lemma that is imported and not used", PROOF, ".{doubled}", ".{doubled, trebled}", False),
+    ("another lemma of that name", PROOF, "serf_high.proofs.Lemmas", "serf_low.proofs.Lemmas", True),
+    ("a lemma of std that another file passes on", PROOF, "Rattle.std.proofs.Common", "Rattle.serf_high.proofs.Names", False),
+    ("a lemma of another place in std", "crates/serf_high/proofs/Names.antt", "Rattle.std.proofs.Common", "Rattle.std.proofs.Other", False),
+    ("a lemma of std from another place", PROOF, "Rattle.std.proofs.Common", "Rattle.std.proofs.Other", True),
     ("what its crate uses", "crates.txt", "serf_high: serf_low", "serf_high: serf_low hex", True),
 ]
 

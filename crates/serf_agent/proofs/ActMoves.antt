@@ -1,34 +1,11 @@
 -- What becomes of an agent by an act, by what is noted of it: so a property of agents that each note keeps is kept by each act.
-use Rattle.serf_agent.proofs.Names.{◌≡◌, ◌≢◌, ◌⊎◌, ℕ, inl, inr, All, ◌-◌, ◌^◌, ◌<◌, ◌≤◌, ◌&&◌, nat_le, nat_lt, cond, Bool, true, false, List, [], ◌∷◌, Option, Some, None, Result, Ok, Err, map, refl, sym, subst, arith, and_parts, leb-false, ltb-false, WireFault, EventBody, TimedEntry, decoded, Message, PushPull, Query, QueryResponse, user_event, query, query_response, push_pull, foreign, InRange, event_of, same_texts, Writing, Kept, Failed, noted, written}
-use Rattle.serf_wire.specs.Laws.{DecodesInRange}
+use Rattle.serf_agent.proofs.Names.{Bool, Err, List, None, Ok, Option, Result, Some, [], arith, cond, false, inl, inr, map, nat_le, nat_lt, refl, subst, sym, true, ℕ, ◌&&◌, ◌-◌, ◌<◌, ◌^◌, ◌∷◌, ◌≡◌, ◌≢◌, ◌≤◌, ◌⊎◌, and_parts, leb-false, ltb-false, All, decoded, DecodesInRange, Message, PushPull, Query, QueryResponse, foreign, push_pull, query, query_response, user_event, InRange, WireFault, EventBody, least_line, Failed, Kept, MayReplaceBy, Writing, noted, text_replaced, written, event_of, same_texts, TimedEntry, AsksSink, MayEnd, answers, ended, admission, drawn, event_entered, event_observed, fire_fault, fired_as, is_too_large, received_as, texts_len, told_event, Handed, IdealAgent, Track, with_asked, with_snapshot, IsMessageTold, IsTellable, IsIdTold, IsTold, Act, Asks, Closes, Compacts, Fires, Gets, Hears, MayAct, Opens, Saves, Takes, after, asked_entries, events_out, fired_entries, got_entries, queries_out, query_entries, all_pass, answer_ignore_reason, asked_at, close_due, counts_where, handed_if_passed, handed_query, is_ack, is_full, is_no_timeout, is_too_large_query, query_admission, query_asked, query_at, query_entered, query_fault, query_fired_as, query_observed, query_received_as, response_received_as, response_received_at, told_query, with_asked_at, receive_message, receive_read, IsSound, compact, handed_by, heard_by, joined, told_lines, MayNote, noted_with, text_with, asked_query, got_query, queries_entered, track_reason, view_of, OpenQuery, FireFault, QueryFault, QueryParams, Reason, BelowMinimum, ReceiveFault}
 use Rattle.serf_snap.specs.declared.kind.ClockKind.TheVariants as kinds
-use Rattle.serf_snap.specs.EventLines.{least_line}
-use Rattle.serf_snap.specs.Notes.{MayReplaceBy, text_replaced}
-use Rattle.serf_agent.specs.declared.open_query.OpenQuery.{OpenQuery}
-use Rattle.serf_agent.specs.declared.outcome.FireFault.{FireFault}
 use Rattle.serf_agent.specs.declared.outcome.FireFault.TheVariants as fires
-use Rattle.serf_agent.specs.declared.outcome.QueryFault.{QueryFault}
 use Rattle.serf_agent.specs.declared.outcome.QueryFault.TheVariants as asks_faults
-use Rattle.serf_agent.specs.declared.outcome.QueryParams.{QueryParams}
-use Rattle.serf_agent.specs.declared.outcome.Reason.{Reason}
-use Rattle.serf_agent.specs.declared.outcome.Reason.TheVariants.{BelowMinimum}
-use Rattle.serf_agent.specs.declared.outcome.ReceiveFault.{ReceiveFault}
 use Rattle.serf_agent.specs.declared.outcome.ReceiveFault.TheVariants as receives
-use Rattle.serf_agent.specs.Calls.{AsksSink, MayEnd, answers, ended}
-use Rattle.serf_agent.specs.Events.{admission, drawn, event_entered, event_observed, fire_fault, fired_as, is_too_large, received_as, texts_len, told_event}
-use Rattle.serf_agent.specs.Ideal.{IdealAgent, Track, with_asked, with_snapshot}
-use Rattle.serf_agent.specs.Handed.{Handed}
-use Rattle.serf_agent.specs.KeptLives.{IsMessageTold, IsTellable}
-use Rattle.serf_agent.specs.KeptTexts.{IsIdTold, IsTold}
-use Rattle.serf_agent.specs.Lives.{Act, Fires, Asks, Gets, Hears, Takes, Saves, Compacts, Closes, Opens, MayAct, after, asked_entries, event_entry, events_out, fired_entries, got_entries, queries_out, query_entries}
-use Rattle.serf_agent.specs.Queries.{all_pass, answer_ignore_reason, asked_at, close_due, counted, counts_where, handed_if_passed, handed_query, is_ack, is_full, is_no_timeout, is_too_large_query, query_admission, query_asked, query_at, query_entered, query_fault, query_fired_as, query_observed, query_received_as, response_received_as, response_received_at, told_query, with_asked_at}
-use Rattle.serf_agent.specs.Receive.{receive_message, receive_read}
-use Rattle.serf_agent.specs.Sound.{IsSound}
-use Rattle.serf_agent.specs.States.{compact, handed_by, heard_by, joined, told_lines}
-use Rattle.serf_agent.specs.Told.{MayNote, noted_with, text_with}
-use Rattle.serf_agent.specs.View.{view_of}
-use Rattle.serf_agent.specs.Tracks.{track_reason}
-use Rattle.serf_agent.specs.TrackOf.{asked_query, got_query, queries_entered}
+use Rattle.serf_agent.specs.Lives.{event_entry}
+use Rattle.serf_agent.specs.Queries.{counted}
 use Rattle.serf_agent.proofs.LineLaws.{compacts_so, saves_so}
 use Rattle.serf_agent.proofs.SoundLaws.{admission-new, query_admission-new, sound-closed, sound-counted, sound-event_observed, sound-query_observed}
 use Rattle.serf_agent.proofs.StepLaws.{small-short}

@@ -1,7 +1,5 @@
 -- What sound settings are.
-use Rattle.serf_agent.proofs.Names.{◌≡◌, ◌<◌, ◌≤◌, ◌&&◌, nat_le, Bool, true, length, arith, and_parts, leb-true}
-use Rattle.serf_agent.specs.declared.config.Config.{Config}
-use Rattle.serf_agent.specs.Config.{is_sound, is_between}
+use Rattle.serf_agent.proofs.Names.{Bool, arith, length, nat_le, true, ◌&&◌, ◌<◌, ◌≡◌, ◌≤◌, and_parts, leb-true, is_between, is_sound, Config}
 
 -- the bounds of the name and of the buffers
 abbrev buffers_of : Config → Bool

@@ -1,8 +1,5 @@
 -- The least deadline of open queries.
-use Rattle.serf_agent.proofs.Names.{◌≡◌, ℕ, ◌<◌, ◌≤◌, ◌↔◌, inl, inr, List, [], ◌∷◌, ◌++◌, length, map, filter, Option, Some, None, IsSomeAnd, refl, ap, arith, ◌∙◌, cases_lt, le-ltb, lt-ltb}
-use Rattle.serf_agent.specs.declared.open_query.OpenQuery.{OpenQuery}
-use Rattle.serf_agent.specs.LentQueries.{least, lesser}
-use Rattle.serf_agent.specs.Queries.{is_due}
+use Rattle.serf_agent.proofs.Names.{IsSomeAnd, List, None, Option, Some, [], ap, arith, filter, inl, inr, length, map, refl, ℕ, ◌++◌, ◌<◌, ◌↔◌, ◌∙◌, ◌∷◌, ◌≡◌, ◌≤◌, cases_lt, le-ltb, lt-ltb, least, lesser, is_due, OpenQuery}
 
 lesser-two : (n m : ℕ) (o : Option ℕ) → lesser n (lesser m o) ≡ lesser m (lesser n o)
 lesser-two n m None = ap (λ (k : ℕ). Some k) (omega arith)

@@ -1,30 +1,6 @@
 -- What each change of an agent leaves durable, in a life with the setting that keeps events or without it.
-use Rattle.serf_agent.proofs.Names.{◌≡◌, ℕ, ◌+◌, ◌-◌, ◌^◌, ◌<◌, ◌≤◌, ◌⊎◌, inl, inr, max, nat_le, cond, Bool, true, false, List, [], ◌++◌, Option, Some, None, refl, sym, subst, ◌∙◌, arith, option_map, All, All-push, All-weaker, true≢false, EventBody, TimedEntry, ClockKind, last_clock, last_line, Device, SnapshotView, Writing, Kept, Failed, KeepsEither, opened, written, same_id, same_texts}
-use Rattle.std.proofs.lemmas.List.Elements.{All-map}
-use Rattle.serf_wire.specs.Bytes.{AreBytes}
-use Rattle.serf_window.specs.Recall.{RecallLaws}
-use Rattle.serf_snap.specs.declared.kept.Wanted.{Wanted}
+use Rattle.serf_agent.proofs.Names.{Bool, List, None, Option, Some, [], arith, cond, false, inl, inr, max, nat_le, refl, subst, sym, true, ℕ, ◌++◌, ◌+◌, ◌-◌, ◌<◌, ◌^◌, ◌∙◌, ◌≡◌, ◌≤◌, ◌⊎◌, true≢false, All-map, All-push, All-weaker, option_map, All, AreBytes, EventBody, last_clock, sealed, Device, Observable, events_in, least_in, queries_in, query_line, AreTimes, Failed, KeepsEither, Kept, MayReplaceBy, SnapshotView, Writing, compaction_of, last_line, opened, text_replaced, with_line, written, Wanted, ClockKind, same_id, RecallLaws, same_texts, TimedEntry, event_entered, texts_len, told_event, IdealAgent, Past, with_snapshot, KeepingLaws, opened_clock, taken_back, KeptRestartLaws, AreTold, CompactionLaws, kept_lines, IsDurable, IsLeast, HasKept, IsKeptSound, events_reached, queries_reached, KeptNoteLaws, AreKept, IsIdShort, IsIdTold, IsShort, IsTold, KeptEventLaws, KeptQueryLaws, event_entry, kept_events, kept_queries, line_of_event, query_entry, within_reach, query_entered, told_query, restarted, restarted_by, IsSound, told_lines, MayNote, noted_with, text_with, HasSaid, IsSaid, IsSaidSound, UnkeptLaws, view_of}
 use Rattle.serf_snap.specs.declared.kind.ClockKind.TheVariants as kinds
-use Rattle.serf_snap.specs.Clocks.{sealed}
-use Rattle.serf_snap.specs.Device.{Observable}
-use Rattle.serf_snap.specs.EventLines.{events_in, least_in, queries_in, query_line}
-use Rattle.serf_snap.specs.Notes.{AreTimes, MayReplaceBy, compaction_of, text_replaced, with_line}
-use Rattle.serf_agent.specs.Events.{event_entered, texts_len, told_event}
-use Rattle.serf_agent.specs.Ideal.{IdealAgent, Past, with_snapshot}
-use Rattle.serf_agent.specs.Keeping.{KeepingLaws, opened_clock, taken_back}
-use Rattle.serf_agent.specs.KeptLaws.{KeptRestartLaws}
-use Rattle.serf_agent.specs.KeptLines.{AreTold, CompactionLaws, kept_lines}
-use Rattle.serf_agent.specs.KeptLives.{IsDurable, IsLeast}
-use Rattle.serf_agent.specs.KeptRestart.{HasKept, IsKeptSound, events_reached, queries_reached}
-use Rattle.serf_agent.specs.KeptSteps.{KeptNoteLaws}
-use Rattle.serf_agent.specs.KeptTexts.{AreKept, IsIdShort, IsIdTold, IsShort, IsTold, KeptEventLaws, KeptQueryLaws, event_entry, kept_events, kept_queries, line_of_event, query_entry, within_reach}
-use Rattle.serf_agent.specs.Queries.{query_entered, told_query}
-use Rattle.serf_agent.specs.Restart.{restarted, restarted_by}
-use Rattle.serf_agent.specs.Sound.{IsSound}
-use Rattle.serf_agent.specs.States.{told_lines}
-use Rattle.serf_agent.specs.Told.{MayNote, noted_with, text_with}
-use Rattle.serf_agent.specs.Unkept.{HasSaid, IsSaid, IsSaidSound, UnkeptLaws}
-use Rattle.serf_agent.specs.View.{view_of}
 use Rattle.serf_agent.proofs.ConfigLaws.{buffers-sound}
 use Rattle.serf_agent.proofs.KeptRestartLaws.{among}
 use Rattle.serf_agent.proofs.KeptStepLaws.{GrowsTo, failed-grows, some-same}

@@ -1,24 +1,7 @@
 -- What an agent that keeps its events over a restart doesn't miss: what stays true of its events, and of its queries, at each line,
 -- for one time.
-use Rattle.serf_agent.proofs.Names.{◌≡◌, ◌≢◌, ℕ, ◌-◌, ◌^◌, ◌<◌, ◌≤◌, ◌==◌, inl, max, nat_le, cond, Bool, true, false, List, [], ◌∷◌, ◌++◌, Option, Some, None, take, drop, refl, sym, subst, ap, ◌∙◌, append-nil, append_assoc, arith, All, All-head, All-push, All-tail, All-weaker, take-append-drop, EventBody, TimedEntry, ClockKind, clock_line, last_line, Writing, Kept, Failed, KeepsPart, noted, written, slots_of}
-use Rattle.std.proofs.lemmas.List.Elements.{Contains-append_right}
-use Rattle.serf_window.specs.Laws.{SlotLaws}
+use Rattle.serf_agent.proofs.Names.{Bool, List, None, Option, Some, [], ap, append-nil, append_assoc, arith, cond, drop, false, inl, max, nat_le, refl, subst, sym, take, true, ℕ, ◌++◌, ◌-◌, ◌<◌, ◌==◌, ◌^◌, ◌∙◌, ◌∷◌, ◌≡◌, ◌≢◌, ◌≤◌, take-append-drop, All-head, All-push, All-tail, All-weaker, Contains-append_right, All, EventBody, clock_line, is_whole, line_above_zero, sealed, event_line, kept_clock_line, least_in, least_line, query_line, SaysNoClock, kept_bytes, kept_compaction_of, kept_line_above_zero, Failed, IsSnapshotSound, KeepsPart, Kept, MayReplaceBy, SnapshotView, Writing, last_line, noted, text_replaced, written, ClockKind, SlotLaws, TimedEntry, slots_of, IdealAgent, Past, Track, IsMet, AreTold, held_from, kept_lines, least_told, lines_told, IsDurable, IsIdTold, IsTold, line_of_event, IsOpenAt, TakesAt, allowed, MayNote, bytes_with, noted_with, TrackOf, of_life, track_entered, view_of, Config}
 use Rattle.serf_snap.specs.declared.kind.ClockKind.TheVariants as kinds
-use Rattle.serf_snap.specs.Clocks.{is_whole, line_above_zero, sealed}
-use Rattle.serf_snap.specs.EventLines.{event_line, kept_clock_line, least_in, least_line, query_line}
-use Rattle.serf_snap.specs.Notes.{IsSnapshotSound, MayReplaceBy, SnapshotView, text_replaced}
-use Rattle.serf_snap.specs.KeptNotes.{SaysNoClock, kept_bytes, kept_compaction_of, kept_line_above_zero}
-use Rattle.serf_agent.specs.declared.config.Config.{Config}
-use Rattle.serf_agent.specs.Ideal.{IdealAgent, Past, Track}
-use Rattle.serf_agent.specs.Kept.{IsMet}
-use Rattle.serf_agent.specs.KeptLines.{AreTold, held_from, kept_lines, least_told, lines_told}
-use Rattle.serf_agent.specs.KeptLives.{IsDurable}
-use Rattle.serf_agent.specs.KeptTexts.{IsIdTold, IsTold, line_of_event}
-use Rattle.serf_agent.specs.Taking.{IsOpenAt, TakesAt, allowed}
-use Rattle.serf_agent.specs.Told.{MayNote, bytes_with, noted_with}
-use Rattle.serf_agent.specs.TrackOf.{TrackOf}
-use Rattle.serf_agent.specs.Tracks.{of_life, track_entered}
-use Rattle.serf_agent.specs.View.{view_of}
 use Rattle.serf_agent.proofs.DurableLaws.{replaced-holds}
 use Rattle.serf_agent.proofs.KeptCompactionLaws.{only-entered}
 use Rattle.serf_agent.proofs.KeptLifeLaws.{BelowKeptLives}

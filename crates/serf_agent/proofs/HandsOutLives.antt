@@ -1,30 +1,6 @@
 -- What an agent that keeps its events over a restart doesn't miss: each act, and all lives.
-use Rattle.serf_agent.proofs.Names.{◌≡◌, ℕ, ◌+◌, ◌-◌, ◌^◌, ◌<◌, ◌≤◌, ◌⊎◌, ◌&&◌, inl, inr, max, cond, Bool, true, false, List, [], ◌∷◌, ◌++◌, Option, Some, None, refl, sym, subst, ap, ◌∙◌, arith, All, All-head, All-tail, All-weaker, cases_lt, EventBody, TimedEntry, PushPull, same_id, same_texts, last_clock, last_line, Device, ClockKind, SnapshotView, Writing, Kept, Failed, noted, opened, written}
-use Rattle.std.specs.Prelude.{Contains}
-use Rattle.std.proofs.lemmas.List.Elements.{All-contains_itself, Contains-append_right}
-use Rattle.serf_snap.specs.declared.kept.Wanted.{Wanted}
+use Rattle.serf_agent.proofs.Names.{Bool, List, None, Option, Some, [], ap, arith, cond, false, inl, inr, max, refl, subst, sym, true, ℕ, ◌&&◌, ◌++◌, ◌+◌, ◌-◌, ◌<◌, ◌^◌, ◌∙◌, ◌∷◌, ◌≡◌, ◌≤◌, ◌⊎◌, cases_lt, All-contains_itself, All-head, All-tail, All-weaker, Contains-append_right, All, Contains, PushPull, EventBody, last_clock, sealed, Device, least_in, least_line, query_line, kept_bytes, kept_compaction_of, Failed, Kept, MayReplaceBy, SnapshotView, Writing, last_line, noted, opened, text_replaced, written, Wanted, ClockKind, same_id, same_texts, TimedEntry, event_entered, told_event, IdealAgent, Past, Track, with_config, with_snapshot, KeepingLaws, taken_back, track_kept, HasMet, IsFull, IsMet, KeepsSettings, TellNoneAbove, TellsNoneAbove, entered_in, stood_after, stood_in, kept_lines, least_told, IsDurable, IsTellable, MayGoOn, MayGoOnLives, line_of_event, whatever, within_reach, Act, Asks, Closes, Compacts, Fires, Gets, HasFlushed, Hears, Lived, MayAct, Opens, Saves, Takes, acted, after, lived, query_asked, query_entered, told_query, restarted, restarted_by, IsSound, joined, IsOpenAt, TakesAt, MayNote, bytes_with, noted_with, text_with, TrackOf, event_track, query_track, view_of, Config}
 use Rattle.serf_snap.specs.declared.kind.ClockKind.TheVariants as kinds
-use Rattle.serf_snap.specs.Clocks.{sealed}
-use Rattle.serf_snap.specs.EventLines.{least_in, least_line, query_line}
-use Rattle.serf_snap.specs.KeptNotes.{kept_bytes, kept_compaction_of}
-use Rattle.serf_snap.specs.Notes.{MayReplaceBy, text_replaced}
-use Rattle.serf_agent.specs.declared.config.Config.{Config}
-use Rattle.serf_agent.specs.Events.{event_entered, told_event}
-use Rattle.serf_agent.specs.Ideal.{IdealAgent, Past, Track, with_config, with_snapshot}
-use Rattle.serf_agent.specs.Keeping.{KeepingLaws, taken_back, track_kept}
-use Rattle.serf_agent.specs.Kept.{HasMet, IsFull, IsMet, KeepsSettings, TellNoneAbove, TellsNoneAbove, entered_in, stood_after, stood_in}
-use Rattle.serf_agent.specs.KeptLines.{kept_lines, least_told}
-use Rattle.serf_agent.specs.KeptLives.{IsDurable, IsTellable, MayGoOn, MayGoOnLives}
-use Rattle.serf_agent.specs.KeptTexts.{line_of_event, whatever, within_reach}
-use Rattle.serf_agent.specs.Lives.{Act, Fires, Asks, Gets, Hears, Takes, Saves, Compacts, Closes, Opens, HasFlushed, Lived, MayAct, acted, after, lived}
-use Rattle.serf_agent.specs.Queries.{query_asked, query_entered, told_query}
-use Rattle.serf_agent.specs.Restart.{restarted, restarted_by}
-use Rattle.serf_agent.specs.Sound.{IsSound}
-use Rattle.serf_agent.specs.States.{joined}
-use Rattle.serf_agent.specs.Taking.{IsOpenAt, TakesAt}
-use Rattle.serf_agent.specs.Told.{MayNote, bytes_with, noted_with, text_with}
-use Rattle.serf_agent.specs.TrackOf.{TrackOf, event_track, query_track}
-use Rattle.serf_agent.specs.View.{view_of}
 use Rattle.serf_agent.proofs.ActMoves.{IsNoted, IsQuiet, IsSeen, Noting, acts, compacted, heard}
 use Rattle.serf_agent.proofs.DurableLaws.{opened-durable}
 use Rattle.serf_agent.proofs.HandsOutLaws.{Allows, BelowHandsOut, allows, allows-saved, compaction-events, compaction-queries, event-no_member, follows, opens-compacted, opens-entered, opens-failed, opens-noted, opens-saved, opens-wider, query-no_member, stands-wider, tells-event, tells-join, tells-own, tells-query, whole-durable}

@@ -1,27 +1,6 @@
 -- What a join that ignores old events set is remembered, in this life and in later ones.
-use Rattle.serf_agent.proofs.Names.{◌≡◌, ℕ, ◌+◌, ◌≤◌, ◌&&◌, max, cond, Bool, true, false, List, [], ◌∷◌, ◌++◌, Option, Some, None, and_from, refl, sym, subst, ap, ◌∙◌, arith, All, All-cons, All-head, All-nil, All-tail, EventBody, TimedEntry, PushPull, same_texts, ClockKind, last_clock, Device, SnapshotView, Writing, Kept, Failed, noted, opened, written}
-use Rattle.std.proofs.lemmas.List.Elements.{All-append}
+use Rattle.serf_agent.proofs.Names.{Bool, List, None, Option, Some, [], ap, arith, cond, false, max, refl, subst, sym, true, ℕ, ◌&&◌, ◌++◌, ◌+◌, ◌∙◌, ◌∷◌, ◌≡◌, ◌≤◌, and_from, All-append, All-cons, All-head, All-nil, All-tail, All, PushPull, EventBody, last_clock, sealed, Device, least_in, least_line, kept_bytes, kept_compaction_of, Failed, Kept, MayReplaceBy, SnapshotView, Writing, noted, opened, text_replaced, written, ClockKind, same_texts, TimedEntry, AsksSink, ended, event_entered, told_event, IdealAgent, with_config, with_snapshot, taken_back, KeepsOn, RemembersJoins, kept_lines, IsDurable, IsTellable, MayGoOn, MayGoOnLives, events_reached, Act, Asks, Closes, Compacts, Fires, Gets, Hears, Lived, MayAct, Opens, Saves, Takes, acted, after, events_out, first_life, lived, query_entered, told_query, restarted, restarted_by, IsSound, heard_by, joined, told_lines, MayNote, noted_with, text_with, view_of, Config}
 use Rattle.serf_snap.specs.declared.kind.ClockKind.TheVariants as kinds
-use Rattle.serf_snap.specs.Clocks.{sealed}
-use Rattle.serf_snap.specs.EventLines.{least_in, least_line}
-use Rattle.serf_snap.specs.Notes.{MayReplaceBy, text_replaced}
-use Rattle.serf_snap.specs.KeptNotes.{kept_bytes, kept_compaction_of}
-use Rattle.serf_agent.specs.declared.config.Config.{Config}
-use Rattle.serf_agent.specs.Calls.{AsksSink, ended}
-use Rattle.serf_agent.specs.Events.{event_entered, told_event}
-use Rattle.serf_agent.specs.Ideal.{IdealAgent, with_config, with_snapshot}
-use Rattle.serf_agent.specs.Keeping.{taken_back}
-use Rattle.serf_agent.specs.Kept.{KeepsOn, RemembersJoins}
-use Rattle.serf_agent.specs.KeptLines.{kept_lines}
-use Rattle.serf_agent.specs.KeptLives.{IsDurable, IsTellable, MayGoOn, MayGoOnLives}
-use Rattle.serf_agent.specs.KeptRestart.{events_reached}
-use Rattle.serf_agent.specs.Lives.{Act, Fires, Asks, Gets, Hears, Takes, Saves, Compacts, Closes, Opens, Lived, MayAct, acted, after, events_out, first_life, lived}
-use Rattle.serf_agent.specs.Queries.{query_entered, told_query}
-use Rattle.serf_agent.specs.Restart.{restarted, restarted_by}
-use Rattle.serf_agent.specs.Sound.{IsSound}
-use Rattle.serf_agent.specs.States.{heard_by, joined, told_lines}
-use Rattle.serf_agent.specs.Told.{MayNote, noted_with, text_with}
-use Rattle.serf_agent.specs.View.{view_of}
 use Rattle.serf_agent.proofs.ActMoves.{IsNoted, Noting, acts, compacted, heard}
 use Rattle.serf_agent.proofs.DurableLaws.{replaced-holds, opened-durable}
 use Rattle.serf_agent.proofs.HandsOutLaws.{BelowHandsOut, compaction-events, tells-own, whole-durable}

@@ -1,15 +1,5 @@
 -- Tracks that are kept over a restart: an opening leaves a sound track, which has all that was entered before.
-use Rattle.serf_agent.proofs.Names.{◌≡◌, ◌≢◌, ℕ, suc, ◌+◌, ◌-◌, ◌<◌, ◌≤◌, ◌==◌, ◌&&◌, inl, inr, max, not, cond, Bool, true, false, List, [], ◌∷◌, ◌++◌, map, filter, refl, sym, ◌∙◌, ap, subst, arith, All, AllPairs, eq-eqb, and_from, and_parts, true≢false, All-nil, All-cons, All-filter, All-head, All-tail, All-weaker, filter-append, AllPairs-filter, same_id, same_texts, EventBody, TimedEntry, was_entered, bytes_eq, bytes_eq-Decides}
-use Rattle.std.specs.Prelude.{Contains}
-use Rattle.std.proofs.lemmas.Bool.{eqb-true, not-true, or_cases}
-use Rattle.std.proofs.lemmas.List.{map-append}
-use Rattle.std.proofs.lemmas.List.Elements.{All-append, All-contains, All-contains_itself, All-map, Contains-append_left, Contains-append_right, filter_passes}
-use Rattle.std.proofs.lemmas.List.Folds.{list_any_at}
-use Rattle.std.proofs.lemmas.List.Kept.{AllPairs-cons}
-use Rattle.serf_window.specs.Recall.{IsRecalled, RecallLaws, Recalled}
-use Rattle.serf_agent.specs.Ideal.{Past, Track}
-use Rattle.serf_agent.specs.Keeping.{IsHad, KeepingLaws, entries_in, history_without, in_life, opened_clock, taken_back, track_kept}
-use Rattle.serf_agent.specs.Tracks.{IsTrackSound, of_life}
+use Rattle.serf_agent.proofs.Names.{Bool, List, [], ap, arith, cond, false, filter, inl, inr, map, max, not, refl, subst, suc, sym, true, ℕ, ◌&&◌, ◌++◌, ◌+◌, ◌-◌, ◌<◌, ◌==◌, ◌∙◌, ◌∷◌, ◌≡◌, ◌≢◌, ◌≤◌, and_from, and_parts, eq-eqb, eqb-true, not-true, or_cases, true≢false, map-append, All-append, All-cons, All-contains, All-contains_itself, All-filter, All-head, All-map, All-nil, All-tail, All-weaker, Contains-append_left, Contains-append_right, filter-append, filter_passes, list_any_at, AllPairs-cons, AllPairs-filter, bytes_eq-Decides, All, AllPairs, Contains, bytes_eq, EventBody, same_id, IsRecalled, RecallLaws, Recalled, same_texts, TimedEntry, was_entered, Past, Track, IsHad, KeepingLaws, entries_in, history_without, in_life, opened_clock, taken_back, track_kept, IsTrackSound, of_life}
 use Rattle.serf_agent.proofs.TrackLaws.{of_life-none}
 
 -- ---- lists

@@ -1,24 +1,7 @@
 -- The text of a compaction of an agent that keeps its events has all that was entered.
-use Rattle.serf_agent.proofs.Names.{◌≡◌, ℕ, ◌+◌, ◌-◌, ◌^◌, ◌<◌, ◌≤◌, ◌%◌, ◌==◌, inl, inr, max, nat_lt, cond, Bool, true, false, List, [], ◌∷◌, ◌++◌, length, map, filter, refl, sym, subst, ap, ◌∙◌, append-nil, append_assoc, arith, All, cases_lt, eq-eqb, le-ltb, All-cons, All-head, All-nil, All-tail, All-weaker, flat_map, EventBody, TimedEntry, SlotOf, TimesBelow, ClockKind, slots_of}
-use Rattle.std.specs.Prelude.{Contains, ◌⊎◌}
-use Rattle.std.proofs.lemmas.Bool.{eqb-true}
-use Rattle.std.proofs.lemmas.List.Elements.{All-append, All-contains, All-contains_itself, All-map, Contains-append_left, Contains-append_right, Contains-get_or}
-use Rattle.serf_window.specs.Laws.{SlotLaws}
-use Rattle.serf_window.specs.Window.{empty_slot, held_at, held_of, slot_for}
-use Rattle.serf_snap.specs.declared.kept.Wanted.{Wanted}
+use Rattle.serf_agent.proofs.Names.{Bool, List, [], ap, append-nil, append_assoc, arith, cond, false, filter, inl, inr, length, map, max, nat_lt, refl, subst, sym, true, ℕ, ◌%◌, ◌++◌, ◌+◌, ◌-◌, ◌<◌, ◌==◌, ◌^◌, ◌∙◌, ◌∷◌, ◌≡◌, ◌≤◌, cases_lt, eq-eqb, eqb-true, le-ltb, All-append, All-cons, All-contains, All-contains_itself, All-head, All-map, All-nil, All-tail, All-weaker, Contains-append_left, Contains-append_right, Contains-get_or, flat_map, All, Contains, EventBody, is_whole, line_above_zero, least_in, least_line, query_line, kept_compaction_of, kept_line_above_zero, AreTimes, Wanted, ClockKind, SlotLaws, SlotOf, TimedEntry, TimesBelow, empty_slot, held_at, held_of, slot_for, slots_of, IdealAgent, Past, Track, in_life, AreTold, CompactionLaws, held_from, held_in, kept_lines, least_told, lines_told, stored_lines, HasKept, AreKept, IsIdShort, IsIdTold, IsShort, IsTold, KeptEventLaws, KeptQueryLaws, KeptTextLaws, kept_events, kept_queries, line_of_event, whatever, IsSound, IsTrackSound, of_life, view_of_track, view_of}
+use Rattle.std.specs.Prelude.{◌⊎◌}
 use Rattle.serf_snap.specs.declared.kind.ClockKind.TheVariants as kinds
-use Rattle.serf_snap.specs.Notes.{AreTimes}
-use Rattle.serf_snap.specs.Clocks.{is_whole, line_above_zero}
-use Rattle.serf_snap.specs.EventLines.{least_in, least_line, query_line}
-use Rattle.serf_snap.specs.KeptNotes.{kept_compaction_of, kept_line_above_zero}
-use Rattle.serf_agent.specs.Ideal.{IdealAgent, Past, Track}
-use Rattle.serf_agent.specs.Keeping.{in_life}
-use Rattle.serf_agent.specs.KeptLines.{AreTold, CompactionLaws, held_from, held_in, kept_lines, least_told, lines_told, stored_lines}
-use Rattle.serf_agent.specs.KeptTexts.{AreKept, IsIdShort, IsIdTold, IsShort, IsTold, KeptEventLaws, KeptQueryLaws, KeptTextLaws, kept_events, kept_queries, line_of_event, whatever}
-use Rattle.serf_agent.specs.KeptRestart.{HasKept}
-use Rattle.serf_agent.specs.Sound.{IsSound}
-use Rattle.serf_agent.specs.Tracks.{IsTrackSound, of_life, view_of_track}
-use Rattle.serf_agent.specs.View.{view_of}
 use Rattle.serf_agent.proofs.KeepingLaws.{All-kept, Contains-entry, Contains-map, entries-in_life}
 use Rattle.serf_agent.proofs.SoundLaws.{QuietLaws, kept-quiet}
 use Rattle.serf_agent.proofs.TrackLaws.{of-life, slots-below}

@@ -1,21 +1,7 @@
 -- What each act leaves durable, and so what is durable over all lives, with the setting that keeps events and without it.
-use Rattle.serf_agent.proofs.Names.{◌≡◌, ℕ, ◌-◌, ◌^◌, ◌<◌, ◌≤◌, ◌&&◌, max, cond, Bool, true, false, List, [], ◌∷◌, ◌++◌, Some, None, refl, sym, subst, ap, arith, All-nil, EventBody, PushPull, last_clock, Device, Writing, Kept, noted, opened}
-use Rattle.std.specs.Prelude.{Contains, ◌⊎◌}
+use Rattle.serf_agent.proofs.Names.{Bool, List, None, Some, [], ap, arith, cond, false, max, refl, subst, sym, true, ℕ, ◌&&◌, ◌++◌, ◌-◌, ◌<◌, ◌^◌, ◌∷◌, ◌≡◌, ◌≤◌, All-nil, Contains, PushPull, EventBody, last_clock, Device, least_in, least_line, AreTimes, Kept, Writing, noted, opened, told_event, IdealAgent, Past, with_config, with_snapshot, BeginsDurable, DiskSuffices, DurableHasKept, IsDurable, IsTellable, KeepsBehind, MayGoOn, MayGoOnLives, MayKeep, MayKeepLives, StaysDurable, HasKept, IsIdTold, IsTold, kept_events, kept_queries, whatever, Act, Asks, Closes, Compacts, Fires, Gets, HasFlushed, Hears, Lived, MayAct, MayLive, Opens, Saves, Takes, acted, after, first_life, lived, query_asked, query_entered, told_query, unopened, IsSound, joined, noted_with, Config}
+use Rattle.std.specs.Prelude.{◌⊎◌}
 use Rattle.serf_snap.specs.declared.kind.ClockKind.TheVariants as kinds
-use Rattle.serf_snap.specs.EventLines.{least_in, least_line}
-use Rattle.serf_snap.specs.Notes.{AreTimes}
-use Rattle.serf_agent.specs.declared.config.Config.{Config}
-use Rattle.serf_agent.specs.Events.{told_event}
-use Rattle.serf_agent.specs.Ideal.{IdealAgent, Past, with_config, with_snapshot}
-use Rattle.serf_agent.specs.KeptLives.{BeginsDurable, DiskSuffices, DurableHasKept, IsDurable, IsTellable, KeepsBehind, MayGoOn, MayGoOnLives, MayKeep, MayKeepLives, StaysDurable}
-use Rattle.serf_agent.specs.KeptRestart.{HasKept}
-use Rattle.serf_agent.specs.KeptTexts.{IsIdTold, IsTold, kept_events, kept_queries, whatever}
-use Rattle.serf_agent.specs.Lives.{Act, Fires, Asks, Gets, Hears, Takes, Saves, Compacts, Closes, Opens, HasFlushed, Lived, MayAct, MayLive, acted, after, first_life, lived}
-use Rattle.serf_agent.specs.Queries.{query_asked, query_entered, told_query}
-use Rattle.serf_agent.specs.Restart.{unopened}
-use Rattle.serf_agent.specs.Sound.{IsSound}
-use Rattle.serf_agent.specs.States.{joined}
-use Rattle.serf_agent.specs.Told.{noted_with}
 use Rattle.serf_agent.proofs.ActMoves.{IsNoted, IsQuiet, Noting, acts, compacted, heard, same-track}
 use Rattle.serf_agent.proofs.DurableLaws.{BelowDurable, carried, compacts, enters-event, enters-query, fails, opens, times-noted, with-snapshot}
 use Rattle.serf_agent.proofs.KeptStepLaws.{noted-grows, stays-so}

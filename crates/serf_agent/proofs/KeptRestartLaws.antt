@@ -1,20 +1,7 @@
 -- An agent that keeps its events, opened again: it is sound, and what is durable still has all that was entered.
-use Rattle.serf_agent.proofs.Names.{◌≡◌, ◌≢◌, ℕ, ◌+◌, ◌-◌, ◌^◌, ◌<◌, ◌≤◌, List, sym, subst, ap, arith, All, map, All-nil, All-weaker, EventBody, TimedEntry, same_id, same_texts, ClockKind, last_clock, Device, opened}
-use Rattle.std.specs.Prelude.{◌++◌, ◌⊎◌, Contains}
-use Rattle.std.proofs.lemmas.List.Elements.{All-append, All-contains, All-map}
-use Rattle.serf_snap.specs.declared.kept.Wanted.{Wanted}
+use Rattle.serf_agent.proofs.Names.{List, ap, arith, map, subst, sym, ℕ, ◌+◌, ◌-◌, ◌<◌, ◌^◌, ◌≡◌, ◌≢◌, ◌≤◌, All-append, All-contains, All-map, All-nil, All-weaker, All, Contains, EventBody, last_clock, sealed, Device, events_in, least_in, queries_in, opened, Wanted, ClockKind, same_id, same_texts, TimedEntry, texts_len, IdealAgent, Past, KeepingLaws, entries_in, KeptRestartLaws, HasKept, events_reached, queries_reached, restarted_kept, AreKept, IsIdShort, IsShort, KeptEventLaws, KeptQueryLaws, event_entry, kept_events, kept_queries, query_entry, whatever, IsInText, SnapshotLaws, IsOpenQuerySound, IsSound}
+use Rattle.std.specs.Prelude.{◌++◌, ◌⊎◌}
 use Rattle.serf_snap.specs.declared.kind.ClockKind.TheVariants as kinds
-use Rattle.serf_snap.specs.Clocks.{sealed}
-use Rattle.serf_snap.specs.EventLines.{events_in, least_in, queries_in}
-use Rattle.serf_agent.specs.Events.{texts_len}
-use Rattle.serf_agent.specs.Ideal.{IdealAgent, Past}
-use Rattle.serf_agent.specs.Keeping.{KeepingLaws, entries_in}
-use Rattle.serf_agent.specs.KeptLaws.{KeptRestartLaws}
-use Rattle.serf_agent.specs.KeptRestart.{HasKept, events_reached, queries_reached, restarted_kept}
-use Rattle.serf_agent.specs.KeptTexts.{AreKept, IsIdShort, IsShort, KeptEventLaws, KeptQueryLaws, event_entry, kept_events, kept_queries, query_entry, whatever}
-use Rattle.serf_agent.specs.Restart.{IsInText}
-use Rattle.serf_agent.specs.Snapshots.{SnapshotLaws}
-use Rattle.serf_agent.specs.Sound.{IsOpenQuerySound, IsSound}
 use Rattle.serf_agent.proofs.KeepingLaws.{of-entries}
 use Rattle.serf_agent.proofs.SoundLaws.{no-pairs}
 

@@ -1,18 +1,6 @@
 -- What is durable of an agent that keeps its events, after each of its notes.
-use Rattle.serf_agent.proofs.Names.{◌≡◌, ℕ, ◌-◌, ◌^◌, ◌<◌, ◌≤◌, nat_le, cond, Bool, true, false, List, [], ◌∷◌, ◌++◌, Option, Some, None, take, refl, sym, subst, ap, ◌∙◌, append-nil, append_assoc, arith, option_map, EventBody, TimedEntry, ClockKind, clock_line, Kept, Failed, KeepsPart, SnapshotView, noted, written, last_line}
-use Rattle.serf_snap.specs.declared.kept.Wanted.{Wanted}
+use Rattle.serf_agent.proofs.Names.{Bool, List, None, Option, Some, [], ap, append-nil, append_assoc, arith, cond, false, nat_le, refl, subst, sym, take, true, ℕ, ◌++◌, ◌-◌, ◌<◌, ◌^◌, ◌∙◌, ◌∷◌, ◌≡◌, ◌≤◌, option_map, EventBody, clock_line, is_whole, kept_clock_line, query_line, kept_bytes, kept_noted, Failed, IsSnapshotSound, KeepsPart, Kept, SnapshotView, last_line, noted, written, Wanted, ClockKind, TimedEntry, event_entered, texts_len, IdealAgent, Past, with_snapshot, HasKept, IsKeptSound, KeptNoteLaws, AreKept, IsIdShort, IsIdTold, IsShort, IsTold, KeptEventLaws, KeptQueryLaws, KeptTextLaws, kept_events, kept_queries, line_of_event, query_entered, MayNote, bytes_with, noted_with}
 use Rattle.serf_snap.specs.declared.kind.ClockKind.TheVariants as kinds
-use Rattle.serf_snap.specs.Clocks.{is_whole}
-use Rattle.serf_snap.specs.EventLines.{kept_clock_line, query_line}
-use Rattle.serf_snap.specs.KeptNotes.{kept_bytes, kept_noted}
-use Rattle.serf_snap.specs.Notes.{IsSnapshotSound}
-use Rattle.serf_agent.specs.Events.{event_entered, texts_len}
-use Rattle.serf_agent.specs.Ideal.{IdealAgent, Past, with_snapshot}
-use Rattle.serf_agent.specs.KeptRestart.{HasKept, IsKeptSound}
-use Rattle.serf_agent.specs.KeptSteps.{KeptNoteLaws}
-use Rattle.serf_agent.specs.KeptTexts.{AreKept, IsIdShort, IsIdTold, IsShort, IsTold, KeptEventLaws, KeptQueryLaws, KeptTextLaws, kept_events, kept_queries, line_of_event}
-use Rattle.serf_agent.specs.Queries.{query_entered}
-use Rattle.serf_agent.specs.Told.{MayNote, bytes_with, noted_with}
 use Rattle.serf_agent.proofs.SoundLaws.{may-part}
 
 -- ---- what the crates below promise

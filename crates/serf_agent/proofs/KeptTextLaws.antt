@@ -1,20 +1,6 @@
 -- What a text keeps of what was handed out, and what an opening takes of it: of events and of queries alike.
-use Rattle.serf_wire.specs.Bytes.{AreBytes}
-use Rattle.serf_agent.proofs.Names.{◌≡◌, ℕ, zero, suc, ◌+◌, ◌-◌, ◌^◌, ◌<◌, ◌≤◌, ◌⊎◌, inl, inr, max, cond, Bool, true, false, List, [], ◌∷◌, ◌++◌, Option, Some, None, length, map, refl, sym, ◌∙◌, ap, subst, arith, All, cases_lt, lt-ltb, leb-true, and_from, and_parts, All-nil, All-push, All-weaker, TimedEntry}
-use Rattle.std.specs.Prelude.{Contains, slice_index_or}
-use Rattle.std.proofs.lemmas.Bool.{le-leb, ltb-true}
-use Rattle.std.proofs.lemmas.List.Elements.{All-append, All-cons, All-contains, All-map, Contains-append_cases, Contains-append_left, Contains-append_right}
-use Rattle.serf_snap.specs.declared.kept.KeptQuery.{KeptQuery}
-use Rattle.serf_snap.specs.declared.kept.Wanted.{Wanted}
-use Rattle.serf_snap.specs.declared.kind.ClockKind.{ClockKind}
+use Rattle.serf_agent.proofs.Names.{Bool, List, None, Option, Some, [], ap, arith, cond, false, inl, inr, length, map, max, refl, subst, suc, sym, true, zero, ℕ, ◌++◌, ◌+◌, ◌-◌, ◌<◌, ◌^◌, ◌∙◌, ◌∷◌, ◌≡◌, ◌≤◌, ◌⊎◌, and_from, and_parts, cases_lt, le-leb, leb-true, lt-ltb, ltb-true, map-append, All-append, All-cons, All-contains, All-map, All-nil, All-push, All-weaker, Contains-append_cases, Contains-append_left, Contains-append_right, All, Contains, slice_index_or, AreBytes, clock_line, is_whole, lines_of, event_line, event_of_line, events_in, if_event_wanted, if_query_wanted, if_wanted, is_event_wanted, is_query_wanted, kept_query, least_in, queries_in, query_line, query_of_line, said_by_lines, TimedEvent, timed_event, KeptQuery, Wanted, ClockKind, TimedEntry, Past, IsHad, entries_in, opened_clock, AreKept, IsIdShort, IsIdTold, IsShort, IsTold, KeptEventLaws, KeptQueryLaws, event_entry, kept_events, kept_queries, line_of_event, query_entry, whatever, within_reach}
 use Rattle.serf_snap.specs.declared.kind.ClockKind.TheVariants as kinds
-use Rattle.serf_snap.specs.Clocks.{clock_line, is_whole, lines_of}
-use Rattle.serf_snap.specs.EventLines.{event_line, event_of_line, events_in, if_event_wanted, if_query_wanted, if_wanted, is_event_wanted, is_query_wanted, kept_query, least_in, queries_in, query_line, query_of_line, said_by_lines}
-use Rattle.serf_snap.specs.TimedEvent.{TimedEvent, timed_event}
-use Rattle.serf_agent.specs.Ideal.{Past}
-use Rattle.serf_agent.specs.Keeping.{IsHad, entries_in, opened_clock}
-use Rattle.serf_agent.specs.KeptTexts.{AreKept, IsIdShort, IsIdTold, IsShort, IsTold, KeptEventLaws, KeptQueryLaws, event_entry, kept_events, kept_queries, line_of_event, query_entry, whatever, within_reach}
-use Rattle.std.proofs.lemmas.List.{map-append}
 use Rattle.serf_agent.proofs.KeepingLaws.{of-entries}
 
 -- ---- what the crate below promises of least times, and of a line that is written

@@ -1,32 +1,6 @@
 -- What each call leaves of an ideal agent's history, and so what is handed out over all lives.
-use Rattle.serf_agent.proofs.Names.{◌≡◌, ◌≢◌, ℕ, ◌-◌, ◌^◌, ◌<◌, ◌≤◌, ◌++◌, ◌∷◌, [], inl, inr, Bool, true, false, List, Option, Some, None, Result, Ok, Err, refl, sym, ap, subst, ◌∙◌, append-nil, arith, All, All-nil, All-pop, All-push, All-weaker, all_pairs_push, EventBody, PushPull, TimedEntry, ClockKind, last_clock, Device, Writing, Kept, Failed, opened, written}
-use Rattle.serf_wire.specs.Laws.{DecodesInRange}
+use Rattle.serf_agent.proofs.Names.{Bool, Err, List, None, Ok, Option, Result, Some, [], ap, append-nil, arith, false, inl, inr, refl, subst, sym, true, ℕ, ◌++◌, ◌-◌, ◌<◌, ◌^◌, ◌∙◌, ◌∷◌, ◌≡◌, ◌≢◌, ◌≤◌, All-contains, All-map, All-nil, All-pop, All-push, All-weaker, all_pairs_push, All, Contains, DecodesInRange, PushPull, EventBody, last_clock, Device, least_line, Failed, Kept, Writing, opened, written, ClockKind, TimedEntry, ended, is_sound, fire_fault, fired_as, told_event, IdealAgent, Past, with_config, with_snapshot, entries_in, KeptRestartLaws, IsTellable, HasKept, Act, Asks, AsksLater, Closes, Compacts, DurableHasFlushed, Fires, FiresLater, Gets, HandsOutOnce, HandsOutQueriesOnce, HasFlushed, Hears, Lived, MayAct, MayLive, Opens, Saves, Takes, acted, after, events_out, first_life, lived, queries_out, AsksBehind, BeginsOnce, BeginsSound, FiresBehind, IsOnce, StaysOnce, StepsSound, query_at, query_fault, query_fired_as, told_query, HasPast, IsInText, restarted, restarted_by, unopened, SnapshotLaws, IsSound, joined, MayNote, Config, FireFault, Fired, FiredQuery, QueryFault, QueryParams}
 use Rattle.serf_snap.specs.declared.kind.ClockKind.TheVariants as kinds
-use Rattle.serf_snap.specs.EventLines.{least_line}
-use Rattle.std.specs.Prelude.{Contains}
-use Rattle.std.proofs.lemmas.List.Elements.{All-contains, All-map}
-use Rattle.serf_agent.specs.Keeping.{entries_in}
-use Rattle.serf_agent.specs.KeptLaws.{KeptRestartLaws}
-use Rattle.serf_agent.specs.KeptRestart.{HasKept}
-use Rattle.serf_agent.specs.Snapshots.{SnapshotLaws}
-use Rattle.serf_agent.specs.declared.config.Config.{Config}
-use Rattle.serf_agent.specs.declared.outcome.Fired.{Fired}
-use Rattle.serf_agent.specs.declared.outcome.FiredQuery.{FiredQuery}
-use Rattle.serf_agent.specs.declared.outcome.FireFault.{FireFault}
-use Rattle.serf_agent.specs.declared.outcome.QueryFault.{QueryFault}
-use Rattle.serf_agent.specs.declared.outcome.QueryParams.{QueryParams}
-use Rattle.serf_agent.specs.Calls.{ended}
-use Rattle.serf_agent.specs.Config.{is_sound}
-use Rattle.serf_agent.specs.Events.{fire_fault, fired_as, told_event}
-use Rattle.serf_agent.specs.Ideal.{IdealAgent, Past, with_config, with_snapshot}
-use Rattle.serf_agent.specs.KeptLives.{IsTellable}
-use Rattle.serf_agent.specs.Lives.{Act, Fires, Asks, Gets, Hears, Takes, Saves, Compacts, Closes, Opens, HasFlushed, HandsOutOnce, HandsOutQueriesOnce, FiresLater, AsksLater, DurableHasFlushed, Lived, MayAct, MayLive, acted, after, events_out, first_life, lived, queries_out}
-use Rattle.serf_agent.specs.Queries.{query_at, query_fault, query_fired_as, told_query}
-use Rattle.serf_agent.specs.Restart.{HasPast, IsInText, restarted, restarted_by, unopened}
-use Rattle.serf_agent.specs.Once.{AsksBehind, BeginsOnce, BeginsSound, FiresBehind, IsOnce, StaysOnce, StepsSound}
-use Rattle.serf_agent.specs.Sound.{IsSound}
-use Rattle.serf_agent.specs.States.{joined}
-use Rattle.serf_agent.specs.Told.{MayNote}
 use Rattle.serf_agent.proofs.ActMoves.{IsNoted, IsPassed, Noting, acts, compacted, heard}
 use Rattle.serf_agent.proofs.KeepingLaws.{of-entries}
 use Rattle.serf_agent.proofs.SoundLaws.{sound-compact, sound-event_entered, sound-joined, sound-note_failed, sound-query_asked, sound-query_entered, sound-restarted, sound-saved, sound-told, sound-unopened, sound-with_config, past-unopened}

@@ -1,17 +1,7 @@
 -- How the calls end that only note or replace.
-use Rattle.serf_agent.proofs.Names.{◌≡◌, ◌≢◌, ◌↔◌, ℕ, ◌-◌, ◌^◌, ◌<◌, Bool, true, false, cond, IsTrue, List, None, Result, Ok, Err, OnOk, refl, sym, ap, subst, ◌∙◌, arith, NoteFault, clock_line, Device, replaced, SnapshotView, SnapshotState, Kept, Failed, noted, written}
+use Rattle.serf_agent.proofs.Names.{Bool, Err, IsTrue, List, None, Ok, OnOk, Result, ap, arith, cond, false, refl, subst, sym, true, ℕ, ◌-◌, ◌<◌, ◌^◌, ◌↔◌, ◌∙◌, ◌≡◌, ◌≢◌, clock_line, Device, replace_called, replaced, FailsLine, NotesTime, ReplacesText, Failed, Kept, SnapshotState, SnapshotView, noted, written, NoteFault, Call, Notes, Replaces, answers, IdealAgent, SnapshotLaws, IsSound, compact, save, told_lines, Steps, MayNote, device_noted, text_with, AgentState, ConcreteState, concrete_with, view_of}
 use Rattle.serf_snap.specs.declared.kind.ClockKind.TheVariants as kinds
 use Rattle.serf_snap.specs.declared.snapshot.NoteFault.TheVariants as notes
-use Rattle.serf_snap.specs.Device.{replace_called}
-use Rattle.serf_agent.specs.Snapshots.{SnapshotLaws}
-use Rattle.serf_agent.specs.Calls.{Call, Notes, Replaces, answers}
-use Rattle.serf_snap.specs.Ends.{FailsLine, NotesTime, ReplacesText}
-use Rattle.serf_agent.specs.Ideal.{IdealAgent}
-use Rattle.serf_agent.specs.Sound.{IsSound}
-use Rattle.serf_agent.specs.States.{compact, save, told_lines}
-use Rattle.serf_agent.specs.Steps.{Steps}
-use Rattle.serf_agent.specs.Told.{MayNote, device_noted, text_with}
-use Rattle.serf_agent.specs.View.{AgentState, ConcreteState, concrete_with, view_of}
 use Rattle.serf_agent.proofs.SoundLaws.{sound-compact, sound-saved}
 use Rattle.serf_agent.proofs.StepLaws.{steps-answers, steps-failed, steps-kept}
 

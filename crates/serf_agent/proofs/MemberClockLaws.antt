@@ -1,9 +1,5 @@
 -- A time of the member clock is observed as a push/pull is heard of that says no other clock.
-use Rattle.serf_agent.proofs.Names.{◌≡◌, ℕ, ◌+◌, max, false, arith}
-use Rattle.serf_agent.specs.Ideal.{IdealAgent}
-use Rattle.serf_agent.specs.MemberClock.{clock_state, with_observed_member}
-use Rattle.serf_agent.specs.States.{joined}
-use Rattle.serf_agent.specs.View.{view_of}
+use Rattle.serf_agent.proofs.Names.{arith, false, max, ℕ, ◌+◌, ◌≡◌, IdealAgent, clock_state, with_observed_member, joined, view_of}
 
 max-none : (n : ℕ) → n ≡ max n 0
 max-none n = omega arith

@@ -1,25 +1,8 @@
 -- Events of a push/pull, one after another.
-use Rattle.serf_agent.proofs.Names.{◌≡◌, ◌≢◌, inl, inr, ℕ, ◌-◌, ◌^◌, ◌<◌, Bool, false, List, [], ◌∷◌, ◌++◌, Option, Some, None, Ok, Err, refl, sym, ap, subst, ◌∙◌, append_assoc, append-nil, EventBody, PushPull, push_pull, TimedEntry, Device, Kept, Failed, NoteFault, SnapshotView, arith, cases_Bool, leb-false, nat_le}
+use Rattle.serf_agent.proofs.Names.{Bool, Err, List, None, Ok, Option, Some, [], ap, append-nil, append_assoc, arith, false, inl, inr, nat_le, refl, subst, sym, ℕ, ◌++◌, ◌-◌, ◌<◌, ◌^◌, ◌∙◌, ◌∷◌, ◌≡◌, ◌≢◌, cases_Bool, leb-false, PushPull, push_pull, EventBody, Device, FailsLine, Failed, Kept, SnapshotView, NoteFault, TimedEntry, AsksSink, MayEnd, ended, device_after, admission, event_entered, event_observed, event_out, received_as, told_event, merge_fault_of, IdealAgent, with_snapshot, GoesOn, GoesWrong, HasHeard, HasReceived, Received, SnapshotLaws, IsSound, EndsHearing, Merges, Receives, after_event, delivered, events_of, handed_by, hear, heard_by, joined, receive_one, told_least, EndsNote, FailsNote, Steps, AreQuiet, MayNote, bytes_with, device_noted, noted_with, AgentState, ConcreteState, concrete_with, view_of, EventOut, MergeFault, Reason, SinkFault}
 use Rattle.serf_snap.specs.declared.kind.ClockKind.TheVariants as kinds
 use Rattle.serf_snap.specs.declared.snapshot.NoteFault.TheVariants as notes
-use Rattle.serf_agent.specs.Snapshots.{SnapshotLaws}
-use Rattle.serf_agent.specs.declared.outcome.EventOut.{EventOut}
-use Rattle.serf_agent.specs.declared.outcome.MergeFault.{MergeFault}
 use Rattle.serf_agent.specs.declared.outcome.MergeFault.TheVariants as merges
-use Rattle.serf_agent.specs.declared.outcome.Reason.{Reason}
-use Rattle.serf_agent.specs.declared.outcome.ReceiveFault.TheVariants.{SinkFault}
-use Rattle.serf_agent.specs.Calls.{MayEnd, AsksSink, ended}
-use Rattle.serf_snap.specs.Ends.{FailsLine}
-use Rattle.serf_agent.specs.Devices.{device_after}
-use Rattle.serf_agent.specs.Events.{admission, event_entered, event_observed, event_out, received_as, told_event}
-use Rattle.serf_agent.specs.Faults.{merge_fault_of}
-use Rattle.serf_agent.specs.Ideal.{IdealAgent, with_snapshot}
-use Rattle.serf_agent.specs.Merging.{GoesOn, GoesWrong, HasHeard, Received, HasReceived}
-use Rattle.serf_agent.specs.Sound.{IsSound}
-use Rattle.serf_agent.specs.States.{EndsHearing, Receives, Merges, events_of, delivered, handed_by, hear, heard_by, joined, receive_one, after_event, told_least}
-use Rattle.serf_agent.specs.Steps.{EndsNote, FailsNote, Steps}
-use Rattle.serf_agent.specs.Told.{AreQuiet, MayNote, bytes_with, device_noted, noted_with}
-use Rattle.serf_agent.specs.View.{AgentState, ConcreteState, concrete_with, view_of}
 use Rattle.serf_agent.proofs.NoteLaws.{stopped-noted}
 use Rattle.serf_agent.proofs.SoundLaws.{admission-new, quiet-least, sound-event_entered, sound-event_observed, sound-told}
 use Rattle.serf_agent.proofs.StepLaws.{steps-failed}

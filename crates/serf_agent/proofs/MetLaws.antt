@@ -1,19 +1,6 @@
 -- What of a time was met, and what an opening leaves below its least time.
-use Rattle.serf_agent.proofs.Names.{◌≡◌, ◌≢◌, ℕ, ◌+◌, ◌-◌, ◌^◌, ◌<◌, ◌≤◌, ◌⊎◌, ◌==◌, ◌&&◌, ◌||◌, inl, inr, max, nat_lt, nat_le, cond, Bool, true, false, List, [], ◌∷◌, ◌++◌, length, length-append, filter, refl, sym, subst, ap, ◌∙◌, arith, All, AllPairs, All-filter, All-head, All-nil, All-push, All-tail, All-weaker, AllPairs-filter, all_pairs_push, cases_lt, leb-true, true≢false, TimedEntry, count_at, eq-eqb, same_id, same_texts, was_entered}
-use Rattle.std.proofs.lemmas.Bool.{eqb-true}
-use Rattle.std.specs.Prelude.{Contains}
-use Rattle.std.proofs.lemmas.List.{length-map}
-use Rattle.std.proofs.lemmas.List.Elements.{All-contains, All-contains_itself, All-map, Contains-append_left, filter_passes}
-use Rattle.serf_window.specs.declared.verdict.Verdict.TheVariants.{BelowMinimum, New, Seen, TimeFull, TooOld}
-use Rattle.serf_window.specs.Recall.{Recalled, recalled, recalled_by, recalled_one}
-use Rattle.serf_snap.specs.declared.kept.Wanted.{Wanted}
-use Rattle.serf_snap.specs.EventLines.{event_of_line, is_event_wanted, is_query_wanted, query_of_line}
-use Rattle.serf_agent.specs.Kept.{HasMet, IsFull, IsMet}
-use Rattle.std.proofs.lemmas.List.Kept.{AllPairs-cons}
-use Rattle.serf_agent.specs.Ideal.{Past}
-use Rattle.serf_agent.specs.Keeping.{entries_in, taken_back}
-use Rattle.serf_agent.specs.KeptTexts.{IsIdShort, IsShort, event_entry, kept_events, kept_queries, query_entry, whatever, within_reach}
-use Rattle.serf_agent.specs.Tracks.{of_life, was_ever_entered}
+use Rattle.serf_agent.proofs.Names.{Bool, List, [], ap, arith, cond, false, filter, inl, inr, length, length-append, max, nat_le, nat_lt, refl, subst, sym, true, ℕ, ◌&&◌, ◌++◌, ◌+◌, ◌-◌, ◌<◌, ◌==◌, ◌^◌, ◌||◌, ◌∙◌, ◌∷◌, ◌≡◌, ◌≢◌, ◌≤◌, ◌⊎◌, cases_lt, eq-eqb, eqb-true, leb-true, true≢false, length-map, All-contains, All-contains_itself, All-filter, All-head, All-map, All-nil, All-push, All-tail, All-weaker, Contains-append_left, filter_passes, AllPairs-cons, AllPairs-filter, all_pairs_push, All, AllPairs, Contains, event_of_line, is_event_wanted, is_query_wanted, query_of_line, Wanted, same_id, Recalled, recalled, recalled_by, recalled_one, same_texts, TimedEntry, count_at, was_entered, New, Seen, TimeFull, TooOld, Past, entries_in, taken_back, HasMet, IsFull, IsMet, IsIdShort, IsShort, event_entry, kept_events, kept_queries, query_entry, whatever, within_reach, of_life, was_ever_entered}
+use Rattle.serf_window.specs.declared.verdict.Verdict.TheVariants.{BelowMinimum}
 use Rattle.serf_agent.proofs.KeepingLaws.{contained-entered, entered-contained, pairs-head, pairs-tail, same_texts-itself, same_texts-tells}
 use Rattle.serf_agent.proofs.TrackLaws.{of-life}
 use Rattle.serf_agent.proofs.KeptTextLaws.{reads_events, reads_queries, stands-read}

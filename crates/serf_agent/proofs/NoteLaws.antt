@@ -1,11 +1,6 @@
 -- What a note's answer says of the sink's choice.
-use Rattle.serf_agent.proofs.Names.{◌≡◌, ℕ, nat_le, inl, inr, true, false, List, Option, Some, None, refl, sym, subst, ap, ◌∙◌, cases_Bool, ClockKind, Device, Result, Ok, Err, NoteFault, SnapshotState, SnapshotView, Kept, Failed, last_line, written, true≢false}
+use Rattle.serf_agent.proofs.Names.{Err, List, None, Ok, Option, Result, Some, ap, false, inl, inr, nat_le, refl, subst, sym, true, ℕ, ◌∙◌, ◌≡◌, cases_Bool, true≢false, Device, HasFailed, FailsLine, NotesTime, Failed, Kept, SnapshotState, SnapshotView, last_line, written, ClockKind, NoteFault, EndsNote, EndsWrite, FailsNote, HasNoted, HasWritten, WritesLine, MayNote, bytes_with, device_noted, noted_with, AgentState, concrete_with}
 use Rattle.serf_snap.specs.declared.snapshot.NoteFault.TheVariants as notes
-use Rattle.serf_snap.specs.Device.{HasFailed}
-use Rattle.serf_snap.specs.Ends.{FailsLine, NotesTime}
-use Rattle.serf_agent.specs.Steps.{EndsNote, EndsWrite, FailsNote, HasNoted, HasWritten, WritesLine}
-use Rattle.serf_agent.specs.Told.{MayNote, bytes_with, device_noted, noted_with}
-use Rattle.serf_agent.specs.View.{AgentState, concrete_with}
 
 -- a note stops nothing
 pub stopped-noted : (kind : ClockKind) (t : ℕ) (line : Option (List ℕ)) (s : SnapshotView) → (noted_with kind t line s Kept).stopped ≡ s.stopped

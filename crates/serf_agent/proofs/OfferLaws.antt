@@ -1,25 +1,7 @@
 -- What is new and within the window is taken, an event or a query, or its time is full.
-use Rattle.serf_agent.proofs.Names.{◌≡◌, ℕ, ◌+◌, ◌<◌, ◌≤◌, ◌⊎◌, inl, inr, nat_lt, nat_le, cond, Bool, true, false, List, [], ◌∷◌, Option, Some, None, Result, Ok, Err, WireFault, Message, Query, query, query_response, push_pull, user_event, foreign, map, refl, sym, subst, arith, All, All-nil, cases_Bool, leb-true, le-ltb, EventBody, TimedEntry, decoded, same_id, same_texts, count_at, ClockKind, Device, SnapshotView, Kept, Failed, opened}
-use Rattle.serf_lamport.specs.Clock.{observed}
-use Rattle.serf_snap.specs.EventLines.{least_in}
-use Rattle.serf_agent.specs.declared.config.Config.{Config}
-use Rattle.serf_agent.specs.declared.outcome.Reason.{Reason}
+use Rattle.serf_agent.proofs.Names.{Bool, Err, List, None, Ok, Option, Result, Some, [], arith, cond, false, inl, inr, map, nat_le, nat_lt, refl, subst, sym, true, ℕ, ◌+◌, ◌<◌, ◌∷◌, ◌≡◌, ◌≤◌, ◌⊎◌, cases_Bool, le-ltb, leb-true, All-nil, All, observed, decoded, Message, Query, foreign, push_pull, query, query_response, user_event, WireFault, EventBody, Device, least_in, Failed, Kept, SnapshotView, opened, ClockKind, same_id, same_texts, TimedEntry, count_at, answers, ended, admission, received_as, texts_len, IdealAgent, Past, Track, HandsOutNew, IsFull, IsMet, KeepsSettings, TakesNew, TakesNewQueries, TellNoneAbove, entered_in, stood_in, IsDurable, MayGoOnLives, whatever, Act, Asks, Closes, Compacts, Fires, Gets, Hears, Opens, Saves, Takes, events_out, first_life, lived, query_admission, query_received_as, receive_read, unopened, IsSound, handed_by, IsOpenAt, TakesAt, TakesOrFull, TakingLaws, BringsQuery, OffersEvent, OffersQuery, TrackOf, event_track, got_query, queries_entered, query_track, IsTrackSound, of_life, track_reason, was_ever_entered, Config, Reason}
 use Rattle.serf_agent.specs.declared.outcome.ReceiveFault.TheVariants as receives
-use Rattle.serf_agent.specs.Calls.{answers, ended}
-use Rattle.serf_agent.specs.Events.{admission, received_as, texts_len}
-use Rattle.serf_agent.specs.Ideal.{IdealAgent, Past, Track}
-use Rattle.serf_agent.specs.Kept.{HandsOutNew, IsFull, IsMet, KeepsSettings, TakesNew, TakesNewQueries, TellNoneAbove, entered_in, stood_in}
-use Rattle.serf_agent.specs.KeptLives.{IsDurable, MayGoOnLives}
-use Rattle.serf_agent.specs.KeptTexts.{whatever}
-use Rattle.serf_agent.specs.Lives.{Act, Fires, Asks, Gets, Hears, Takes, Saves, Compacts, Closes, Opens, event_entry, events_out, first_life, lived}
-use Rattle.serf_agent.specs.Queries.{query_admission, query_received_as}
-use Rattle.serf_agent.specs.Receive.{receive_read}
-use Rattle.serf_agent.specs.Restart.{unopened}
-use Rattle.serf_agent.specs.Sound.{IsSound}
-use Rattle.serf_agent.specs.States.{handed_by}
-use Rattle.serf_agent.specs.Taking.{IsOpenAt, TakesAt, TakesOrFull, TakingLaws}
-use Rattle.serf_agent.specs.TrackOf.{BringsQuery, OffersEvent, OffersQuery, TrackOf, event_track, got_query, queries_entered, query_track}
-use Rattle.serf_agent.specs.Tracks.{IsTrackSound, of_life, track_reason, was_ever_entered}
+use Rattle.serf_agent.specs.Lives.{event_entry}
 use Rattle.serf_agent.proofs.HandsOutLaws.{BelowHandsOut}
 use Rattle.serf_agent.proofs.HandsOutLives.{Acting, Course, course-lived, events-acting, full-lived, queries-acting, stands-after}
 use Rattle.serf_agent.proofs.KeptLifeLaws.{begins_durable}

@@ -1,5 +1,5 @@
 -- Lists of open queries by time.
-use Rattle.serf_agent.proofs.Names.{◌≡◌, ◌≢◌, ℕ, zero, suc, ◌+◌, ◌<◌, nat_eq, not, cond, Bool, true, false, List, [], ◌∷◌, ◌++◌, length, filter, get_or, Some, Result, Ok, Err, OnErr, OnOk, refl, sym, ◌∙◌, ap, subst, arith, All, AllPairs, list_any, lookup, set_value, bytes_eq, bytes_eq-Decides, ne_eqb, or_parts, true≢false, All-nil, All-cons, All-head, All-tail, insert_entry}
+use Rattle.serf_agent.proofs.Names.{Bool, Err, List, Ok, OnErr, OnOk, Result, Some, [], ap, arith, cond, false, filter, get_or, length, nat_eq, not, refl, subst, suc, sym, true, zero, ℕ, ◌++◌, ◌+◌, ◌<◌, ◌∙◌, ◌∷◌, ◌≡◌, ◌≢◌, ne_eqb, or_parts, true≢false, All-cons, All-head, All-nil, All-tail, bytes_eq-Decides, list_any, lookup, set_value, All, AllPairs, bytes_eq, insert_entry}
 
 -- a key above all others goes last
 pub insert-later : {X : Type 0} (es : List (ℕ × X)) (t : ℕ) (x : X) → All (λ e. e.0 < t) es → insert_entry nat_eq es t x ≡ es ++ (t, x) ∷ []

@@ -1,7 +1,5 @@
 -- Offers of what a text keeps.
-use Rattle.serf_agent.proofs.Names.{◌≡◌, ℕ, ◌+◌, ◌<◌, ◌≤◌, List, [], ◌∷◌, map, sym, subst, arith, All, All-cons, All-head, All-nil, All-tail, All-weaker, TimedEntry}
-use Rattle.serf_window.specs.declared.recall.Offer.{Offer}
-use Rattle.serf_window.specs.Recall.{entries_offered, entry_offered}
+use Rattle.serf_agent.proofs.Names.{List, [], arith, map, subst, sym, ℕ, ◌+◌, ◌<◌, ◌∷◌, ◌≡◌, ◌≤◌, All-cons, All-head, All-nil, All-tail, All-weaker, All, entries_offered, entry_offered, TimedEntry, Offer}
 
 unmapped : {A B : Type 0} (P : B → Type 0) (f : A → B) (xs : List A) → All P (map f xs) → All (λ x. P (f x)) xs
 unmapped {A} P f [] h = All-nil (λ (x : A). P (f x))

@@ -1,36 +1,9 @@
 -- What an agent's text says of queries, after each act: those that it said before, and those that entered.
-use Rattle.serf_agent.proofs.Names.{◌≡◌, ℕ, ◌+◌, ◌-◌, ◌^◌, ◌<◌, ◌≤◌, nat_le, cond, Bool, true, false, List, [], ◌∷◌, ◌++◌, Option, Some, None, IfSome, MatchBool, option_map, refl, sym, subst, ap, ◌∙◌, arith, map, All, All-cons, All-head, All-nil, All-push, All-tail, All-weaker, EventBody, TimedEntry, ClockKind, clock_line, compaction_of, last_clock, last_line, slots_of, Device, SnapshotView, Writing, Kept, Failed, MayWrite, opened, written}
-use Rattle.std.specs.Prelude.{Contains, IsSome}
-use Rattle.std.proofs.lemmas.List.Elements.{All-append, All-contains, All-contains_itself}
-use Rattle.serf_snap.specs.declared.kept.KeptQuery.{KeptQuery}
-use Rattle.serf_snap.specs.declared.kept.Wanted.{Wanted}
+use Rattle.serf_agent.proofs.Names.{Bool, IfSome, List, MatchBool, None, Option, Some, [], ap, arith, cond, false, map, nat_le, refl, subst, sym, true, ℕ, ◌++◌, ◌+◌, ◌-◌, ◌<◌, ◌^◌, ◌∙◌, ◌∷◌, ◌≡◌, ◌≤◌, map-append, All-append, All-cons, All-contains, All-contains_itself, All-head, All-nil, All-push, All-tail, All-weaker, option_map, All, Contains, IsSome, EventBody, clock_line, compacted_text, is_whole, last_clock, sealed, Device, FailurePlan, event_line, if_query_wanted, is_query_wanted, kept_clock_line, kept_query, least_in, least_line, queries_in, query_line, kept_bytes, kept_compaction_of, Failed, Kept, MayReplaceBy, MayWrite, SnapshotView, Writing, compaction_of, last_line, note_fails, opened, text_replaced, written, KeptQuery, Wanted, ClockKind, TimedEntry, slots_of, told_event, IdealAgent, Past, with_config, IsMet, AreTold, held_from, kept_lines, least_told, lines_told, IsDurable, IsTellable, MayGoOn, queries_reached, IsIdTold, kept_queries, line_of_event, query_entry, whatever, Act, Asks, Closes, Compacts, Fires, Gets, Hears, MayAct, Opens, Saves, Takes, after, told_query, restarted, restarted_by, unopened, KeepsOnly, OpensOn, SaidLaws, SaysQueries, IsSound, told_lines, MayNote, noted_with, text_with, queries_entered, of_life, view_of}
 use Rattle.serf_snap.specs.declared.kind.ClockKind.TheVariants as kinds
-use Rattle.serf_snap.specs.Clocks.{compacted_text, is_whole, sealed}
-use Rattle.serf_snap.specs.Device.{FailurePlan}
-use Rattle.serf_snap.specs.EventLines.{event_line, if_query_wanted, is_query_wanted, kept_clock_line, kept_query, least_in, least_line, queries_in, query_line}
-use Rattle.serf_snap.specs.KeptNotes.{kept_bytes, kept_compaction_of}
-use Rattle.serf_snap.specs.Notes.{MayReplaceBy, note_fails, text_replaced}
-use Rattle.serf_agent.specs.Events.{told_event}
-use Rattle.serf_agent.specs.Ideal.{IdealAgent, Past, with_config}
-use Rattle.serf_agent.specs.Kept.{IsMet}
-use Rattle.serf_agent.specs.KeptLines.{AreTold, held_from, kept_lines, least_told, lines_told}
-use Rattle.serf_agent.specs.KeptLives.{IsDurable, IsTellable, MayGoOn}
-use Rattle.serf_agent.specs.KeptRestart.{queries_reached}
-use Rattle.serf_agent.specs.KeptTexts.{IsIdTold, kept_queries, line_of_event, query_entry, whatever}
-use Rattle.serf_agent.specs.Lives.{Act, Fires, Asks, Gets, Hears, Takes, Saves, Compacts, Closes, Opens, MayAct, after}
-use Rattle.serf_agent.specs.Queries.{told_query}
-use Rattle.serf_agent.specs.Restart.{restarted, restarted_by, unopened}
-use Rattle.serf_agent.specs.Said.{KeepsOnly, OpensOn, SaidLaws, SaysQueries}
-use Rattle.serf_agent.specs.Sound.{IsSound}
-use Rattle.serf_agent.specs.States.{told_lines}
-use Rattle.serf_agent.specs.Told.{MayNote, noted_with, text_with}
-use Rattle.serf_agent.specs.TrackOf.{queries_entered}
-use Rattle.serf_agent.specs.Tracks.{of_life}
-use Rattle.serf_agent.specs.View.{view_of}
 use Rattle.serf_agent.proofs.ActMoves.{IsNoted, Noting, acts, compacted, heard}
 use Rattle.serf_agent.proofs.DurableLaws.{replaced-holds, opened-durable}
 use Rattle.serf_agent.proofs.HandsOutLaws.{BelowHandsOut}
-use Rattle.std.proofs.lemmas.List.{map-append}
 use Rattle.serf_agent.proofs.KeptCompactionLaws.{only-entered}
 use Rattle.serf_agent.proofs.KeptRestartLaws.{among}
 use Rattle.serf_agent.proofs.KeptStepLaws.{grown-durable}

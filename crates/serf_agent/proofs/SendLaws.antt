@@ -1,10 +1,7 @@
 -- What an agent sends of itself.
-use Rattle.serf_agent.proofs.Names.{◌≡◌, ◌≢◌, ◌↔◌, ℕ, Bool, true, false, cond, IsTrue, IsOk, List, [], ◌∷◌, map, Result, Ok, Err, refl, sym, ap, subst, ◌∙◌, EncodeFault, EventBody, TimeSlot, canonical, has_long, PushPull, push_pull, slot_content, SlotContent, slot_view}
+use Rattle.serf_agent.proofs.Names.{Bool, Err, IsOk, IsTrue, List, Ok, Result, [], ap, cond, false, map, refl, subst, sym, true, ℕ, ◌↔◌, ◌∙◌, ◌∷◌, ◌≡◌, ◌≢◌, canonical, has_long, PushPull, push_pull, slot_content, SlotContent, EncodeFault, EventBody, TimeSlot, slot_view, send_state, slot_sent, state_of, ConcreteState, PushPullFault}
 use Rattle.serf_wire.specs.declared.encode.EncodeFault.TheVariants as encodes
-use Rattle.serf_agent.specs.declared.outcome.PushPullFault.{PushPullFault}
 use Rattle.serf_agent.specs.declared.outcome.PushPullFault.TheVariants as states
-use Rattle.serf_agent.specs.States.{send_state, slot_sent, state_of}
-use Rattle.serf_agent.specs.View.{ConcreteState}
 
 -- slots mean what is sent of them
 pub slots-sent : (slots : List (TimeSlot EventBody)) → map slot_content slots ≡ map slot_sent (map slot_view slots)

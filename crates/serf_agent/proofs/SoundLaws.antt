@@ -1,30 +1,9 @@
 -- Each change of a sound agent leaves a sound agent.
-use Rattle.serf_agent.proofs.Names.{◌≡◌, ◌≢◌, ℕ, ◌+◌, ◌-◌, ◌^◌, ◌<◌, ◌≤◌, ◌==◌, ◌&&◌, nat_lt, nat_le, nat_eq, max, not, cond, Bool, true, false, List, [], ◌∷◌, ◌++◌, Option, Some, None, MatchBool, refl, sym, subst, arith, inl, inr, All, AllPairs, cases_Bool, leb-true, leb-false, and_from, eq-eqb, filter, All-nil, All-push, All-weaker, All-filter, AllPairs-filter, all_pairs_push, bytes_eq-Decides, EventBody, TimedEntry, PushPull, Query, QueryResponse, same_texts, same_id, ClockKind, clock_line, last_clock, Device, SnapshotView, Writing, Kept, Failed, last_line, noted, written, KeepsPart, MayWrite, opened, ltb-false}
+use Rattle.serf_agent.proofs.Names.{Bool, List, MatchBool, None, Option, Some, [], arith, cond, false, filter, inl, inr, max, nat_eq, nat_le, nat_lt, not, refl, subst, sym, true, ℕ, ◌&&◌, ◌++◌, ◌+◌, ◌-◌, ◌<◌, ◌==◌, ◌^◌, ◌∷◌, ◌≡◌, ◌≢◌, ◌≤◌, and_from, cases_Bool, eq-eqb, leb-false, leb-true, ltb-false, All-filter, All-nil, All-push, All-weaker, AllPairs-filter, all_pairs_push, bytes_eq-Decides, All, AllPairs, Contains, PushPull, Query, QueryResponse, EventBody, clock_line, last_clock, Device, event_line, least_in, least_line, query_line, SaysNoClock, kept_noted, Failed, IsSnapshotSound, KeepsPart, Kept, MayReplaceBy, MayWrite, SnapshotView, Writing, last_line, noted, opened, text_replaced, written, ClockKind, same_id, same_texts, TimedEntry, ended, is_sound, admission, event_entered, event_observed, texts_len, told_event, IdealAgent, Past, Track, with_asked, with_config, with_events, with_queries, with_snapshot, KeptRestartLaws, held_from, kept_lines, least_told, lines_told, stored_lines, kept_events, kept_queries, line_of_event, whatever, ack_ignore_reason, answer_ignore_reason, asked_at, close_due, has_acked, has_responded, is_ack, is_due, opened_query, query_admission, query_asked, query_entered, query_observed, response_ignore_reason, told_query, with_asked_at, HasPast, restarted, restarted_by, unopened, SnapshotLaws, IsOpenQuerySound, IsSound, hear, heard_by, joined, told_least, told_lines, AreQuiet, MayNote, bytes_with, noted_with, text_with, ConcreteTrack, IsTrackSound, track_entered, track_observed, track_reason, ConcreteState, view_of, Config, OpenQuery, Reason, AckNotAsked, AckTwice, Closed, OtherId, ResponseTwice}
 use Rattle.serf_snap.specs.declared.kind.ClockKind.TheVariants as kinds
-use Rattle.serf_snap.specs.KeptNotes.{SaysNoClock, kept_noted}
-use Rattle.serf_snap.specs.Notes.{IsSnapshotSound, MayReplaceBy, text_replaced}
-use Rattle.std.specs.Prelude.{◌⊎◌, Contains}
-use Rattle.serf_snap.specs.EventLines.{event_line, least_in, least_line, query_line}
-use Rattle.serf_agent.specs.KeptLines.{held_from, kept_lines, least_told, lines_told, stored_lines}
-use Rattle.serf_agent.specs.KeptLaws.{KeptRestartLaws}
-use Rattle.serf_agent.specs.KeptTexts.{kept_events, kept_queries, line_of_event, whatever}
-use Rattle.serf_agent.specs.Snapshots.{SnapshotLaws}
-use Rattle.serf_agent.specs.Config.{is_sound}
-use Rattle.serf_agent.specs.declared.config.Config.{Config}
-use Rattle.serf_agent.specs.declared.open_query.OpenQuery.{OpenQuery}
-use Rattle.serf_agent.specs.Events.{admission, event_observed, event_entered, texts_len, told_event}
-use Rattle.serf_agent.specs.Queries.{query_admission, query_observed, query_entered, query_asked, opened_query, is_due, asked_at, with_asked_at, close_due, counted, is_ack, answer_ignore_reason, ack_ignore_reason, response_ignore_reason, has_acked, has_responded, told_query}
-use Rattle.serf_agent.specs.Ideal.{IdealAgent, Past, Track, with_config, with_events, with_queries, with_snapshot, with_asked}
-use Rattle.serf_agent.specs.Restart.{HasPast, restarted, restarted_by, unopened}
-use Rattle.serf_agent.specs.Sound.{IsSound, IsOpenQuerySound}
-use Rattle.serf_agent.specs.Calls.{ended}
-use Rattle.serf_agent.specs.States.{hear, heard_by, joined, told_least, told_lines}
-use Rattle.serf_agent.specs.Told.{AreQuiet, MayNote, bytes_with, noted_with, text_with}
-use Rattle.serf_agent.specs.View.{ConcreteState, view_of}
-use Rattle.serf_agent.specs.Tracks.{ConcreteTrack, track_entered, track_observed, track_reason, IsTrackSound}
+use Rattle.std.specs.Prelude.{◌⊎◌}
+use Rattle.serf_agent.specs.Queries.{counted}
 use Rattle.serf_agent.proofs.TrackLaws.{track-entered, track-observed, track-raised, track-reopened, unknown-fresh, later-fresh, no-reason, none-from}
-use Rattle.serf_agent.specs.declared.outcome.Reason.{Reason}
-use Rattle.serf_agent.specs.declared.outcome.Reason.TheVariants.{OtherId, Closed, AckNotAsked, AckTwice, ResponseTwice}
 use Rattle.serf_agent.specs.declared.lists.Response.{Response as ResponseText}
 use Rattle.serf_agent.proofs.OpenQueries.{set_value-keys, set_value-values, set_value-distinct, lookup-each, unlike-each}
 

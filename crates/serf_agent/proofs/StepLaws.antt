@@ -1,32 +1,11 @@
 -- How a call of the ideal agent ends, by how the real one's ended.
-use Rattle.serf_agent.proofs.Names.{◌≡◌, ℕ, ◌-◌, ◌^◌, ◌<◌, ◌≤◌, nat_lt, nat_le, not, length, Bool, false, List, Option, Some, None, Result, Ok, Err, refl, sym, subst, arith, EventBody, ClockKind, Device, Kept, Failed, written, WireFault, Message, Query, QueryResponse, UserEvent, or_parts, ltb-false, lt-leb}
-use Rattle.serf_wire.specs.Decoded.{event_in}
-use Rattle.serf_wire.specs.Message.{user_event, query, query_response, push_pull, foreign}
+use Rattle.serf_agent.proofs.Names.{Bool, Err, List, None, Ok, Option, Result, Some, arith, false, length, nat_le, nat_lt, not, refl, subst, sym, ℕ, ◌-◌, ◌<◌, ◌^◌, ◌≡◌, ◌≤◌, lt-leb, ltb-false, or_parts, event_in, Message, Query, QueryResponse, UserEvent, foreign, push_pull, query, query_response, user_event, WireFault, EventBody, Device, FailsLine, Failed, Kept, written, ClockKind, Ends, Notes, Step, answers, admission, drawn, event_entered, event_observed, event_out, event_packet, fire, fire_fault, fired_as, is_too_large, receive_event, received_as, texts_len, told_event, IdealAgent, with_asked, with_snapshot, ack_if_passed, answer_ignore_reason, asked_at, counted_as, counts, fire_query, fired_query, handed_if_passed, has_flag, is_ack, is_full, is_no_timeout, is_too_large_query, no_broadcast_flag, query_admission, query_asked, query_at, query_entered, query_fault, query_fired_as, query_observed, query_received_as, receive_query, receive_response, response_received_as, response_received_at, told_query, with_asked_at, SnapshotLaws, IsSound, Steps, MayNote, bytes_with, device_noted, noted_with, AgentState, view_of, OpenQuery, FireFault, Fired, FiredQuery, Outcome, QueryFault, QueryParams, Reason, ReceiveFault, SinkFault}
 use Rattle.serf_snap.specs.declared.kind.ClockKind.TheVariants as kinds
-use Rattle.serf_agent.specs.Snapshots.{SnapshotLaws}
-use Rattle.serf_agent.specs.declared.outcome.Fired.{Fired}
-use Rattle.serf_agent.specs.declared.outcome.FireFault.{FireFault}
 use Rattle.serf_agent.specs.declared.outcome.FireFault.TheVariants as fires
-use Rattle.serf_agent.specs.declared.outcome.Outcome.{Outcome}
 use Rattle.serf_agent.specs.declared.outcome.Outcome.TheVariants as outcomes
-use Rattle.serf_agent.specs.declared.outcome.FiredQuery.{FiredQuery}
-use Rattle.serf_agent.specs.declared.outcome.QueryFault.{QueryFault}
 use Rattle.serf_agent.specs.declared.outcome.QueryFault.TheVariants as asks_faults
-use Rattle.serf_agent.specs.declared.outcome.QueryParams.{QueryParams}
-use Rattle.serf_agent.specs.declared.outcome.Reason.{Reason}
-use Rattle.serf_agent.specs.declared.outcome.ReceiveFault.{ReceiveFault}
-use Rattle.serf_agent.specs.declared.outcome.ReceiveFault.TheVariants.{SinkFault}
-use Rattle.serf_agent.specs.Calls.{Ends, Notes, Step, answers}
-use Rattle.serf_snap.specs.Ends.{FailsLine}
-use Rattle.serf_agent.specs.Events.{admission, event_observed, event_entered, event_out, event_packet, received_as, receive_event, fire_fault, fired_as, fire, texts_len, told_event, is_too_large, drawn}
-use Rattle.serf_agent.specs.declared.open_query.OpenQuery.{OpenQuery}
-use Rattle.serf_agent.specs.Queries.{ack_if_passed, handed_if_passed, has_flag, no_broadcast_flag, query_admission, query_entered, query_observed, query_received_as, receive_query, answer_ignore_reason, asked_at, counted, counted_as, counts, fire_query, fired_query, is_ack, is_full, is_no_timeout, is_too_large_query, query_asked, query_at, query_fault, query_fired_as, receive_response, response_received_as, response_received_at, told_query, with_asked_at}
-use Rattle.serf_agent.specs.Ideal.{IdealAgent, with_asked, with_snapshot}
-use Rattle.serf_agent.specs.Sound.{IsSound}
-use Rattle.serf_agent.specs.Steps.{Steps}
-use Rattle.serf_agent.specs.Told.{MayNote, bytes_with, device_noted, noted_with}
+use Rattle.serf_agent.specs.Queries.{counted}
 use Rattle.serf_agent.proofs.ConfigLaws.{limit-sound}
-use Rattle.serf_agent.specs.View.{AgentState, view_of}
 use Rattle.serf_agent.proofs.SoundLaws.{admission-new, sound-event_observed, sound-event_entered, sound-note_failed, sound-query_observed, sound-query_entered, query_admission-new, sound-counted, sound-query_asked}
 use Rattle.serf_agent.proofs.TrackLaws.{later-fresh}
 

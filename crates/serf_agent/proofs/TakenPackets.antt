@@ -1,17 +1,7 @@
 -- What is left where a packet is taken: of one call by what is left of another, and of a call that answers nothing.
-use Rattle.serf_agent.proofs.Names.{◌≡◌, ◌≢◌, true, false, cond, Bool, List, ℕ, Option, Result, Ok, Err, refl, sym, subst, ap, ◌∙◌, Message, QueryResponse, WireFault, decoded}
-use Rattle.serf_agent.specs.declared.outcome.Outcome.{Outcome}
+use Rattle.serf_agent.proofs.Names.{Bool, Err, List, Ok, Option, Result, ap, cond, false, refl, subst, sym, true, ℕ, ◌∙◌, ◌≡◌, ◌≢◌, decoded, Message, QueryResponse, WireFault, CountsAnswer, answer_read, Call, answers, IdealAgent, TakesMemory, receive, receive_read, IsSound, Steps, TakesPacket, AgentState, ConcreteState, view_of, Outcome, ReceiveFault}
 use Rattle.serf_agent.specs.declared.outcome.Outcome.TheVariants as outcomes
-use Rattle.serf_agent.specs.declared.outcome.ReceiveFault.{ReceiveFault}
 use Rattle.serf_agent.specs.declared.outcome.ReceiveFault.TheVariants as faults
-use Rattle.serf_agent.specs.Answers.{CountsAnswer, answer_read}
-use Rattle.serf_agent.specs.Calls.{Call, answers}
-use Rattle.serf_agent.specs.Ideal.{IdealAgent}
-use Rattle.serf_agent.specs.Receive.{TakesMemory, receive_read, receive}
-use Rattle.serf_agent.specs.Sound.{IsSound}
-use Rattle.serf_agent.specs.Steps.{Steps}
-use Rattle.serf_agent.specs.TakesPacket.{TakesPacket}
-use Rattle.serf_agent.specs.View.{AgentState, ConcreteState, view_of}
 
 pub same-call : (call other : IdealAgent → Call (Result Outcome ReceiveFault)) (answer more : Option QueryResponse) (old new : AgentState) (r : Result Outcome ReceiveFault) → ((i : IdealAgent) → old.concrete ≡ view_of i → call i ≡ other i) → answer ≡ more → TakesPacket call answer old new r → TakesPacket other more old new r
 same-call call other answer more old new r same is taken = record {

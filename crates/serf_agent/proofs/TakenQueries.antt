@@ -1,8 +1,5 @@
 -- Due queries, moved out of a list one after another, while others of their deadlines stand in their places.
-use Rattle.serf_agent.proofs.Names.{◌≡◌, ℕ, zero, suc, ◌+◌, ◌<◌, not, cond, Bool, true, false, List, [], ◌∷◌, ◌++◌, length, map, length-append, filter, filter-append, filter_more, take, take-append-drop, append-nil, nat_lt, inl, inr, drop, drop_more_same, get_or, get_or-drop, get_or_from_slice_get, slice_get, slice_get_within, slice_get_cases, set_value_at, add-one, Option, Some, IfSome, refl, sym, ◌∙◌, ap, subst, arith}
-use Rattle.serf_agent.specs.declared.open_query.OpenQuery.{OpenQuery}
-use Rattle.serf_agent.specs.Inside.{IsTaken}
-use Rattle.serf_agent.specs.Queries.{is_due}
+use Rattle.serf_agent.proofs.Names.{Bool, IfSome, List, Option, Some, [], ap, append-nil, arith, cond, drop, false, filter, get_or, inl, inr, length, length-append, map, nat_lt, not, refl, subst, suc, sym, take, true, zero, ℕ, ◌++◌, ◌+◌, ◌<◌, ◌∙◌, ◌∷◌, ◌≡◌, add-one, drop_more_same, get_or-drop, take-append-drop, filter-append, filter_more, get_or_from_slice_get, slice_get_cases, slice_get_within, slice_get, set_value_at, IsTaken, is_due, OpenQuery}
 
 -- a value written at an index leaves the length, what lies behind it, and what passes a test that it fails before and after
 length-set : {K X : Type 0} (es : List (K × X)) (i : ℕ) (w : X) → length (set_value_at es i w) ≡ length es

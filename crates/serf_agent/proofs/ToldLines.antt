@@ -1,19 +1,7 @@
 -- The lines of what slots hold, as they are lent and as they are stored, and how long they are.
-use Rattle.serf_agent.proofs.Names.{◌≡◌, ℕ, ◌++◌, Bool, true, false, cond, List, [], ◌∷◌, map, flat_map, nat_lt, refl, sym, ap, ◌∙◌, append_assoc, TimedEntry, SlotOf, slot_view, ◌≤◌, ◌<◌, ◌+◌, ◌-◌, ◌^◌, ◌&&◌, nat_le, length, length-append, min, arith, IfSome, Option, Some, None, subst, leb-false, lt-leb, ClockKind, SnapshotView}
-use Rattle.std.specs.Prelude.{◌*◌, ◌==◌}
-use Rattle.serf_wire.specs.Buffers.{slot_in_memory}
-use Rattle.serf_wire.specs.declared.texts.TimeSlot.{TimeSlot}
+use Rattle.serf_agent.proofs.Names.{Bool, IfSome, List, None, Option, Some, [], ap, append_assoc, arith, cond, false, length, length-append, map, min, nat_le, nat_lt, refl, subst, sym, true, ℕ, ◌&&◌, ◌++◌, ◌+◌, ◌-◌, ◌<◌, ◌^◌, ◌∙◌, ◌∷◌, ◌≡◌, ◌≤◌, leb-false, lt-leb, flat_map, ◌*◌, slot_in_memory, TimeSlot, clock_line, line_above_zero, counted, is_worth_replacing, kept_clock_line, least_line, kept_compaction_of, kept_line_above_zero, lines_given, SnapshotView, compaction_of, ClockKind, slot_view, SlotOf, TimedEntry, held_from, held_in, kept_lines, least_told, lines_of_slot, lines_told, stored_lines, told_lines, text_with, ConcreteTrack, ConcreteState}
+use Rattle.std.specs.Prelude.{◌==◌}
 use Rattle.serf_snap.specs.declared.kind.ClockKind.TheVariants as kinds
-use Rattle.serf_snap.specs.Clocks.{clock_line, line_above_zero}
-use Rattle.serf_snap.specs.Compaction.{counted, is_worth_replacing}
-use Rattle.serf_snap.specs.EventLines.{kept_clock_line, least_line}
-use Rattle.serf_snap.specs.KeptNotes.{kept_compaction_of, kept_line_above_zero, lines_given}
-use Rattle.serf_snap.specs.Notes.{compaction_of}
-use Rattle.serf_agent.specs.KeptLines.{held_from, held_in, kept_lines, least_told, lines_of_slot, lines_told, stored_lines}
-use Rattle.serf_agent.specs.States.{told_lines}
-use Rattle.serf_agent.specs.Told.{text_with}
-use Rattle.serf_agent.specs.Tracks.{ConcreteTrack}
-use Rattle.serf_agent.specs.View.{ConcreteState}
 
 -- the lines of two lists of entries, and of the keys of a time
 told-append : {K : Type 0} (line : ℕ → K → List ℕ) (xs ys : List (TimedEntry K)) → lines_told line (xs ++ ys) ≡ lines_told line xs ++ lines_told line ys

@@ -1,12 +1,6 @@
 -- What a sound track stays, and that its window decides as its whole history does.
-use Rattle.serf_agent.proofs.Names.{◌≡◌, ◌≢◌, ℕ, ◌+◌, ◌<◌, ◌≤◌, ◌==◌, ◌&&◌, ◌||◌, ◌%◌, inl, inr, nat_lt, nat_le, max, cond, Bool, true, false, List, [], ◌∷◌, ◌++◌, length, Option, Some, None, refl, sym, ◌∙◌, ap, subst, arith, All, cases_Bool, eqb-false, eq-eqb, ne_eqb, true≢false, or_parts, and_from, ltb-false, filter, All-filter, All-nil, All-cons, All-head, All-tail, All-push, All-weaker, all_pairs_push, get_or-map-range_with_len, length-map-range_with_len, observed, Verdict, TimedEntry, SlotOf, greatest_time, entries_of, slots_of, was_entered, count_at, verdict_of, TimesBelow}
-use Rattle.std.proofs.lemmas.List.Elements.{All-map}
-use Rattle.serf_window.specs.Window.{slot_of}
-use Rattle.serf_agent.specs.declared.outcome.Reason.{Reason}
-use Rattle.serf_agent.specs.declared.outcome.Reason.TheVariants.{BelowMinimum, TooOld, Seen, TimeFull}
-use Rattle.serf_agent.specs.Ideal.{Past, Track}
-use Rattle.serf_agent.specs.Tracks.{of_life, was_ever_entered, track_reason, track_observed, track_entered, track_raised, track_reopened, ConcreteTrack, view_of_track, IsTrackSound}
-use Rattle.serf_agent.specs.Reasons.{reason_for}
+use Rattle.serf_agent.proofs.Names.{Bool, List, None, Option, Some, [], ap, arith, cond, false, filter, inl, inr, length, max, nat_le, nat_lt, refl, subst, sym, true, ℕ, ◌%◌, ◌&&◌, ◌++◌, ◌+◌, ◌<◌, ◌==◌, ◌||◌, ◌∙◌, ◌∷◌, ◌≡◌, ◌≢◌, ◌≤◌, and_from, cases_Bool, eq-eqb, eqb-false, ltb-false, ne_eqb, or_parts, true≢false, All-cons, All-filter, All-head, All-map, All-nil, All-push, All-tail, All-weaker, get_or-map-range_with_len, length-map-range_with_len, all_pairs_push, All, observed, SlotOf, TimedEntry, TimesBelow, count_at, entries_of, greatest_time, slot_of, slots_of, verdict_of, was_entered, Verdict, Past, Track, reason_for, ConcreteTrack, IsTrackSound, of_life, track_entered, track_observed, track_raised, track_reason, track_reopened, view_of_track, was_ever_entered, Reason, BelowMinimum}
+use Rattle.serf_agent.specs.declared.outcome.Reason.TheVariants.{TooOld, Seen, TimeFull}
 
 -- ---- a sound track stays sound
 

@@ -1,21 +1,6 @@
 -- What is durable of an agent that keeps no events: its clock lines say that all up to them was handed out.
-use Rattle.serf_agent.proofs.Names.{◌≡◌, ◌≢◌, ℕ, ◌+◌, ◌-◌, ◌^◌, ◌<◌, ◌≤◌, ◌⊎◌, ◌==◌, inl, inr, max, nat_le, cond, Bool, true, false, List, [], ◌∷◌, ◌++◌, Some, map, refl, sym, subst, ap, ◌∙◌, append-nil, arith, All-push, All-weaker, eqb-false, leb-false, leb-true, EventBody, TimedEntry, ClockKind, clock_line, Device, Kept, compaction_of, noted, opened, written}
-use Rattle.std.specs.Prelude.{Contains}
-use Rattle.std.proofs.lemmas.Bool.{eqb-true}
-use Rattle.serf_snap.specs.declared.kept.Wanted.{Wanted}
+use Rattle.serf_agent.proofs.Names.{Bool, List, Some, [], ap, append-nil, arith, cond, false, inl, inr, map, max, nat_le, refl, subst, sym, true, ℕ, ◌++◌, ◌+◌, ◌-◌, ◌<◌, ◌==◌, ◌^◌, ◌∙◌, ◌∷◌, ◌≡◌, ◌≢◌, ◌≤◌, ◌⊎◌, eqb-false, eqb-true, leb-false, leb-true, All-push, All-weaker, Contains, EventBody, clock_line, compacted_text, is_whole, line_above_zero, lines_of, sealed, Device, events_in, least_in, least_of_lines, queries_in, AreTimes, IsSnapshotSound, Kept, compaction_of, noted, opened, written, Wanted, ClockKind, TimedEntry, event_entered, IdealAgent, Past, with_snapshot, HasKept, AreKept, KeptEventLaws, KeptQueryLaws, event_entry, kept_events, kept_queries, query_entry, whatever, query_entered, restarted, restarted_by, IsSound, HasSaid, IsSaid, IsSaidSound, UnkeptLaws}
 use Rattle.serf_snap.specs.declared.kind.ClockKind.TheVariants as kinds
-use Rattle.serf_snap.specs.Clocks.{compacted_text, is_whole, line_above_zero, sealed}
-use Rattle.serf_snap.specs.EventLines.{least_in, least_of_lines, events_in, queries_in}
-use Rattle.serf_snap.specs.Clocks.{lines_of}
-use Rattle.serf_snap.specs.Notes.{AreTimes, IsSnapshotSound}
-use Rattle.serf_agent.specs.Events.{event_entered}
-use Rattle.serf_agent.specs.Ideal.{IdealAgent, Past, with_snapshot}
-use Rattle.serf_agent.specs.KeptRestart.{HasKept}
-use Rattle.serf_agent.specs.KeptTexts.{AreKept, KeptEventLaws, KeptQueryLaws, event_entry, kept_events, kept_queries, query_entry, whatever}
-use Rattle.serf_agent.specs.Queries.{query_entered}
-use Rattle.serf_agent.specs.Restart.{restarted, restarted_by}
-use Rattle.serf_agent.specs.Sound.{IsSound}
-use Rattle.serf_agent.specs.Unkept.{HasSaid, IsSaid, IsSaidSound, UnkeptLaws}
 use Rattle.serf_agent.proofs.KeptRestartLaws.{sealed-kept}
 use Rattle.serf_agent.proofs.KeptStepLaws.{appended}
 

@@ -1,38 +1,10 @@
 -- What a sink shows of its bytes changes nothing of what an agent does.
-use Rattle.serf_agent.proofs.Names.{◌≡◌, ◌≢◌, ◌<◌, ◌≤◌, All, AllPairs, TimedEntry, ℕ, ◌==◌, Bool, cond, true, false, List, [], ◌∷◌, ◌++◌, append-nil, map, Option, Some, None, IfSome, MatchBool, option_map, Result, Ok, Err, refl, sym, ap, subst, ◌∙◌, inl, inr, nat_le, WireFault, EventBody, decoded, Message, PushPull, Query, QueryResponse, user_event, query, query_response, push_pull, foreign, ClockKind, Device, KeepsPart, KeepsEither, NoteFault, SnapshotView, Writing, Kept, Failed, last_line, MayWrite, clock_line, event_of, written}
-use Rattle.serf_snap.specs.Device.{FailurePlan, Observable, fresh_device}
-use Rattle.serf_snap.specs.KeptNotes.{kept_bytes}
-use Rattle.serf_snap.specs.Notes.{MayReplaceBy, durable_left_by, note_fails}
-use Rattle.serf_agent.specs.declared.config.Config.{Config}
-use Rattle.serf_agent.specs.declared.open_query.OpenQuery.{OpenQuery}
-use Rattle.serf_agent.specs.declared.outcome.Fired.{Fired}
-use Rattle.serf_agent.specs.declared.outcome.FireFault.{FireFault}
-use Rattle.serf_agent.specs.declared.outcome.FiredQuery.{FiredQuery}
-use Rattle.serf_agent.specs.declared.outcome.MergeFault.{MergeFault}
-use Rattle.serf_agent.specs.declared.outcome.QueryFault.{QueryFault}
-use Rattle.serf_agent.specs.declared.outcome.Reason.{Reason}
-use Rattle.serf_agent.specs.declared.outcome.Outcome.{Outcome}
-use Rattle.serf_agent.specs.declared.outcome.ReceiveFault.{ReceiveFault}
+use Rattle.serf_agent.proofs.Names.{Bool, Err, IfSome, List, MatchBool, None, Ok, Option, Result, Some, [], ap, append-nil, cond, false, inl, inr, map, nat_le, refl, subst, sym, true, ℕ, ◌++◌, ◌<◌, ◌==◌, ◌∙◌, ◌∷◌, ◌≡◌, ◌≢◌, ◌≤◌, option_map, All, AllPairs, decoded, Message, PushPull, Query, QueryResponse, foreign, push_pull, query, query_response, user_event, WireFault, EventBody, clock_line, Device, FailurePlan, Observable, fresh_device, kept_bytes, Failed, KeepsEither, KeepsPart, Kept, MayReplaceBy, MayWrite, SnapshotView, Writing, durable_left_by, last_line, note_fails, written, ClockKind, NoteFault, event_of, TimedEntry, AsksSink, Call, Ends, MayEnd, Notes, Replaces, Step, answers, ended, is_sound, admission, fire, fire_fault, fired_as, received_as, IdealAgent, with_snapshot, HandsOutNew, RemembersJoins, TakesNew, TakesNewQueries, BeginsDurable, DiskSuffices, IsDurable, KeepsBehind, StartsWithDurable, StaysDurable, Act, Asks, Closes, Compacts, Fires, Gets, Hears, Lived, MayAct, Opens, Saves, Takes, acted, after, asked_entries, fired_entries, first_life, got_entries, lived, OpensBehind, answer_ignore_reason, asked_at, counts_where, fire_query, is_ack, is_full, query_admission, query_at, query_fault, query_fired_as, query_received_as, response_received_as, response_received_at, receive, receive_message, receive_read, HasPast, IsSound, compact, handed_by, hear, heard_by, receive_one, save, told_least, MayNote, noted_with, text_with, TrackOf, asked_query, event_track, got_query, query_track, AsksLaterUnseen, FiresLaterUnseen, HandsOutNewUnseen, HandsOutOnceUnseen, HandsOutQueriesOnceUnseen, IsSame, IsUnseen, OpensUnseen, RemembersJoinsUnseen, TakesNewQueriesUnseen, TakesNewUnseen, UnseenLaws, hidden, hidden_call, hidden_life, hidden_snapshot, hidden_step, unseen, unseen_act, Config, OpenQuery, FireFault, Fired, FiredQuery, MergeFault, Outcome, QueryFault, QueryParams, Reason, ReceiveFault}
 use Rattle.serf_agent.specs.declared.outcome.ReceiveFault.TheVariants as receives
-use Rattle.serf_agent.specs.Calls.{Call, Ends, Notes, Replaces, Step, AsksSink, MayEnd, answers, ended}
-use Rattle.serf_agent.specs.Events.{admission, fire, fire_fault, fired_as, received_as}
-use Rattle.serf_agent.specs.Ideal.{IdealAgent, with_snapshot}
-use Rattle.serf_agent.specs.Kept.{HandsOutNew, RemembersJoins, TakesNew, TakesNewQueries}
-use Rattle.serf_agent.specs.TrackOf.{TrackOf, asked_query, event_track, got_query, query_track}
-use Rattle.serf_agent.specs.declared.outcome.QueryParams.{QueryParams}
-use Rattle.serf_agent.specs.Lives.{Act, Fires, Asks, Gets, Hears, Takes, Saves, Compacts, Closes, Opens, Lived, MayAct, acted, after, asked_entries, event_entry, fired_entries, first_life, got_entries, lived}
-use Rattle.serf_agent.specs.Queries.{answer_ignore_reason, asked_at, counts_where, fire_query, is_ack, is_full, query_admission, query_at, query_fault, query_fired_as, query_received_as, response_received_as, response_received_at}
-use Rattle.serf_agent.specs.Receive.{receive_message, receive_read, receive}
-use Rattle.serf_agent.specs.States.{compact, handed_by, hear, heard_by, receive_one, save, told_least}
-use Rattle.serf_agent.specs.Told.{MayNote, noted_with, text_with}
-use Rattle.serf_agent.specs.Sound.{IsSound}
+use Rattle.serf_agent.specs.Lives.{event_entry}
 use Rattle.serf_agent.proofs.KeptLifeLaws.{durable-lived, may-open}
 use Rattle.serf_agent.proofs.LifeLaws.{Below, keeps, keeps-first, later, once, queries_later, queries_once, text-of-flushed}
-use Rattle.serf_agent.specs.Config.{is_sound}
-use Rattle.serf_agent.specs.KeptLives.{BeginsDurable, DiskSuffices, IsDurable, KeepsBehind, StartsWithDurable, StaysDurable}
-use Rattle.serf_agent.specs.Once.{OpensBehind}
-use Rattle.serf_agent.specs.Restart.{HasPast}
-use Rattle.serf_agent.specs.Unseen.{AsksLaterUnseen, FiresLaterUnseen, HandsOutNewUnseen, HandsOutOnceUnseen, HandsOutQueriesOnceUnseen, OpensUnseen, RemembersJoinsUnseen, TakesNewQueriesUnseen, TakesNewUnseen, IsSame, IsUnseen, Seen, UnseenLaws, hidden, hidden_call, hidden_life, hidden_snapshot, hidden_step, unseen, unseen_act}
+use Rattle.serf_agent.specs.Unseen.{Seen}
 use Rattle.serf_agent.proofs.LineLaws.{compacts_so, saves_so}
 
 -- ---- how a call ends

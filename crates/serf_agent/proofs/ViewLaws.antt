@@ -1,17 +1,6 @@
 -- What an agent stores of the ideal agent, after each change.
-use Rattle.serf_agent.proofs.Names.{◌≡◌, ℕ, ◌+◌, Bool, true, false, List, [], Option, sym, ◌∙◌, ap, observed, EventBody, same_id, same_texts, slots_of, ClockKind, Device, Failed, written, opened}
+use Rattle.serf_agent.proofs.Names.{Bool, List, Option, [], ap, false, sym, true, ℕ, ◌+◌, ◌∙◌, ◌≡◌, observed, EventBody, Device, least_in, Failed, opened, written, ClockKind, same_id, same_texts, slots_of, event_observed, IdealAgent, with_snapshot, first_concrete, first_track, KeptRestartLaws, events_reached, queries_reached, restarted_kept, query_observed, restarted, restarted_by, IsSound, ConcreteTrack, view_of_track, ConcreteState, concrete_with, view_of}
 use Rattle.serf_snap.specs.declared.kind.ClockKind.TheVariants as kinds
-use Rattle.serf_snap.specs.EventLines.{least_in}
-use Rattle.serf_agent.specs.Events.{event_observed}
-use Rattle.serf_agent.specs.Ideal.{IdealAgent, with_snapshot}
-use Rattle.serf_agent.specs.Inside.{first_concrete, first_track}
-use Rattle.serf_agent.specs.KeptLaws.{KeptRestartLaws}
-use Rattle.serf_agent.specs.KeptRestart.{events_reached, queries_reached, restarted_kept}
-use Rattle.serf_agent.specs.Queries.{query_observed}
-use Rattle.serf_agent.specs.Restart.{restarted, restarted_by}
-use Rattle.serf_agent.specs.Sound.{IsSound}
-use Rattle.serf_agent.specs.Tracks.{ConcreteTrack, view_of_track}
-use Rattle.serf_agent.specs.View.{ConcreteState, view_of, concrete_with}
 use Rattle.serf_agent.proofs.TrackLaws.{of_life-none, view-observed}
 
 -- what is stored at an opening is stored of an agent that was restarted with its settings

@@ -1,5 +1,5 @@
 -- Short packets have short texts, which fit their headers.
-use Rattle.serf_agent.proofs.Names.{◌≡◌, ℕ, ◌+◌, ◌<◌, ◌≤◌, inl, inr, nat_lt, length, Bool, false, List, [], ◌∷◌, refl, arith, length-append, list_any, flat_map, cases_Bool, lt-leb, raw_head, raw_bytes, canonical, has_long, is_long, Query, query, user_event_of, response_of}
+use Rattle.serf_agent.proofs.Names.{Bool, List, [], arith, false, inl, inr, length, length-append, nat_lt, refl, ℕ, ◌+◌, ◌<◌, ◌∷◌, ◌≡◌, ◌≤◌, cases_Bool, lt-leb, flat_map, list_any, raw_bytes, raw_head, is_long, canonical, has_long, Query, query, response_of, user_event_of}
 
 short-fits : {X : Type 0} (xs : List X) → length xs ≤ 9216 → is_long xs ≡ false
 short-fits xs short = lt-leb 4294967296 (length xs) (omega arith)

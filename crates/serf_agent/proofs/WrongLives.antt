@@ -1,18 +1,6 @@
 -- Small lives that break what is promised of lives, and the proofs that the promises refuse them. A definition that is changed so that it
 -- promises nothing doesn't pass here.
-use Rattle.serf_agent.proofs.Names.{◌≡◌, ℕ, ◌<◌, ◌≤◌, ◌⊎◌, inl, inr, nat_lt, true, false, List, [], ◌∷◌, None, length, filter, refl, subst, arith, All, All-head, All-nil, EventBody, TimedEntry, decoded, Device, Kept}
-use Rattle.std.specs.Prelude.{codes}
-use Rattle.std.proofs.lemmas.List.Elements.{filter_passes}
-use Rattle.serf_agent.specs.declared.config.Config.{Config}
-use Rattle.serf_agent.specs.Ideal.{IdealAgent, Past}
-use Rattle.serf_agent.specs.Kept.{HasMet, IsFull, IsMet, KeepsSettings, TakesNewBy}
-use Rattle.serf_agent.specs.Config.{is_sound}
-use Rattle.serf_agent.specs.KeptLives.{MayGoOnLives}
-use Rattle.serf_agent.specs.Lives.{Act, Gets, Takes, events_out, first_life}
-use Rattle.serf_agent.specs.TrackOf.{BringsQuery, event_track, queries_entered, query_track}
-use Rattle.serf_agent.specs.Restart.{HasPast}
-use Rattle.serf_agent.specs.Sound.{IsSound}
-use Rattle.serf_agent.specs.Unseen.{unseen_life}
+use Rattle.serf_agent.proofs.Names.{List, None, [], arith, false, filter, inl, inr, length, nat_lt, refl, subst, true, ℕ, ◌<◌, ◌∷◌, ◌≡◌, ◌≤◌, ◌⊎◌, All-head, All-nil, filter_passes, All, codes, decoded, EventBody, Device, Kept, TimedEntry, is_sound, IdealAgent, Past, HasMet, IsFull, IsMet, KeepsSettings, TakesNewBy, MayGoOnLives, Act, Gets, Takes, events_out, first_life, HasPast, IsSound, BringsQuery, event_track, queries_entered, query_track, unseen_life, Config}
 
 -- An agent that hands out only what is above its last clock line, as one that keeps no events does behind a restart.
 abbrev pub above-last : IdealAgent → Act → List (TimedEntry EventBody)

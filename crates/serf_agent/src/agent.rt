@@ -121,6 +121,7 @@ impl<S: Sink> Agent<S> {
         ensures decremented { IfErr result (λ e. e.fault ≡ OpenFault.SinkFault
             → (S.device e.sink).plan ≡ option_map note_decremented (S.device sink).plan) }
     {
+        // (for the proof: what is known of the snapshot is what its sink keeps)
         sound_snapshots();
         kept_restart_laws();
         if !config.is_sound() {

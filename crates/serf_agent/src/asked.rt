@@ -46,7 +46,7 @@ impl Asked {
         }
     }
 
-    /// The open query of a time. Takes no memory.
+    /// The open query that was fired at `time`, if there is one. Takes no memory.
     pub(crate) fn get(&self, time: u64) -> Option<&OpenQuery>
         ensures { option_copied result ≡ asked_at time self.now }
     {
@@ -67,7 +67,7 @@ impl Asked {
         self.queries.values().as_slice()
     }
 
-    /// Adds a query whose time is above those of all others.
+    /// Adds an open query, whose time `time` is above those of all others.
     pub(crate) fn push(&mut self, time: u64, query: OpenQuery) -> Result<(), AllocError>
         requires { All (λ q. q.0 < time) self.old }
         ensures ok { OnOk result (self.new ≡ self.old ++ (time, query) ∷ []) }
@@ -87,7 +87,7 @@ impl Asked {
         self.queries.pop();
     }
 
-    /// Counts an answer to the query of its time, or changes nothing where there is no memory for it.
+    /// Counts `answer` as an answer to the open query of its time, or changes nothing where there is no memory for it.
     pub(crate) fn count(&mut self, alloc: Global, answer: &QueryResponse) -> Result<(), AllocError>
         ensures ok { OnOk result (IfSome (asked_at answer.now.time self.old) (λ q. self.new
             ≡ with_asked_at answer.now.time (counted (response_said answer.now) q) self.old)) }
@@ -99,7 +99,7 @@ impl Asked {
         }
     }
 
-    /// Takes out the queries whose deadline is before a moment, and answers how many they are. Takes no memory.
+    /// Takes out the queries whose deadline is before the moment `now`, and answers how many they are. Takes no memory.
     pub(crate) fn close_due(&mut self, now: u64) -> usize
         ensures left { self.new ≡ filter (λ q. not (is_due now q)) self.old }
         ensures count { result ≡ length (filter (is_due now) self.old) }
@@ -130,7 +130,7 @@ impl Asked {
         Some((time, query.take(alloc)))
     }
 
-    /// Takes out the queries whose deadline is before a moment, as they stood and in order; the others keep theirs. Or
+    /// Takes out the queries whose deadline is before the moment `now`, as they stood and in order; the others keep theirs. Or
     /// changes nothing where there is no memory for the list of them, which is wanted only where there is one.
     pub(crate) fn take_due(
         &mut self,

@@ -67,6 +67,7 @@ fn packet_of(
     };
     match encode_user_event(alloc, &event) {
         Ok(packet) => Ok(Bytes::from_vec(packet)),
+        // (a packet of so short texts is never too long)
         Err(EncodeFault::TooLong) => unreachable!(),
         Err(EncodeFault::OutOfMemory) => Err(AllocError),
     }
@@ -128,6 +129,7 @@ impl<S: Sink> Agent<S> {
         ensures cause { IsErrOf result FireFault.SinkFault
             → HasFailed self.old.device.failures self.new.device.failures }
     {
+        // (for the proof: what is known of the snapshot is what its sink keeps)
         sound_snapshots();
         if self.snapshot.is_stopped() {
             return Err(FireFault::Stopped);
@@ -173,6 +175,7 @@ impl<S: Sink> Agent<S> {
         ensures { TakesPacket (λ i. receive_event i time (event_of name.now payload.now) coalesce)
             None self.old self.new result }
     {
+        // (for the proof: what is known of the snapshot is what its sink keeps)
         sound_snapshots();
         match self.admission(time, name, payload) {
             Some(reason) => {

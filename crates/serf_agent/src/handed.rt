@@ -93,6 +93,7 @@ pub(crate) fn ack_of<F>(alloc: Global, query: &Query<F>, node: &[u8]) -> Result<
     };
     match encode_response(alloc, &ack) {
         Ok(packet) => Ok(Bytes::from_vec(packet)),
+        // (an ack has only a node name, which is short)
         Err(EncodeFault::TooLong) => unreachable!(),
         Err(EncodeFault::OutOfMemory) => Err(AllocError),
     }
@@ -224,6 +225,7 @@ impl HandedQuery {
     {
         match encode_response(alloc, &self.response(payload)) {
             Ok(packet) => Ok(Bytes::from_vec(packet)),
+            // (the caller knows that it fits)
             Err(EncodeFault::TooLong) => unreachable!(),
             Err(EncodeFault::OutOfMemory) => Err(AllocError),
         }

@@ -1,4 +1,4 @@
-//! A time's clock line, and the line of its own that is noted beside it.
+//! What is noted of a time: its clock line, and with it the line of an event, a query or a least time.
 
 ghost use Rattle.std.specs.Prelude.{◌≡◌, false, true, MatchOption, None};
 ghost use Rattle.serf_snap.specs.KeptNotes.{lines_given};
@@ -9,7 +9,7 @@ use serf_snap::{ClockKind, NoteFault, Sink, Snapshot};
 use std::alloc::Global;
 use std::marker::Model;
 
-/// The line of its own that a time has beside its clock line, or none, which has no bytes.
+/// The line of an event, a query or a least time, which is noted together with its clock line; or no line, which has no bytes.
 #[derive(Drop)]
 pub(crate) struct OwnLine {
     bytes: Vec<u8>,

@@ -136,6 +136,7 @@ impl<S: Sink> Agent<S> {
         ensures { TakesPacket (λ i. receive_query tags_pass i now (query_said query.now)) None
             self.old self.new result }
     {
+        // (for the proof: what is known of the snapshot is what its sink keeps)
         sound_snapshots();
         match self.query_admission(query.time, query.id) {
             Some(reason) => {

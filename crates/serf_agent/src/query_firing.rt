@@ -50,6 +50,7 @@ fn packet_of(alloc: Global, parts: &Query<&[Bytes]>) -> Result<Bytes, AllocError
 {
     match encode_query(alloc, parts) {
         Ok(packet) => Ok(Bytes::from_vec(packet)),
+        // (the caller knows that it fits)
         Err(EncodeFault::TooLong) => unreachable!(),
         Err(EncodeFault::OutOfMemory) => Err(AllocError),
     }
@@ -209,6 +210,7 @@ impl<S: Sink> Agent<S> {
         ensures cause { IsErrOf result QueryFault.SinkFault
             → HasFailed self.old.device.failures self.new.device.failures }
     {
+        // (for the proof: what is known of the snapshot is what its sink keeps)
         sound_snapshots();
         if self.snapshot.is_stopped() {
             return Err(QueryFault::Stopped);

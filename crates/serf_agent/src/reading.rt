@@ -113,7 +113,7 @@ impl<S: Sink> Agent<S> {
         self.events.slots()
     }
 
-    /// The query of this agent's own that was fired at a time, while it is open.
+    /// The query that this agent fired at `time`, while it is open.
     pub fn open_query(&self, time: Time) -> Option<&OpenQuery>
         ensures { option_copied result ≡ asked_at time self.now.concrete.asked }
     {

@@ -110,6 +110,7 @@ pub(crate) fn first_tracks(
         ≡ config.now.per_time) }
     ensures free { config.now.keep_events ≡ false → IsOk result }
 {
+    // (for the proof: what a text with kept events gives back)
     kept_text_laws();
     let times = read_times(text);
     let (clocks, least) = (times.clocks, times.least);

@@ -50,13 +50,14 @@ fn push_pull_of<'a>(message: &Message<'a>) -> Option<PushPull<'a>>
     }
 }
 
-/// Adds an event to `out`, which is known to have room for it.
+/// Appends `event` to `out`, which is known to have room for it.
 fn add(out: &mut Vec<EventOut>, event: EventOut)
     requires { vec_len out.old < vec_capacity out.old }
     ensures { out.new.items ≡ out.old.items ++ event ∷ [] }
 {
     match out.push(event) {
         Ok(()) => {}
+        // (there is room, so that nothing is allocated)
         Err(_) => unreachable!(),
     }
 }
@@ -126,8 +127,10 @@ impl<S: Sink> Agent<S> {
         ensures cause { IsErrOf result NoteFault.SinkFault
             → HasFailed self.old.device.failures self.new.device.failures }
     {
+        // (for the proof: what is known of the snapshot is what its sink keeps)
         sound_snapshots();
         let Some(time) = Time::new(self.member_clock.time().saturating_sub(1)) else {
+            // (a clock less one is below 2^64 - 1, and so a time)
             unreachable!()
         };
         self.snapshot.note(alloc, ClockKind::Member, time, b"")
@@ -153,7 +156,7 @@ impl<S: Sink> Agent<S> {
         self.queries.raise(state.query_clock, 0);
     }
 
-    /// Writes the line of a least time of events to the sink and flushes it, if there is such a line.
+    /// Writes `line`, that of a least time of events, to the sink and flushes it; nothing where it is no line.
     fn note_least(&mut self, alloc: Global, line: &OwnLine) -> Result<(), NoteFault>
         requires { self.old.concrete.snapshot.stopped ≡ false }
         ensures noted { OnOk result (self.new.concrete ≡ concrete_with
@@ -163,6 +166,7 @@ impl<S: Sink> Agent<S> {
         ensures none { line.now ≡ None → result ≡ Ok tt }
     {
         let Some(no_time) = Time::new(0) else {
+            // (0 is a time)
             unreachable!()
         };
         if line.is_none() {
@@ -171,8 +175,8 @@ impl<S: Sink> Agent<S> {
         note_line(&mut self.snapshot, alloc, ClockKind::Event, no_time, line)
     }
 
-    /// Hears of the clocks of another agent. Where this one joins, and its settings ignore what is old and keep events,
-    /// the line of the least time that this sets is written first.
+    /// Makes the clocks at least those of `state`, another agent's. Where this agent joins (`is_join`), and its settings
+    /// ignore what is old and keep events, it first writes the line of the least time of events that this sets.
     fn hear(&mut self, alloc: Global, state: &PushPull, is_join: bool) -> Result<(), MergeFault>
         requires { self.old.concrete.snapshot.stopped ≡ false }
         ensures heard { (i : IdealAgent) → IsSound i → self.old.concrete ≡ view_of i
@@ -182,6 +186,7 @@ impl<S: Sink> Agent<S> {
         ensures cause { IsErrOf result MergeFault.SinkFault
             → HasFailed self.old.device.failures self.new.device.failures }
     {
+        // (for the proof: what is known of the snapshot is what its sink keeps)
         sound_snapshots();
         let line = told_least(alloc, &self.config, state, is_join)?;
         self.note_least(alloc, &line)?;
@@ -383,6 +388,7 @@ impl<S: Sink> Agent<S> {
         ensures cause { IsErrOf result MergeFault.SinkFault
             → HasFailed self.old.device.failures self.new.device.failures }
     {
+        // (for the proof: what is known of the snapshot is what its sink keeps)
         sound_snapshots();
         out.reserve(1)?;
         let handed = self.take_in(alloc, time, event.name, event.payload, false)?;
@@ -422,6 +428,7 @@ impl<S: ReplaceSink> Agent<S> {
         ensures fault_called { IsErrOf result NoteFault.SinkFault
             → self.new.device.calls ≡ replace_called self.old.device.calls }
     {
+        // (for the proof: what is known of the snapshot is what its sink keeps)
         sound_snapshots();
         if self.snapshot.is_stopped() {
             return Err(NoteFault::Stopped);

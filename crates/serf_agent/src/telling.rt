@@ -180,7 +180,8 @@ pub(crate) fn least_told<K: Drop>(track: &Track<K>, slot_count: u64, last: u64) 
     track.minimum().max((last + 1).saturating_sub(slot_count))
 }
 
-/// Appends to `text` the lines of what a compaction stores of `track`.
+/// Appends to `text` the lines that a compaction stores of `track`, whose buffer has `slot_count` slots and whose last clock
+/// line says the time `last`.
 fn put_stored<K: Told>(
     text: &mut Vec<u8>,
     slot_count: u64,

@@ -61,6 +61,7 @@ impl<K: Drop> Track<K> {
         ensures per_time { result.window.per_time ≡ per_time }
     {
         let Ok(window) = Window::new(alloc, slot_count, per_time) else {
+            // (both sizes are within the bounds of a window)
             unreachable!()
         };
         Track {
@@ -150,6 +151,7 @@ impl<K: Drop> Track<K> {
     {
         match Time::new(self.clock.time().min(u64::MAX - 1)) {
             Some(time) => time,
+            // (it is below 2^64 - 1, and so a time)
             None => unreachable!(),
         }
     }

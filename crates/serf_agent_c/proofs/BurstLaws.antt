@@ -1,36 +1,7 @@
 -- A burst with one more call is a burst.
-use Rattle.std.proofs.Common.{◌≡◌, ℕ, ◌++◌, ◌∷◌, [], ◌∙◌, ap, append_assoc, append-nil, arith, Bool, cond, drop, false, length, List, min, nat_le, None, Option, Result, Ok, Err, refl, Some, subst, sym, true}
-use Rattle.std.proofs.lemmas.List.{drop-append-le, drop_min}
-use Rattle.std.specs.Prelude.{IsSomeAnd, MatchBool}
-use Rattle.serf_wire.specs.Decoded.{decoded}
-use Rattle.serf_wire.specs.declared.fault.WireFault.{WireFault}
-use Rattle.serf_wire.specs.declared.texts.EventBody.{EventBody}
-use Rattle.serf_wire.specs.Message.{Message, Query, QueryResponse, user_event, query, query_response, push_pull, foreign}
-use Rattle.serf_snap.specs.Clocks.{clock_line}
-use Rattle.serf_snap.specs.declared.kind.ClockKind.{ClockKind}
-use Rattle.serf_snap.specs.Device.{Device, Observable, appended, flushed}
-use Rattle.serf_snap.specs.KeptNotes.{kept_bytes}
-use Rattle.serf_snap.specs.Notes.{Failed, Kept, MayWrite, SnapshotView, Writing, last_line, written}
-use Rattle.serf_window.specs.Texts.{event_of}
-use Rattle.serf_agent.specs.declared.open_query.OpenQuery.{OpenQuery}
-use Rattle.serf_agent.specs.declared.outcome.FireFault.{FireFault}
-use Rattle.serf_agent.specs.declared.outcome.QueryFault.{QueryFault}
-use Rattle.serf_agent.specs.declared.outcome.QueryParams.{QueryParams}
-use Rattle.serf_agent.specs.declared.outcome.Reason.{Reason}
-use Rattle.serf_agent.specs.Calls.{Call, Ends, Notes, Replaces, MayEnd, ended}
-use Rattle.serf_agent.specs.Devices.{LeavesDevice, device_after}
-use Rattle.serf_agent.specs.Events.{admission, fire, fire_fault, fired_as, received_as}
-use Rattle.serf_agent.specs.Ideal.{IdealAgent}
-use Rattle.serf_agent.specs.Queries.{answer_ignore_reason, asked_at, counts_where, fire_query, is_ack, is_full, query_admission, query_at, query_fault, query_fired_as, query_received_as, response_received_as, response_received_at}
-use Rattle.serf_agent.specs.Receive.{receive_message, receive_read, receive}
-use Rattle.serf_agent.specs.Sound.{IsSound}
-use Rattle.serf_agent.specs.Steps.{Steps}
-use Rattle.serf_agent.specs.Told.{noted_with}
-use Rattle.serf_agent.specs.View.{AgentState, view_of}
-use Rattle.serf_agent_c.specs.declared.answered.Answered.{Answered}
-use Rattle.serf_agent_c.specs.declared.session.Session.{Session}
-use Rattle.serf_agent_c.specs.Bursts.{BurstCall, Bursts, IsFlushed, after, answers_of, line_of, lines_of, no_failure, outcome, outcome_of}
-use Rattle.serf_agent_c.specs.Texts.{bytes_in, text_of}
+use Rattle.serf_agent_c.proofs.Names.{Bool, Err, List, None, Ok, Option, Result, Some, [], ap, append-nil, append_assoc, arith, cond, drop, false, length, min, nat_le, refl, subst, sym, true, ℕ, ◌++◌, ◌∙◌, ◌∷◌, ◌≡◌, drop-append-le, drop_min, IsSomeAnd, MatchBool, decoded, Message, QueryResponse, foreign, push_pull, query, query_response, user_event, WireFault, EventBody, clock_line, Device, Observable, appended, flushed, kept_bytes, Failed, Kept, MayWrite, SnapshotView, Writing, last_line, written, ClockKind, event_of, Call, Ends, MayEnd, Notes, Replaces, ended, LeavesDevice, device_after, admission, fire, fire_fault, fired_as, received_as, IdealAgent, answer_ignore_reason, asked_at, counts_where, fire_query, is_ack, is_full, query_admission, query_at, query_fault, query_fired_as, query_received_as, response_received_as, response_received_at, receive, receive_message, receive_read, IsSound, Steps, noted_with, AgentState, view_of, OpenQuery, FireFault, QueryFault, QueryParams, Reason, BurstCall, Bursts, IsFlushed, answers_of, line_of, lines_of, no_failure, outcome, outcome_of, bytes_in, text_of, Answered, Session}
+use Rattle.serf_wire.specs.Message.{Query}
+use Rattle.serf_agent_c.specs.Bursts.{after}
 
 -- Lists of calls
 

@@ -1,37 +1,8 @@
 -- What was handed out once, read in another order or in part, was handed out once; what was met stays met; and what comes
 -- to an agent enters, where it is admitted.
-use Rattle.std.proofs.Common.{cond, ◌≡◌, ◌≢◌, ◌⊎◌, ◌&&◌, ◌==◌, inl, inr, Bool, true, false, refl, subst, ◌+◌, ◌<◌, ◌++◌, ◌∷◌, [], ◌∙◌, ap, append_assoc, append-nil, arith, List, ℕ, suc, sym, ◌≤◌, map, None, Option, Result, Ok, Err, Some}
-use Rattle.std.proofs.lemmas.Bool.{and_from, and_parts, eq-eqb, eqb-true, true≢false}
-use Rattle.std.proofs.lemmas.Slice.Eq.{bytes_eq-Decides}
-use Rattle.std.proofs.lemmas.List.Elements.{All-append, All-cons, All-contains, All-head, All-nil, All-tail, All-weaker, Contains-append_left, Contains-append_right}
-use Rattle.std.proofs.lemmas.List.Kept.{AllPairs-cons}
-use Rattle.std.specs.Prelude.{All, AllPairs, Contains, map, max}
-use Rattle.serf_wire.specs.declared.texts.EventBody.{EventBody}
-use Rattle.serf_window.specs.Texts.{same_texts, event_of}
-use Rattle.serf_window.specs.Window.{TimedEntry}
-use Rattle.serf_agent.specs.declared.outcome.EventOut.{EventOut}
-use Rattle.serf_agent.specs.declared.config.Config.{Config}
-use Rattle.serf_agent.specs.Ideal.{IdealAgent, Past}
-use Rattle.serf_agent.specs.Kept.{HasMet, IsFull, IsMet}
-use Rattle.serf_agent.specs.Taking.{TakesOrFull}
-use Rattle.serf_agent.specs.TrackOf.{TrackOf, BringsQuery, got_query}
-use Rattle.serf_agent.specs.Lives.{Act, event_entry, events_out, queries_out, query_entries}
-use Rattle.serf_agent.specs.Once.{IsOnce}
-use Rattle.serf_agent_c.specs.declared.gave.Gave.{Gave}
-use Rattle.serf_agent_c.specs.Gaves.{events_in, handed_in}
-use Rattle.serf_agent_c.specs.Reads.{GivesNothing}
-use Rattle.serf_lamport.specs.Clock.{observed}
-use Rattle.serf_wire.specs.declared.fault.WireFault.{WireFault}
-use Rattle.serf_wire.specs.Message.{Message, PushPull, Query as WireQuery, user_event, query, query_response, push_pull, foreign}
-use Rattle.serf_snap.specs.Notes.{Kept}
-use Rattle.serf_agent.specs.declared.outcome.Reason.{Reason}
-use Rattle.serf_agent.specs.Calls.{ended}
-use Rattle.serf_agent.specs.Events.{admission, received_as}
-use Rattle.serf_agent.specs.Queries.{query_admission, query_received_as}
-use Rattle.serf_agent.specs.Receive.{receive_read}
-use Rattle.serf_agent.specs.States.{handed_by, events_of, heard_by}
-use Rattle.serf_agent_c.specs.Hosts.{BringsEvent, HoldsEvent}
-use Rattle.std.specs.List.{fold}
+use Rattle.serf_agent_c.proofs.Names.{Bool, Err, List, None, Ok, Option, Result, Some, [], ap, append-nil, append_assoc, arith, cond, false, inl, inr, map, refl, subst, suc, sym, true, ℕ, ◌&&◌, ◌++◌, ◌+◌, ◌<◌, ◌==◌, ◌∙◌, ◌∷◌, ◌≡◌, ◌≢◌, ◌≤◌, ◌⊎◌, and_from, and_parts, eq-eqb, eqb-true, true≢false, All-append, All-cons, All-contains, All-head, All-nil, All-tail, All-weaker, Contains-append_left, Contains-append_right, AllPairs-cons, bytes_eq-Decides, fold, All, AllPairs, Contains, max, observed, Message, PushPull, foreign, push_pull, query, query_response, user_event, WireFault, EventBody, Kept, event_of, same_texts, TimedEntry, ended, admission, received_as, IdealAgent, Past, HasMet, IsFull, IsMet, Act, event_entry, events_out, queries_out, query_entries, IsOnce, query_admission, query_received_as, receive_read, events_of, handed_by, heard_by, TakesOrFull, BringsQuery, TrackOf, got_query, Config, EventOut, Reason, events_in, handed_in, BringsEvent, HoldsEvent, GivesNothing, Gave}
+use Rattle.std.specs.Prelude.{map}
+use Rattle.serf_wire.specs.Message.{Query as WireQuery}
 
 pub pairs-head : {A : Type 0} (R : A → A → Type 0) (x : A) (xs : List A) → AllPairs R (x ∷ xs) → All (R x) xs
 pairs-head R x xs h = λ k d within. h 0 (suc k) d (omega arith) (omega arith)

@@ -1,54 +1,11 @@
 -- What an export leaves of a host's session and file, and of the ideal agent that the session has.
-use Rattle.std.proofs.Common.{◌+◌, ◌<◌, ◌^◌, ◌≡◌, ◌≢◌, ◌⊎◌, inl, inr, ℕ, ◌==◌, ◌&&◌, ◌++◌, ◌-◌, ◌∷◌, [], ◌∙◌, ap, append_assoc, append-nil, arith, Bool, cond, drop, false, length, List, min, nat_le, None, not, Option, Result, Ok, Err, refl, Some, subst, sym, true}
-use Rattle.std.proofs.lemmas.Bool.{eqb-true}
-use Rattle.std.proofs.lemmas.List.{drop-append-le, drop_min}
-use Rattle.std.specs.Option.{option_map}
-use Rattle.std.specs.Prelude.{IsSomeAnd, MatchBool, slice_get}
-use Rattle.serf_snap.specs.Clocks.{clock_line}
-use Rattle.serf_snap.specs.declared.kind.ClockKind.{ClockKind}
-use Rattle.serf_snap.specs.Device.{Device, Observable, appended, flushed}
-use Rattle.serf_snap.specs.KeptNotes.{kept_bytes}
-use Rattle.serf_snap.specs.Notes.{Failed, Kept, MayWrite, SnapshotView, Writing, last_line, written}
-use Rattle.serf_snap.specs.Clocks.{is_whole, seal_line}
-use Rattle.serf_snap.specs.Device.{fresh_device}
-use Rattle.serf_snap.specs.Notes.{note_decremented, opened_device}
+use Rattle.serf_agent_c.proofs.Names.{Bool, Err, List, None, Ok, Option, Result, Some, [], ap, append-nil, append_assoc, arith, cond, drop, false, inl, inr, length, min, nat_le, not, refl, subst, sym, true, ℕ, ◌&&◌, ◌++◌, ◌+◌, ◌-◌, ◌<◌, ◌==◌, ◌^◌, ◌∙◌, ◌∷◌, ◌≡◌, ◌≢◌, ◌⊎◌, eqb-true, drop-append-le, drop_min, option_map, IsSomeAnd, MatchBool, slice_get, clock_line, is_whole, seal_line, Device, FailurePlan, Observable, appended, flushed, fresh_device, replace_decremented, replaced, kept_bytes, Failed, Kept, MayReplaceBy, MayWrite, SnapshotView, Writing, last_line, note_decremented, opened_device, written, ClockKind, NoteFault, event_of, Call, Ends, MayEnd, Notes, Replaces, answers, ended, LeavesDevice, fire, IdealAgent, Closes, Opens, clock_state, fire_query, receive, HasPast, IsSound, compact, joined, save, told_lines, Steps, text_with, AgentState, view_of, params_of, BurstCall, Extends, IsFlushed, Leaves, Stands, line_of, no_failure, outcome, outcome_of, answer_code, fire_code, note_code, number_of, query_code, receive_code, CodesDiffer, Follows, HostSteps, Went, goes, rests, waits, Called, CloseDue, Compact, Observe, Says, text_at, GoesOn, IsFresh, config_of, Appends, is_ready, bytes_in, lacking, text_of, Answered, Code, Gave, Settings, Session}
 use Rattle.serf_snap.specs.declared.kind.ClockKind.TheVariants as kinds
-use Rattle.serf_snap.specs.declared.snapshot.NoteFault.{NoteFault}
 use Rattle.serf_snap.specs.declared.snapshot.NoteFault.TheVariants as notes
-use Rattle.serf_window.specs.Texts.{event_of}
-use Rattle.serf_agent.specs.Calls.{Call, Ends, Notes, Replaces, MayEnd, answers, ended}
-use Rattle.serf_agent.specs.Events.{fire}
-use Rattle.serf_agent.specs.Lives.{Closes, Opens, after as ideal_after}
-use Rattle.serf_agent.specs.Queries.{fire_query}
-use Rattle.serf_agent.specs.Receive.{receive}
-use Rattle.serf_agent.specs.Restart.{HasPast}
-use Rattle.serf_agent.specs.States.{save}
-use Rattle.serf_agent.specs.Devices.{LeavesDevice}
-use Rattle.serf_agent.specs.Ideal.{IdealAgent}
-use Rattle.serf_agent.specs.Sound.{IsSound}
-use Rattle.serf_agent.specs.Steps.{Steps}
-use Rattle.serf_agent.specs.View.{AgentState, view_of}
-use Rattle.serf_agent_c.specs.declared.code.Code.{Code}
+use Rattle.serf_agent.specs.Lives.{after as ideal_after}
 use Rattle.serf_agent_c.specs.declared.code.Code.TheVariants as codes
-use Rattle.serf_agent_c.specs.declared.gave.Gave.{Gave}
 use Rattle.serf_agent_c.specs.declared.gave.Gave.TheVariants as gaves
-use Rattle.serf_agent_c.specs.declared.heads.Settings.{Settings}
-use Rattle.serf_agent_c.specs.declared.session.Session.{Session}
-use Rattle.serf_agent_c.specs.Asking.{params_of}
-use Rattle.serf_agent_c.specs.Codes.{fire_code, note_code, number_of, query_code, receive_code}
-use Rattle.serf_agent_c.specs.Opening.{GoesOn, IsFresh, config_of}
-use Rattle.serf_agent_c.specs.declared.answered.Answered.{Answered}
-use Rattle.serf_agent_c.specs.Bursts.{BurstCall, Extends, IsFlushed, Leaves, Outcome, Stands, line_of, no_failure, outcome, outcome_of}
-use Rattle.serf_snap.specs.Device.{FailurePlan, replace_decremented, replaced}
-use Rattle.serf_snap.specs.Notes.{MayReplaceBy}
-use Rattle.serf_agent.specs.MemberClock.{clock_state}
-use Rattle.serf_agent.specs.States.{compact, joined, told_lines}
-use Rattle.serf_agent.specs.Told.{text_with}
-use Rattle.serf_agent_c.specs.Calls.{answer_code}
-use Rattle.serf_agent_c.specs.Hosts.{Called, CloseDue, Compact, Observe, Says, text_at}
-use Rattle.serf_agent_c.specs.HostLaws.{CodesDiffer, Follows, HostSteps, Went, waits, rests, goes}
-use Rattle.serf_agent_c.specs.Sessions.{Appends, is_ready}
-use Rattle.serf_agent_c.specs.Texts.{bytes_in, lacking, text_of}
+use Rattle.serf_agent_c.specs.Bursts.{Outcome}
 use Rattle.serf_agent_c.proofs.HandedOnce.{Recalls, gave_entries, gives-none, nothing}
 use Rattle.serf_agent_c.proofs.BurstLaws.{fire-plain, query-fire-plain, receive-plain, IsPlain, plain-if, calm-after, calm-kept, device-bytes, kept-step}
 

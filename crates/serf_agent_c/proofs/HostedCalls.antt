@@ -1,49 +1,11 @@
 -- What each call leaves of a host: of the agent inside, of the one that a kill goes back to, and of what was given.
-use Rattle.std.proofs.Common.{◌≡◌, ℕ, ◌≢◌, ◌⊎◌, inl, inr, ◌<◌, ◌&&◌, ◌||◌, ◌++◌, ◌∷◌, [], ◌∙◌, ap, append-nil, arith, Bool, cond, false, List, map, None, Option, Result, Ok, Err, refl, Some, subst, sym, true}
-use Rattle.serf_snap.specs.Notes.{Kept}
-use Rattle.serf_agent.specs.declared.outcome.Fired.{Fired}
-use Rattle.serf_agent.specs.declared.outcome.FiredQuery.{FiredQuery}
-use Rattle.serf_agent.specs.declared.outcome.FireFault.{FireFault}
-use Rattle.serf_agent.specs.declared.outcome.Outcome.{Outcome}
+use Rattle.serf_agent_c.proofs.Names.{Bool, Err, List, None, Ok, Option, Result, Some, [], ap, append-nil, arith, cond, false, inl, inr, map, refl, subst, sym, true, ℕ, ◌&&◌, ◌++◌, ◌+◌, ◌-◌, ◌<◌, ◌^◌, ◌||◌, ◌∙◌, ◌∷◌, ◌≡◌, ◌≢◌, ◌≤◌, ◌⊎◌, cases_lt, DecodesBytes, DecodesInRange, PushPull, least_line, Kept, AsksSink, Call, MayEnd, ended, IdealAgent, BeginsDurable, IsDurable, MayKeep, StartsWithDurable, StaysDurable, Act, Compacts, Hears, MayAct, asked_entries, event_entry, fired_entries, got_entries, clock_state, AsksBehind, BeginsSound, FiresBehind, OpensBehind, StaysOnce, StepsSound, IsSound, handed_by, heard_by, joined, FireFault, Fired, FiredQuery, MergeFault, Outcome, PushPullFault, QueryFault, ReceiveFault, Reply, RespondFault, gave_of, Follows, Went, goes, rests, waits, Calls, Compact, Host, LocalState, Next, Observe, Says, did, replacing, shown, KeepsBurst, is_ready, lacking, Answered, Code, Gave, Session}
 use Rattle.serf_agent.specs.declared.outcome.Outcome.TheVariants as outcomes
-use Rattle.serf_agent.specs.declared.outcome.QueryFault.{QueryFault}
-use Rattle.serf_agent.specs.declared.outcome.ReceiveFault.{ReceiveFault}
-use Rattle.serf_agent.specs.Calls.{Call, MayEnd, ended}
-use Rattle.serf_agent.specs.Ideal.{IdealAgent}
-use Rattle.serf_agent.specs.KeptLives.{BeginsDurable, IsDurable, MayKeep, StartsWithDurable, StaysDurable}
-use Rattle.serf_wire.specs.Laws.{DecodesBytes, DecodesInRange}
-use Rattle.serf_agent.specs.Lives.{Act, MayAct, asked_entries, event_entry, fired_entries, got_entries}
 use Rattle.serf_agent.specs.Lives as lives
-use Rattle.serf_agent.specs.Sound.{IsSound}
-use Rattle.serf_agent.specs.States.{handed_by}
-use Rattle.serf_agent_c.specs.declared.answered.Answered.{Answered}
-use Rattle.serf_agent_c.specs.declared.code.Code.{Code}
-use Rattle.serf_agent_c.specs.declared.gave.Gave.{Gave}
 use Rattle.serf_agent_c.specs.declared.gave.Gave.TheVariants as gaves
-use Rattle.serf_agent_c.specs.declared.session.Session.{Session}
-use Rattle.serf_agent_c.specs.Bursts.{gave_of}
-use Rattle.serf_agent_c.specs.HostLaws.{Follows, Went, waits, rests, goes}
-use Rattle.serf_agent_c.specs.Hosts.{Calls, Host, Says, did, shown}
-use Rattle.serf_agent.specs.Once.{AsksBehind, BeginsSound, FiresBehind, OpensBehind, StaysOnce, StepsSound}
-use Rattle.serf_agent_c.specs.Sessions.{KeepsBurst, is_ready}
 use Rattle.serf_agent_c.specs.Bursts.{Follows as FollowsNext}
-use Rattle.serf_agent_c.specs.Hosts.{LocalState, Observe, Compact, Next, replacing}
-use Rattle.std.proofs.Common.{◌≤◌, ◌-◌, ◌^◌, ◌+◌}
-use Rattle.std.proofs.lemmas.Bool.{cases_lt}
-use Rattle.serf_wire.specs.Message.{PushPull}
-use Rattle.serf_snap.specs.EventLines.{least_line}
 use Rattle.serf_snap.specs.declared.kind.ClockKind.TheVariants as kinds
-use Rattle.serf_agent.specs.declared.outcome.MergeFault.{MergeFault}
-use Rattle.serf_agent.specs.declared.outcome.PushPullFault.{PushPullFault}
-use Rattle.serf_agent.specs.declared.outcome.Reply.{Reply}
-use Rattle.serf_agent.specs.declared.outcome.RespondFault.{RespondFault}
-use Rattle.serf_agent.specs.Calls.{AsksSink}
-use Rattle.serf_agent.specs.Lives.{Hears}
-use Rattle.serf_agent.specs.MemberClock.{clock_state}
-use Rattle.serf_agent.specs.States.{heard_by, joined}
 use Rattle.serf_agent_c.specs.declared.code.Code.TheVariants as codes
-use Rattle.serf_agent_c.specs.Texts.{lacking}
-use Rattle.serf_agent.specs.Lives.{Compacts}
 use Rattle.serf_agent_c.proofs.HostLaws.{Bursted, Compacted, idle, refuses, renews, ready-parts, lost, made, observed-follows, same-agent, text-ready, unobserved-follows, want}
 use Rattle.serf_agent_c.proofs.HandedOnce.{Given, Knows, Recalls, both, gave_entries, gives-none, join-assoc, join-nothing, knows-front, knows-swapped, nothing, outs, ◌⊕◌}
 

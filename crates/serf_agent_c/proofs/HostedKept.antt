@@ -1,54 +1,8 @@
 -- What a host in C met in its lives its agent has met, and what is new it goes on taking.
-use Rattle.std.proofs.Common.{◌≡◌, ◌≢◌, ◌⊎◌, inl, inr, ℕ, ◌+◌, ◌-◌, ◌^◌, ◌<◌, ◌≤◌, ◌&&◌, ◌++◌, ◌∷◌, [], ◌∙◌, ap, append_assoc, append-nil, arith, Bool, cond, drop, false, length, List, map, None, Option, Result, Ok, Err, refl, Some, subst, sym, true}
-use Rattle.std.proofs.lemmas.List.{map-append}
-use Rattle.std.specs.Prelude.{Contains, flat_map}
-use Rattle.serf_lamport.specs.Clock.{observed}
-use Rattle.serf_wire.specs.declared.texts.EventBody.{EventBody}
-use Rattle.serf_wire.specs.Bytes.{AreBytes}
-use Rattle.serf_wire.specs.Decoded.{decoded}
-use Rattle.serf_wire.specs.Message.{PushPull, push_pull}
-use Rattle.serf_window.specs.Texts.{event_of}
-use Rattle.serf_window.specs.Window.{TimedEntry}
-use Rattle.serf_snap.specs.Device.{Device, fresh_device}
-use Rattle.serf_snap.specs.EventLines.{least_in}
-use Rattle.serf_snap.specs.Notes.{Kept}
-use Rattle.serf_agent.specs.declared.config.Config.{Config}
-use Rattle.serf_agent.specs.declared.outcome.EventOut.{EventOut}
-use Rattle.serf_agent.specs.declared.outcome.Outcome.{Outcome}
-use Rattle.serf_agent.specs.declared.outcome.QueryParams.{QueryParams}
-use Rattle.serf_agent.specs.declared.outcome.ReceiveFault.{ReceiveFault}
-use Rattle.serf_agent.specs.Calls.{Call, MayEnd, answers, ended, Replaces}
-use Rattle.serf_agent.specs.Config.{is_sound}
-use Rattle.serf_agent.specs.Events.{fire}
-use Rattle.serf_agent.specs.Ideal.{IdealAgent}
-use Rattle.serf_agent.specs.Kept.{IsFull, KeepsSettings, TellsNoneAbove, stood_after}
-use Rattle.serf_agent.specs.KeptLives.{IsDurable, MayGoOn, MayKeep, StartsWithDurable}
-use Rattle.serf_agent.specs.KeptTexts.{whatever}
-use Rattle.serf_agent.specs.Lives.{Act, Asks, Closes, Compacts, Fires, Gets, Hears, MayAct, Opens, Saves, Takes, after, event_entry}
-use Rattle.serf_agent.specs.Queries.{fire_query}
-use Rattle.serf_agent.specs.Receive.{receive_read, receive}
-use Rattle.serf_agent.specs.Sound.{IsSound}
-use Rattle.serf_agent.specs.States.{delivered, handed_by, save, told_lines, joined}
-use Rattle.serf_agent.specs.Taking.{TakesOrFull, TakingLaws}
-use Rattle.serf_agent.specs.TrackOf.{event_track, got_query, query_track}
-use Rattle.serf_agent.specs.View.{ConcreteState, view_of}
-use Rattle.serf_agent_c.specs.declared.answered.Answered.{Answered}
-use Rattle.serf_agent_c.specs.declared.gave.Gave.{Gave}
-use Rattle.serf_agent_c.specs.declared.heads.Params.{Params}
-use Rattle.serf_agent_c.specs.declared.heads.Settings.{Settings}
-use Rattle.serf_agent_c.specs.declared.session.Session.{Session}
-use Rattle.serf_agent_c.specs.Bursts.{BurstCall, gave_of, IsFlushed}
-use Rattle.serf_agent_c.specs.Gaves.{events_in}
-use Rattle.serf_agent_c.specs.HostLaws.{Follows, Went, goes, rests, waits}
-use Rattle.serf_agent.specs.Restart.{HasPast}
-use Rattle.serf_agent_c.specs.Hosts.{Calls, IsPassed, KeepsTo, clock_after, Add, Compact, Dies, Forget, Host, LocalState, Met, Next, Offers, Respond, all_met, did, met_at, replacing, shown, Burst, CloseDue, Export, Fire, Merge, Observe, Query, Receive, Save, Says, Showing, enters, event_kind, query_kind}
+use Rattle.serf_agent_c.proofs.Names.{Bool, Err, List, None, Ok, Option, Result, Some, [], ap, append-nil, append_assoc, arith, cond, drop, false, inl, inr, length, map, refl, subst, sym, true, ℕ, ◌&&◌, ◌++◌, ◌+◌, ◌-◌, ◌<◌, ◌^◌, ◌∙◌, ◌∷◌, ◌≡◌, ◌≢◌, ◌≤◌, ◌⊎◌, map-append, Contains, observed, AreBytes, decoded, PushPull, push_pull, EventBody, Device, fresh_device, least_in, Kept, event_of, TimedEntry, Call, MayEnd, Replaces, answers, ended, is_sound, fire, IdealAgent, IsFull, KeepsSettings, TellsNoneAbove, stood_after, IsDurable, MayGoOn, MayKeep, StartsWithDurable, whatever, Act, Asks, Closes, Compacts, Fires, Gets, Hears, MayAct, Opens, Saves, Takes, after, event_entry, clock_state, fire_query, receive, receive_read, HasPast, IsSound, delivered, handed_by, joined, save, told_lines, TakesOrFull, TakingLaws, event_track, got_query, query_track, ConcreteState, view_of, Config, EventOut, Outcome, QueryParams, ReceiveFault, BurstCall, IsFlushed, gave_of, events_in, Follows, Went, goes, rests, waits, Add, Burst, Calls, CloseDue, Compact, Dies, Export, Fire, Forget, Host, IsPassed, KeepsTo, LocalState, Merge, Met, Next, Observe, Offers, Query, Receive, Respond, Save, Says, Showing, all_met, clock_after, did, enters, event_kind, met_at, query_kind, replacing, shown, GoesOn, IsFresh, config_of, Appends, is_ready, lacking, Answered, Code, Gave, Params, Settings, Session}
+use Rattle.std.specs.Prelude.{flat_map}
 use Rattle.serf_agent_c.proofs.BurstLaws.{IsPlain, runs-after, kept-step, receive-plain}
 use Rattle.serf_agent_c.proofs.HostLaws.{Bursted, Compacted, closed-follows, host_steps, idle, lost, made, observed-follows, refuses, renews, same-agent, save-plain, text-ready, unobserved-follows, want}
-use Rattle.serf_agent_c.specs.Sessions.{Appends, is_ready}
-use Rattle.serf_agent_c.specs.Texts.{lacking}
-use Rattle.serf_agent_c.specs.declared.code.Code.{Code}
-use Rattle.serf_agent.specs.MemberClock.{clock_state}
-use Rattle.serf_agent_c.specs.Opening.{GoesOn, IsFresh, config_of}
 use Rattle.serf_agent_c.proofs.HandedOnce.{made-now, Given, adds, full-wider, goes-wider, joins, event-read, query-read, unmet}
 use Rattle.serf_agent_c.proofs.HostedCalls.{Below, asked-out, fired-out, hears-quietly, may-hear, no-asking, not-replacing, received-out, replacing-other, told, top-or}
 use Rattle.serf_agent.specs.declared.outcome.ReceiveFault.TheVariants as receives

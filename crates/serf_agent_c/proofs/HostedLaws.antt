@@ -1,67 +1,17 @@
 -- What the getters can have given a host in C over all its lives, and that it misses nothing new.
-use Rattle.std.proofs.Common.{◌≡◌, ℕ, ◌≢◌, ◌⊎◌, inl, inr, ◌++◌, ◌∷◌, [], ◌∙◌, ap, append_assoc, append-nil, arith, Bool, cond, false, List, None, Option, Result, Ok, Err, refl, Some, subst, sym, true}
-use Rattle.serf_wire.specs.Message.{Message, user_event, query, query_response, push_pull, foreign}
-use Rattle.serf_snap.specs.Device.{fresh_device}
-use Rattle.serf_snap.specs.Notes.{Kept}
-use Rattle.serf_window.specs.Texts.{event_of}
-use Rattle.serf_agent.specs.declared.outcome.Fired.{Fired}
-use Rattle.serf_agent.specs.declared.outcome.FireFault.{FireFault}
+use Rattle.serf_agent_c.proofs.Names.{Bool, Err, List, None, Ok, Option, Result, Some, [], ap, append-nil, append_assoc, arith, cond, drop, false, inl, inr, not, refl, subst, sym, true, ℕ, ◌&&◌, ◌++◌, ◌||◌, ◌∙◌, ◌∷◌, ◌≡◌, ◌≢◌, ◌≤◌, ◌⊎◌, All-head, All-tail, All, EventsHaveBytes, Message, foreign, push_pull, query, query_response, user_event, fresh_device, least_in, Kept, NoteFault, event_of, TimedEntry, Call, ended, is_sound, fire, Handed, IdealAgent, IsMessageTold, IsTellable, IsTold, whatever, Asks, Fires, Gets, Opens, Saves, first_life, fire_query, receive, save, TakesOrFull, AgentState, FireFault, Fired, FiredQuery, QueryFault, params_of, reply_of, IsFlushed, Waits, Follows, GivesExactly, Went, goes, rests, waits, Add, Burst, Calls, CloseDue, Compact, Deed, Dies, Export, Fire, Forget, GivesLater, GivesOnce, GivesQueriesLater, GivesQueriesOnce, Host, IsPassed, KeepsTo, LocalState, MayDo, MayHost, Merge, Met, MissesNone, Next, Observe, Query, Receive, Respond, Save, Says, Showing, Writes, all_met, did, enters, first_host, first_met, gives, hosted, met_after, met_in, replacing, shown, text_at, waiting_at, GoesOn, IsFresh, config_of, kind_of, is_ready, settled, is_written, text_of, Answered, Code, Gave, Settings, Session}
 use Rattle.serf_agent.specs.declared.outcome.Outcome.TheVariants as outcomes
-use Rattle.serf_agent.specs.Calls.{Call, ended}
-use Rattle.serf_agent.specs.Config.{is_sound}
-use Rattle.serf_agent.specs.Events.{fire}
-use Rattle.serf_agent.specs.Ideal.{IdealAgent}
-use Rattle.serf_agent.specs.Lives.{Asks, Fires, Gets, Opens, Saves, first_life}
 use Rattle.serf_agent.specs.Lives as lives
-use Rattle.serf_agent.specs.Receive.{receive}
-use Rattle.serf_agent_c.specs.declared.answered.Answered.{Answered}
-use Rattle.serf_agent_c.specs.declared.code.Code.{Code}
-use Rattle.serf_agent_c.specs.declared.gave.Gave.{Gave}
 use Rattle.serf_agent_c.specs.declared.gave.Gave.TheVariants as gaves
-use Rattle.serf_agent_c.specs.declared.heads.Settings.{Settings}
-use Rattle.serf_agent_c.specs.declared.session.Session.{Session}
-use Rattle.serf_agent_c.specs.Asking.{params_of}
-use Rattle.serf_agent_c.specs.HostLaws.{Follows, GivesExactly, Went, waits, rests, goes}
-use Rattle.serf_agent_c.specs.Hosts.{Calls, Deed, Dies, Fire, GivesLater, GivesOnce, GivesQueriesLater, GivesQueriesOnce, Host, MayDo, MayHost, Query, Receive, Says, Writes, did, first_host, hosted, shown, text_at}
-use Rattle.serf_agent_c.specs.Opening.{GoesOn, IsFresh, config_of}
-use Rattle.serf_agent_c.specs.Sessions.{is_ready}
 use Rattle.serf_agent_c.specs.declared.answered.Answered.TheVariants as answereds
 use Rattle.serf_agent_c.specs.Bursts as bursts
-use Rattle.serf_agent_c.specs.Hosts.{Add, CloseDue, Forget, Respond, Merge, LocalState, Observe, Burst, Compact, Next, Save}
-use Rattle.std.proofs.Common.{drop}
-use Rattle.serf_agent.specs.Handed.{Handed}
-use Rattle.serf_agent_c.specs.Asking.{reply_of}
-use Rattle.serf_agent_c.specs.Numbered.{waiting_at}
-use Rattle.serf_agent_c.specs.Reads.{kind_of}
-use Rattle.serf_agent_c.specs.Sessions.{settled}
 use Rattle.serf_agent_c.proofs.HostLaws.{closed-follows}
-use Rattle.serf_agent_c.specs.Bursts.{IsFlushed}
-use Rattle.serf_wire.specs.Bytes.{EventsHaveBytes}
-use Rattle.serf_agent.specs.declared.outcome.FiredQuery.{FiredQuery}
-use Rattle.serf_agent.specs.declared.outcome.QueryFault.{QueryFault}
-use Rattle.serf_snap.specs.declared.snapshot.NoteFault.{NoteFault}
-use Rattle.serf_agent.specs.KeptLives.{IsMessageTold}
-use Rattle.serf_agent.specs.Queries.{fire_query}
-use Rattle.serf_agent.specs.States.{save}
-use Rattle.serf_agent.specs.View.{AgentState}
-use Rattle.serf_agent_c.specs.Texts.{text_of}
 use Rattle.serf_agent_c.specs.declared.code.Code.TheVariants as codes
 use Rattle.serf_agent_c.proofs.BurstLaws.{fire-plain, query-fire-plain, receive-plain}
 use Rattle.serf_agent_c.proofs.HostLaws.{compacted, bursted, host_steps, same-agent, same-lacking, want}
 use Rattle.serf_agent_c.proofs.HandedOnce.{made-now, Given, Knows, gave_entries, gives-none, in-two, knows-front, knows-nothing, nothing, ◌⊕◌}
 use Rattle.serf_agent_c.proofs.HostedCalls.{Below, queue_entries, given_to, due, BehindAt, IsHosted, knows-after, shown-hosted, pre, went-hosted, fired-out, asked-out, received-out, bursted-hosted, compacted-hosted, next-hosted, beside-hosted, waits-hosted, quiet-hosted, replied-out, local-hosted, observed-hosted}
 use Rattle.serf_agent_c.proofs.HostedMerges.{merged-hosted, merged-within}
-use Rattle.std.proofs.Common.{◌&&◌, ◌||◌, ◌≤◌, not}
-use Rattle.std.proofs.lemmas.List.Elements.{All-head, All-tail}
-use Rattle.std.specs.Prelude.{All}
-use Rattle.serf_window.specs.Window.{TimedEntry}
-use Rattle.serf_snap.specs.EventLines.{least_in}
-use Rattle.serf_agent.specs.KeptLives.{IsTellable}
-use Rattle.serf_agent.specs.KeptTexts.{IsTold, whatever}
-use Rattle.serf_agent.specs.Taking.{TakesOrFull}
-use Rattle.serf_agent_c.specs.Calls.{Waits}
-use Rattle.serf_agent_c.specs.Hosts.{Export, IsPassed, KeepsTo, Met, MissesNone, Showing, all_met, enters, first_met, gives, met_after, met_in, replacing}
-use Rattle.serf_agent_c.specs.Texts.{is_written}
 use Rattle.serf_agent_c.proofs.HostedKept.{Aim, IsKept, KeptAt, StateOffers, Tracking, Within, aimed, bursted-within, called-kept, closed-within, compacted-kept, compacted-within, left-within, more-within, observed-within, offered-kept, opened-kept, renewed-on, saved-within, shown-kept, still, went-within}
 
 due-kind : (g : Gave) → kind_of g ≡ 13 → gave_entries g ≡ nothing

@@ -1,47 +1,8 @@
 -- What a merge leaves of a host: the push/pull is heard of, and its events are received one by one; and what it brings is taken, where it is new.
-use Rattle.std.proofs.Common.{◌≡◌, ◌≢◌, ◌⊎◌, ◌≤◌, ◌+◌, ℕ, inl, inr, ◌<◌, ◌++◌, ◌∷◌, [], ◌∙◌, ap, append_assoc, append-nil, arith, Bool, cond, false, List, map, None, Option, Result, Ok, Err, refl, Some, subst, sym, true, ◌-◌, ◌^◌}
-use Rattle.std.proofs.lemmas.List.Elements.{All-append, All-cons, All-contains, All-head, All-nil, All-tail, Contains-append_cases, Contains-append_left, Contains-append_right}
-use Rattle.std.specs.Prelude.{All, Contains, max}
-use Rattle.std.specs.List.{AllByRecursion}
-use Rattle.serf_lamport.specs.Clock.{observed}
-use Rattle.serf_wire.specs.Bytes.{AreBytes, HasBytes, SlotHasBytes}
-use Rattle.serf_wire.specs.Decoded.{decoded}
-use Rattle.serf_wire.specs.Message.{Message, user_event, query, query_response, push_pull, foreign, PushPull}
-use Rattle.serf_wire.specs.declared.texts.EventBody.{EventBody}
-use Rattle.serf_snap.specs.Notes.{Kept, SnapshotView, Writing}
-use Rattle.serf_window.specs.Window.{TimedEntry}
-use Rattle.serf_agent.specs.declared.outcome.EventOut.{EventOut}
-use Rattle.serf_agent.specs.Calls.{Call, MayEnd, ended}
-use Rattle.serf_agent.specs.Ideal.{IdealAgent}
-use Rattle.serf_agent.specs.KeptLives.{IsDurable, MayKeep}
-use Rattle.serf_agent.specs.Lives.{Act, MayAct, event_entry, events_out, Takes, Hears}
-use Rattle.serf_agent.specs.Sound.{IsSound}
-use Rattle.serf_agent_c.specs.declared.code.Code.{Code}
-use Rattle.serf_agent_c.specs.declared.session.Session.{Session}
-use Rattle.serf_agent_c.specs.Gaves.{events_in}
-use Rattle.serf_agent_c.specs.Hosts.{Host, Says, shown, Merge, Showing, clock_heard, enters, event_kind}
-use Rattle.serf_agent_c.specs.declared.gave.Gave.{Gave}
-use Rattle.serf_agent_c.specs.Sessions.{is_ready}
-use Rattle.serf_snap.specs.Device.{Device}
-use Rattle.serf_agent.specs.declared.outcome.MergeFault.{MergeFault}
-use Rattle.std.proofs.lemmas.List.{map-append}
-use Rattle.serf_wire.specs.Ranges.{IsRangedPushPull, IsTimed}
-use Rattle.serf_wire.specs.Slots.{SlotContent, empty, held}
-use Rattle.serf_wire.specs.declared.fault.WireFault.{WireFault}
-use Rattle.serf_agent.specs.declared.outcome.Reason.{Reason}
-use Rattle.serf_agent.specs.Devices.{device_after}
-use Rattle.serf_agent.specs.Events.{admission, received_as, texts_len}
-use Rattle.serf_agent.specs.States.{EndsAt, EndsHearing, Merges, Receives, ReceivesAfter, after_event, at_time, delivered, events_of, events_of_slot, hear, merge_refusal, receive_one, told_least, heard_by}
-use Rattle.serf_agent.specs.View.{ConcreteState, view_of, AgentState}
-use Rattle.serf_agent_c.specs.Bursts.{line_of, no_failure, IsFlushed}
-use Rattle.serf_agent_c.specs.Merging.{fault_of, merged_code}
+use Rattle.serf_agent_c.proofs.Names.{Bool, Err, List, None, Ok, Option, Result, Some, [], ap, append-nil, append_assoc, arith, cond, false, inl, inr, map, refl, subst, sym, true, ℕ, ◌++◌, ◌+◌, ◌-◌, ◌<◌, ◌^◌, ◌∙◌, ◌∷◌, ◌≡◌, ◌≢◌, ◌≤◌, ◌⊎◌, map-append, All-append, All-cons, All-contains, All-head, All-nil, All-tail, Contains-append_cases, Contains-append_left, Contains-append_right, AllByRecursion, All, Contains, max, observed, AreBytes, HasBytes, SlotHasBytes, decoded, Message, PushPull, foreign, push_pull, query, query_response, user_event, IsRangedPushPull, IsTimed, SlotContent, empty, held, WireFault, EventBody, Device, Kept, SnapshotView, Writing, TimedEntry, Call, MayEnd, ended, longest_texts, device_after, admission, received_as, texts_len, IdealAgent, IsFull, IsDurable, MayKeep, Act, Hears, MayAct, Takes, event_entry, events_out, IsSound, EndsAt, EndsHearing, Merges, Receives, ReceivesAfter, after_event, at_time, delivered, events_of, events_of_slot, hear, heard_by, merge_refusal, receive_one, told_least, AgentState, ConcreteState, view_of, Config, EventOut, MergeFault, Reason, IsFlushed, line_of, no_failure, events_in, Host, Merge, Says, Showing, clock_heard, enters, event_kind, shown, fault_of, merged_code, is_ready, text_of, Code, Gave, Session}
 use Rattle.serf_agent_c.proofs.BurstLaws.{IsPlain, calm-after, calm-kept, device-bytes, event-plain, runs-after}
 use Rattle.serf_agent_c.proofs.HostLaws.{durable-after, text-appends, same-agent, text-ready}
-use Rattle.serf_agent_c.specs.Texts.{text_of}
 use Rattle.serf_agent_c.proofs.HandedOnce.{made-now, Given, Knows, adds, both, full-wider, only-in, same_entry, gave_entries, gives-none, join-assoc, join-nothing, knows-nothing, knows-swapped, nothing, only_events, outs, ◌⊕◌, event-in, none-there, unmet, rising, rising-up, received-low, heard-low, received-outs, HeldIn, held-in}
-use Rattle.serf_agent.specs.declared.config.Config.{Config}
-use Rattle.serf_agent.specs.Config.{longest_texts}
-use Rattle.serf_agent.specs.Kept.{IsFull}
 use Rattle.serf_agent_c.proofs.HostedKept.{Aim, Goes, StateOffers, Tracking, Within, acted, aimed, goes-more, still, unmoved}
 use Rattle.serf_agent_c.proofs.HostedCalls.{Below, given_to, queue_entries, IsHosted, call-hosted, due-given, knows-after, pre, ready-knows, waits-hosted, quiet-hosted}
 use Rattle.serf_agent.specs.Lives as lives

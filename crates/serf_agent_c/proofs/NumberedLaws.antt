@@ -1,26 +1,7 @@
 -- Where the query of a number is among those that wait, and what is left without it.
-use Rattle.std.proofs.Common.{◌≡◌, ◌≢◌, ℕ, ◌==◌, ◌<◌, ◌≤◌, ◌+◌, ◌++◌, ◌∷◌, [], ◌∙◌, ap, arith, Bool, cond, false, length, List, None, not, Option, refl, Some, suc, sym, true, zero, get_or, Result}
-use Rattle.std.proofs.lemmas.Bool.{eqb-true, eq-eqb, ltb-true, ltb-false}
-use Rattle.std.proofs.lemmas.List.Elements.{All-head, All-tail}
-use Rattle.std.proofs.lemmas.List.Elements.{filter_passes}
-use Rattle.std.proofs.lemmas.Bool.{leb-true}
-use Rattle.std.proofs.lemmas.Option.{get_or_from_slice_get}
-use Rattle.std.proofs.Common.{Err, Ok, filter, slice_index_or}
-use Rattle.std.specs.List.{insert, position, position_or_len, remove}
-use Rattle.std.specs.Prelude.{All, nat_le, nat_lt, slice_get, AllPairs}
-use Rattle.serf_agent.specs.Handed.{Handed}
-use Rattle.serf_agent.specs.declared.outcome.Reply.{Reply}
-use Rattle.serf_agent.specs.declared.outcome.RespondFault.{RespondFault}
-use Rattle.serf_agent.specs.Queries.{respond_fault, response_packet}
-use Rattle.serf_agent_c.specs.Asking.{replied_as, reply_of}
-use Rattle.serf_agent_c.specs.Numbered.{Numbered, left_without, waiting_at, with_handed}
+use Rattle.serf_agent_c.proofs.Names.{Bool, Err, List, None, Ok, Option, Result, Some, [], ap, arith, cond, false, filter, get_or, length, not, refl, slice_index_or, suc, sym, true, zero, ℕ, ◌++◌, ◌+◌, ◌<◌, ◌==◌, ◌∙◌, ◌∷◌, ◌≡◌, ◌≢◌, ◌≤◌, eq-eqb, eqb-true, leb-true, ltb-false, ltb-true, nat_tests, ranked, All-head, All-tail, filter_passes, IsNonDecreasingBy-from_default, get_or_from_slice_get, insert, position, position_or_len, remove, IsBinarySearchResult, IsNonDecreasingBy, IsSearchInRange, nat_cmp, ordering_index, All, AllPairs, nat_lt, slice_get, result_ok, Handed, respond_fault, response_packet, Reply, RespondFault, replied_as, reply_of, Numbered, left_without, waiting_at, with_handed}
+use Rattle.std.specs.Prelude.{nat_le}
 use Rattle.serf_agent_c.proofs.HandedOnce.{weaker}
-use Rattle.std.proofs.lemmas.Bool.Decides.{nat_tests}
-use Rattle.std.proofs.lemmas.Cmp.{ranked}
-use Rattle.std.proofs.lemmas.List.Sorted.{IsNonDecreasingBy-from_default}
-use Rattle.std.specs.List.Sorted.{IsBinarySearchResult, IsNonDecreasingBy, IsSearchInRange}
-use Rattle.std.specs.Ordering.{nat_cmp, ordering_index}
-use Rattle.std.specs.Result.{result_ok}
 
 abbrev has : ℕ → ℕ × Handed → Bool
 has number w = w.0 == number

@@ -1,36 +1,12 @@
 -- A place as the machine has it: one pointer; and a session can be let go, as a call wants it that is generic over what it moves.
 use mathlib.Core.Path.{◌≡◌, refl}
 use mathlib.Core.List.{[], ◌∷◌}
-use lib.Dec.{T}
-use seplogic.Ra.Ura.{Ura}
-use mir.Syntax.{Dict, dnil, impl, tcons, tnil, ty_ptr, Callee, method, no_args}
-use mir.Val.{Val, vstruct, vcons, vnil, has_ty, WT}
-use base.Logic.{ent, emp, SProp, sep, ex, ex_e, ex_i, mono_r, via}
-use types.Logic.{Logic, sem}
-use denote.Laws.{Is}
+use Rattle.serf_agent_c.proofs.Names.{IsSome, fsep, ftrue, SProp, emp, ent, ex, ex_e, ex_i, mono_r, sep, via, toks, fm→mono, Running, no, Is, arg, layout, signature, spent, Laws, arg_laws, Nothing, RattleType, Ptr, ptr_val, rawptr_Lawful, rawptr_pure, nothing, shape, Struct, Struct-Lawful, Struct-Makes, grown, spared, Meets, triple_of, run_framed, widened, T, Callee, Dict, dnil, impl, method, no_args, tcons, tnil, ty_ptr, Val, WT, has_ty, vcons, vnil, vstruct, Model, Wired, Ura, !, done, fjoin, join, qed, raw, show, ◌$◌, ◌∵◌, Logic, sem}
 use mir.Raw.{raw as bare}
-use denote.Exit.{no}
-use denote.Param.{arg, layout}
-use denote.Param.Laws.{Laws, arg_laws}
-use denote.RattleType.{RattleType}
-use denote.RawPtr.{Ptr, ptr_val, rawptr_pure, rawptr_Lawful}
-use denote.Struct.Owning.{shape}
-use denote.Struct.Struct.{Struct, Struct-Lawful, Struct-Makes}
-use Rattle.std.specs.Prelude.{Option, Some, None, IsSome}
+use Rattle.std.specs.Prelude.{Option, Some, None}
 use Rattle.std_heap.specs.contracts.GlobalAllocator.TheImpl.{ghosts}
-use prog.Model.{Model}
-use prog.Wired.{Wired}
-use base.Fml.{ftrue, fsep}
-use contract.Lifetimes.{toks}
-use contract.Monad.{fm→mono}
-use contract.Running.{Running}
-use types.Kit.{raw, ◌$◌, ◌∵◌, !, qed, drop, join, fjoin, show, done}
-use denote.Param.Glue.{Met, signature, spent}
-use denote.Plain.{Nothing}
-use denote.Steps.{nothing}
-use denote.Triple.Carry.{grown, spared}
-use denote.Triple.Spec.{Meets, triple_of}
-use denote.Triple.Table.{run_framed, widened}
+use types.Kit.{drop}
+use denote.Param.Glue.{Met}
 use Rattle.serf_agent_c.specs.contracts.session.Session.{the_row}
 use Rattle.serf_agent_c.proofs.serf_agent_c++session++Session+Destruct.drop.Met.{met}
 use Rattle.std_alloc.specs.contracts.boxed.Box as Box

@@ -1,35 +1,7 @@
 -- Small lives of a host in C that break what is promised of them, and the proofs that the promises refuse them. A definition that is
 -- changed so that it promises nothing doesn't pass here.
-use Rattle.std.proofs.Common.{◌≡◌, ◌≢◌, ◌⊎◌, inl, inr, ℕ, ◌<◌, ◌&&◌, ◌++◌, ◌∷◌, [], ap, arith, Bool, cond, Err, false, Result, List, map, None, Ok, Option, refl, Some, subst, sym, ◌∙◌, true, ◌≤◌, ◌+◌, length}
-use Rattle.std.proofs.lemmas.List.Elements.{All-head, All-nil}
-use Rattle.std.specs.Prelude.{All, AllPairs, Contains}
-use Rattle.serf_wire.specs.declared.texts.EventBody.{EventBody}
-use Rattle.serf_window.specs.Window.{TimedEntry}
-use Rattle.serf_agent.specs.declared.outcome.Fired.{Fired}
-use Rattle.serf_agent.specs.declared.outcome.FiredQuery.{FiredQuery}
-use Rattle.serf_agent.specs.Config.{is_sound}
-use Rattle.serf_agent.specs.Handed.{Handed}
-use Rattle.serf_agent.specs.Ideal.{Past}
-use Rattle.serf_agent.specs.Once.{IsOnce}
-use Rattle.serf_agent_c.specs.declared.code.Code.{Code}
-use Rattle.serf_agent_c.specs.declared.heads.Params.{Params}
-use Rattle.serf_agent_c.specs.declared.heads.Settings.{Settings}
-use Rattle.serf_agent_c.specs.declared.session.Session.{Session}
-use Rattle.serf_agent.specs.Lives.{event_entry, query_entries}
-use Rattle.serf_agent_c.specs.Gaves.{events_in, handed_in}
-use Rattle.serf_agent_c.specs.Hosts.{Deed, Dies, Fire, GivesLater, GivesOnce, GivesQueriesLater, GivesQueriesOnce, Host, MayDo, MayHost, Query, Says, first_host, hosted, shown, Calls, Export, GivesNew, IsPassed, KeepsTo, Merge, MissesNone, Offers, Receive, Showing, TakesNewQueries, Writes, all_met, clock_after, enters, event_kind, first_met, met_after, met_in, queries_by, query_kind}
-use Rattle.serf_agent_c.specs.Opening.{GoesOn, IsFresh, config_of}
-use Rattle.serf_agent_c.specs.Sessions.{is_ready}
-use Rattle.serf_wire.specs.Decoded.{decoded}
-use Rattle.serf_wire.specs.Message.{Message, foreign, push_pull, query, query_response, user_event}
-use Rattle.serf_wire.specs.declared.fault.WireFault.{WireFault}
-use Rattle.serf_snap.specs.EventLines.{least_in}
-use Rattle.serf_agent.specs.declared.outcome.EventOut.{EventOut}
-use Rattle.serf_agent.specs.declared.outcome.Reason.{Reason}
-use Rattle.serf_agent.specs.Kept.{HasMet, IsFull, IsMet}
-use Rattle.serf_agent.specs.TrackOf.{got_query}
+use Rattle.serf_agent_c.proofs.Names.{Bool, Err, List, None, Ok, Option, Result, Some, [], ap, arith, cond, false, inl, inr, length, map, refl, subst, sym, true, ℕ, ◌&&◌, ◌++◌, ◌+◌, ◌<◌, ◌∙◌, ◌∷◌, ◌≡◌, ◌≢◌, ◌≤◌, ◌⊎◌, All-head, All-nil, All, AllPairs, Contains, decoded, Message, foreign, push_pull, query, query_response, user_event, WireFault, EventBody, least_in, TimedEntry, is_sound, Handed, Past, HasMet, IsFull, IsMet, event_entry, query_entries, IsOnce, got_query, EventOut, Fired, FiredQuery, Reason, events_in, handed_in, Calls, Deed, Dies, Export, Fire, GivesLater, GivesNew, GivesOnce, GivesQueriesLater, GivesQueriesOnce, Host, IsPassed, KeepsTo, MayDo, MayHost, Merge, MissesNone, Offers, Query, Receive, Says, Showing, TakesNewQueries, Writes, all_met, clock_after, enters, event_kind, first_host, first_met, hosted, met_after, met_in, queries_by, query_kind, shown, GoesOn, IsFresh, config_of, is_ready, Code, Gave, Params, Settings, Session}
 use Rattle.serf_agent_c.specs.declared.code.Code.TheVariants.{OutOfMemory}
-use Rattle.serf_agent_c.specs.declared.gave.Gave.{Gave}
 use Rattle.serf_agent_c.proofs.HandedOnce.{made-now, none-there, unmet}
 use Rattle.serf_agent_c.specs.declared.gave.Gave.TheVariants as gaves
 use Rattle.serf_agent.specs.declared.outcome.Outcome.TheVariants as outcomes

@@ -1,4 +1,4 @@
-//! What the agent answered to a call of a burst.
+//! The outcome of a call of a burst. Once the host reads it, it becomes what that call gave (`Gave`).
 
 ghost use Rattle.std.specs.Prelude.{◌≡◌};
 ghost use Rattle.serf_agent_c.specs.Bursts.{code_of, gave_of};
@@ -9,7 +9,7 @@ use crate::code::Code;
 use crate::gave::Gave;
 use serf_agent::{FireFault, Fired, FiredQuery, Outcome, QueryFault, ReceiveFault};
 
-/// What the agent answered to a call of a burst.
+/// What the agent answered to a call of a burst: a packet that came, an event that was fired, or a query that was fired.
 #[derive(Drop)]
 pub enum Answered {
     Received(Result<Outcome, ReceiveFault>),
@@ -18,7 +18,7 @@ pub enum Answered {
 }
 
 impl Answered {
-    /// The code of the call.
+    /// The code that the call answered.
     pub(crate) fn code(&self) -> Code
         ensures { result ≡ code_of self.now }
     {

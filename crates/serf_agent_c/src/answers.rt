@@ -12,7 +12,7 @@ use crate::heads::AnswerHead;
 use serf_agent::{answer_in, is_ack};
 use serf_wire::QueryResponse;
 
-/// What C reads of an answer, beside its texts.
+/// What C reads of `answer`, an ack or a response, beside its texts.
 fn head_of_answer(answer: &QueryResponse) -> AnswerHead
     ensures { result ≡ answer_head (response_said answer.now) }
 {

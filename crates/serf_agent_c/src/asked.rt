@@ -13,7 +13,7 @@ use crate::session::Session;
 use std::alloc::Global;
 
 impl Gave {
-    /// The time of the query that was fired.
+    /// The Lamport time of the query that the call fired, if it fired one.
     fn asked_time(&self) -> Option<u64>
         ensures { result ≡ asked_time_in self.now }
     {
@@ -25,7 +25,7 @@ impl Gave {
 }
 
 impl Session {
-    /// The time of the query that the last call fired.
+    /// Sets `time` to the Lamport time of the query that the last call fired; `Nothing` where it fired none.
     fn read_asked_time(&self, time: &mut u64) -> Code
         ensures reads { ReadsAs (is_ready self.now) (asked_time_in self.now.gave)
             (λ t. time.new ≡ t) result }
@@ -42,7 +42,7 @@ impl Session {
     }
 }
 
-/// The time of the query that the last call fired: with its ID, the host knows by it to which of its queries an answer is.
+/// Sets `time` to the Lamport time of the query that the last call fired: an answer to the query has it, and its ID.
 #[unsafe(no_mangle)]
 pub extern "C" fn serf_agent_asked_time(alloc: Global, handle: &mut Handle, time: &mut u64) -> u32
     ensures reads { Shows (λ s code. ReadsAs (is_ready s) (asked_time_in s.gave)

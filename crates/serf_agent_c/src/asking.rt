@@ -15,7 +15,7 @@ use serf_agent::{BytesList, FiredQuery, QueryFault, QueryParams, Reply, RespondF
 use serf_wire::Bytes;
 use std::alloc::Global;
 
-/// The code that C gets where a query was fired or refused.
+/// The code that C gets for the agent's `answer` to firing a query.
 pub(crate) fn asked_code(answer: &Result<FiredQuery, QueryFault>) -> Code
     ensures code { result ≡ answer_code query_code answer.now }
     ensures memory { answer.now ≡ Err QueryFault.OutOfMemory → result ≡ Code.OutOfMemory }
@@ -26,7 +26,7 @@ pub(crate) fn asked_code(answer: &Result<FiredQuery, QueryFault>) -> Code
     }
 }
 
-/// The code that C gets where a query was answered or not.
+/// The code that C gets for the `answer` to responding to a query: the response to send, or why there is none.
 fn replied_code(answer: &Result<Reply, RespondFault>) -> Code
     ensures code { result ≡ answer_code respond_code answer.now }
     ensures memory { answer.now ≡ Err RespondFault.OutOfMemory → result ≡ Code.OutOfMemory }
@@ -37,7 +37,7 @@ fn replied_code(answer: &Result<Reply, RespondFault>) -> Code
     }
 }
 
-/// How a query is fired: the host's `params`, with the filters that were added and the node's address.
+/// How a query is fired: the host's `params`, with the `filters` that were added and `addr`, where its answers go.
 pub(crate) fn params_with(filters: BytesList, addr: Bytes, params: &Params) -> QueryParams
     ensures { result ≡ params_of filters addr params.now }
 {
@@ -54,7 +54,7 @@ pub(crate) fn params_with(filters: BytesList, addr: Bytes, params: &Params) -> Q
 }
 
 impl Session {
-    /// Adds a filter to the next query's, also while bytes for the host's file aren't written.
+    /// Adds a copy of `filter` to those of the next query, even while the host's file lacks bytes.
     pub(crate) fn add_filter(&mut self, alloc: Global, filter: &[u8]) -> Code
         ensures adds { AddsFilter filter.now self.old self.new result }
         ensures refused { result ≢ Code.Done → result ≡ Code.OutOfMemory }
@@ -83,7 +83,7 @@ impl Session {
         }
     }
 
-    /// Fires a query with the filters that were added, and keeps what it gave.
+    /// Fires the query `id` at the moment `now`, in nanoseconds, with the filters that were added; keeps what it gave.
     pub(crate) fn query(
         &mut self,
         alloc: Global,
@@ -117,7 +117,7 @@ impl Session {
         code
     }
 
-    /// Answers the query of this number that was handed out, and keeps the packet.
+    /// Answers the query that was handed out as `number`, at the moment `now`, with `payload`; keeps the packet to send.
     pub(crate) fn respond(&mut self, alloc: Global, now: u64, number: u64, payload: &[u8]) -> Code
         ensures waits { Waits self.old self.new result }
         ensures agent { self.new.agent ≡ self.old.agent }
@@ -136,7 +136,7 @@ impl Session {
         code
     }
 
-    /// Forgets the query of this number that was handed out.
+    /// Forgets the query that was handed out as `number`; `NotHanded` where none waits by it.
     pub(crate) fn forget(&mut self, number: u64) -> Code
         ensures waits { Waits self.old self.new result }
         ensures agent { self.new.agent ≡ self.old.agent }
@@ -155,8 +155,8 @@ impl Session {
         }
     }
 
-    /// Closes the open queries whose deadline is before `now`, and keeps them to be read; `closed` is how many. Those
-    /// that were handed out, and whose deadline is before `now`, are forgotten.
+    /// Closes the agent's own queries whose deadline is before `now`, and keeps them to be read; `closed` is how many.
+    /// Queries that were handed out, with a deadline before `now`, are forgotten.
     pub(crate) fn close_due(&mut self, alloc: Global, now: u64, closed: &mut usize) -> Code
         ensures waits { Waits self.old self.new result }
         ensures late { ForgetsLate now self.old self.new result }

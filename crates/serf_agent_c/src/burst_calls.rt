@@ -1,4 +1,5 @@
-//! The calls of a burst: what C calls through a handle before the host flushes once, and what it reads then.
+//! The calls of a burst: what C calls through a handle before the host flushes once, and what it reads then. In the
+//! clauses `s` is the session before a call, `t` the one after it, and `code` what C gets.
 
 ghost use Rattle.std.specs.Prelude.{◌≡◌, ◌≢◌, length, None, true};
 ghost use Rattle.serf_agent_c.specs.Asking.{params_of};
@@ -14,8 +15,8 @@ use crate::handle::Handle;
 use crate::heads::Params;
 use std::alloc::Global;
 
-/// Takes a packet that comes at a moment, within a burst, where the host says whether this node's tags pass every tag filter
-/// of its query: its outcome waits for [`serf_agent_next`].
+/// Takes a packet that comes at the moment `now`, within a burst: its outcome waits for [`serf_agent_next`]. By
+/// `tags_pass` the host says whether this node's tags pass all tag filters of its query.
 #[unsafe(no_mangle)]
 pub extern "C" fn serf_agent_burst_receive(
     alloc: Global,
@@ -40,7 +41,7 @@ pub extern "C" fn serf_agent_burst_receive(
     code.number()
 }
 
-/// Fires an event, within a burst: its outcome waits for [`serf_agent_next`].
+/// Fires the event of `name` and `payload`, within a burst: its outcome waits for [`serf_agent_next`].
 #[unsafe(no_mangle)]
 pub extern "C" fn serf_agent_burst_fire(
     alloc: Global,
@@ -65,8 +66,8 @@ pub extern "C" fn serf_agent_burst_fire(
     code.number()
 }
 
-/// Fires a query with the filters that were added since the last that was tried, within a burst: its outcome waits for
-/// [`serf_agent_next`]. It forgets the filters.
+/// Fires the query `id` with the filters that were added for it, within a burst: its outcome waits for
+/// [`serf_agent_next`]. The filters are forgotten then, unless memory was wanting.
 #[unsafe(no_mangle)]
 pub extern "C" fn serf_agent_burst_query(
     alloc: Global,
@@ -94,9 +95,8 @@ pub extern "C" fn serf_agent_burst_query(
     code.number()
 }
 
-/// Goes on to the next outcome of a burst, in the order of its calls: the getters read what it gave, and `answered` is the
-/// code of its call. `Nothing` where none is left, `Unwritten` while bytes for the host's file aren't written. Want of memory
-/// changes nothing but that nothing is given: the outcome waits on.
+/// Goes on to the next outcome of a burst: the getters read what its call gave, and `answered` is that call's code.
+/// `NOTHING` where none is left, `UNWRITTEN` while the host's file lacks bytes; without memory the outcome waits on.
 #[unsafe(no_mangle)]
 pub extern "C" fn serf_agent_next(alloc: Global, handle: &mut Handle, answered: &mut u32) -> u32
     ensures waits { Answers (λ s t code. Waits s t code) handle.old handle.new result }
@@ -117,7 +117,7 @@ pub extern "C" fn serf_agent_next(alloc: Global, handle: &mut Handle, answered: 
     code.number()
 }
 
-/// How many outcomes of a burst wait for [`serf_agent_next`].
+/// Sets `total` to how many outcomes of a burst wait for [`serf_agent_next`].
 #[unsafe(no_mangle)]
 pub extern "C" fn serf_agent_outcomes(alloc: Global, handle: &mut Handle, total: &mut usize) -> u32
     ensures reads { Shows (λ s code. (code ≡ Code.Done) × (total.new ≡ length s.burst.items))

@@ -20,8 +20,7 @@ use serf_wire::Bytes;
 use std::alloc::{AllocError, Global};
 
 impl Session {
-    /// Makes ready for a call of a burst: there is room for its outcome, and the host's file is said to have no more than
-    /// the text that is there.
+    /// Makes ready for a call of a burst: makes room for its outcome, and lets `written` be at most the text's length.
     fn prepare(&mut self) -> Result<(), AllocError>
         ensures stands { Stands self.old self.new }
         ensures agent { self.new.agent ≡ self.old.agent }
@@ -33,7 +32,7 @@ impl Session {
         self.burst.reserve(1)
     }
 
-    /// Puts the outcome of a call behind those that wait, unless `code` says that there was no memory for the call.
+    /// Puts `answered`, a call's outcome, after those that wait, unless `code` says that the call had no memory.
     fn wait(&mut self, answered: Answered, code: Code)
         requires { deque_len self.old.burst < deque_capacity self.old.burst }
         ensures waits { code ≢ Code.OutOfMemory
@@ -50,7 +49,7 @@ impl Session {
         }
     }
 
-    /// Takes a packet that comes, within a burst, with what the host says of tag filters.
+    /// Takes a packet that comes at the moment `now`: its outcome waits. `tags_pass` is what the host says of tags.
     pub(crate) fn burst_receive(
         &mut self,
         alloc: Global,
@@ -73,7 +72,7 @@ impl Session {
         code
     }
 
-    /// Fires an event, within a burst.
+    /// Fires the event of `name` and `payload`: its outcome waits. `coalesce` is Serf's flag of it.
     pub(crate) fn burst_fire(
         &mut self,
         alloc: Global,
@@ -96,7 +95,7 @@ impl Session {
         code
     }
 
-    /// Fires a query, within a burst.
+    /// Fires the query `id` at the moment `now`, in nanoseconds, with the filters that were added: its outcome waits.
     pub(crate) fn burst_query(
         &mut self,
         alloc: Global,
@@ -129,7 +128,7 @@ impl Session {
         code
     }
 
-    /// Goes on to the next outcome of a burst: the getters read it then, and `answered` is the code of its call.
+    /// Goes on to the next outcome, for the getters; sets `answered` to its call's code. `Nothing` where none waits.
     pub(crate) fn next(&mut self, answered: &mut u32) -> Code
         ensures waits { Waits self.old self.new result }
         ensures same { result ≢ Code.Done → answered.new ≡ answered.old }
@@ -152,7 +151,7 @@ impl Session {
         Code::Done
     }
 
-    /// Sets `total` to how many outcomes of a burst wait.
+    /// Sets `total` to how many outcomes of a burst still wait to be read.
     pub(crate) fn read_outcomes(&self, total: &mut usize)
         ensures { total.new ≡ length self.now.burst.items }
     {

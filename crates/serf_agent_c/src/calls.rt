@@ -1,4 +1,4 @@
-//! Calls of a session's agent.
+//! Two calls of a session's agent: to fire an event, and to take a packet.
 
 ghost use Rattle.std.specs.Prelude.{◌≡◌, Err};
 ghost use Rattle.serf_window.specs.Texts.{event_of};
@@ -14,7 +14,7 @@ use crate::session::Session;
 use serf_agent::{FireFault, Fired, Outcome, ReceiveFault};
 use std::alloc::Global;
 
-/// The code that C gets where an event was fired or refused.
+/// The code that C gets for the agent's `answer` to firing an event.
 pub(crate) fn fired_code(answer: &Result<Fired, FireFault>) -> Code
     ensures code { result ≡ answer_code fire_code answer.now }
     ensures memory { answer.now ≡ Err FireFault.OutOfMemory → result ≡ Code.OutOfMemory }
@@ -25,7 +25,7 @@ pub(crate) fn fired_code(answer: &Result<Fired, FireFault>) -> Code
     }
 }
 
-/// The code that C gets where a packet was taken or refused.
+/// The code that C gets for the agent's `answer` to a packet.
 pub(crate) fn received_code(answer: &Result<Outcome, ReceiveFault>) -> Code
     ensures code { result ≡ answer_code receive_code answer.now }
     ensures memory { answer.now ≡ Err ReceiveFault.OutOfMemory → result ≡ Code.OutOfMemory }
@@ -37,7 +37,7 @@ pub(crate) fn received_code(answer: &Result<Outcome, ReceiveFault>) -> Code
 }
 
 impl Session {
-    /// Keeps what a call gave, for the getters to read.
+    /// Keeps `gave`, what a call gave, for the getters to read.
     #[inline(always)]
     pub(crate) fn give(&mut self, gave: Gave)
         ensures gave { self.new.gave ≡ gave }
@@ -49,7 +49,7 @@ impl Session {
         self.gave = gave;
     }
 
-    /// Fires an event, and keeps what it gave.
+    /// Fires the event of `name` and `payload`, and keeps what that gave; `coalesce` is Serf's flag of it.
     pub(crate) fn fire(
         &mut self,
         alloc: Global,
@@ -74,7 +74,7 @@ impl Session {
         code
     }
 
-    /// Takes a packet that comes, and keeps what it gave; `tags_pass` is what the host says of tag filters.
+    /// Takes a packet that comes at the moment `now`; keeps what that gave. `tags_pass` is what the host says of tags.
     pub(crate) fn receive(
         &mut self,
         alloc: Global,

@@ -15,7 +15,7 @@ use crate::session::Session;
 use serf_agent::{OpenQuery, Response};
 use serf_wire::Bytes;
 
-/// What C reads of a query that was closed, beside its answers.
+/// What C reads of `closed`, a query that was closed with its time, beside its answers.
 fn head_of_closed(closed: &(u64, OpenQuery)) -> ClosedHead
     ensures { result ≡ closed_head closed.now }
 {
@@ -29,7 +29,7 @@ fn head_of_closed(closed: &(u64, OpenQuery)) -> ClosedHead
     }
 }
 
-/// What C reads of a response beside its texts.
+/// What C reads of `response` beside its texts.
 fn head_of_response(response: &Response) -> ResponseHead
     ensures { result ≡ response_head response.now }
 {
@@ -40,7 +40,7 @@ fn head_of_response(response: &Response) -> ResponseHead
 }
 
 impl Gave {
-    /// The name that acked the closed query `index` as number `number`, both from 0 on, in order of arrival.
+    /// The name of the node whose ack of the closed query `index` came as number `number`, both from 0 on.
     fn closed_ack(&self, index: usize, number: usize) -> Option<&Bytes>
         ensures { option_copied result ≡ ack_of number (slice_get (closed_in self.now) index) }
     {
@@ -48,7 +48,7 @@ impl Gave {
         query.acks.as_slice().get(number)
     }
 
-    /// The response number `number` to the closed query `index`, both from 0 on, in order of arrival.
+    /// The response to the closed query `index` that came as number `number`, both from 0 on.
     fn closed_response(&self, index: usize, number: usize) -> Option<&Response>
         ensures { option_copied result ≡ response_of number (slice_get (closed_in self.now) index) }
     {
@@ -58,7 +58,7 @@ impl Gave {
 }
 
 impl Session {
-    /// Fills `head` with the query `index`, from 0 on, that the last call closed.
+    /// Fills `head` with the query `index`, from 0 on, that the last call closed; `Nothing` where there is none.
     pub(crate) fn read_closed(&self, index: usize, head: &mut ClosedHead) -> Code
         ensures reads { ReadsAs (is_ready self.now) (slice_get (closed_in self.now.gave) index)
             (λ q. head.new ≡ closed_head q) result }
@@ -74,7 +74,7 @@ impl Session {
         Code::Done
     }
 
-    /// Reads the name that acked the closed query `index` as number `number`: its length, and as much of it as fits.
+    /// Fills `len` and `to` with the name of the node whose ack of the closed query `index` came as number `number`.
     pub(crate) fn read_closed_ack(
         &self,
         index: usize,
@@ -98,7 +98,7 @@ impl Session {
         Code::Done
     }
 
-    /// Reads the response number `number` to the closed query `index`, and as much of its texts as fits.
+    /// Fills `head` and the texts with the response to the closed query `index` that came as number `number`.
     pub(crate) fn read_closed_response(
         &self,
         index: usize,
@@ -126,7 +126,7 @@ impl Session {
         Code::Done
     }
 
-    /// Sets `should` to whether a compaction of the host's file is worth doing, by `Agent::should_compact`.
+    /// Sets `should` to whether the host should compact: its file has over `limit` bytes, and at least half would go.
     pub(crate) fn read_should_compact(&self, limit: u64, should: &mut bool) -> Code
         ensures waits { is_ready self.now ≡ false → result ≡ Code.Unwritten }
         ensures tells { is_ready self.now ≡ true

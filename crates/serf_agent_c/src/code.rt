@@ -1,4 +1,4 @@
-//! What an export answers.
+//! What an export answers: the codes that C reads, and the code of each fault of the agent.
 
 ghost use Rattle.std.specs.Prelude.{◌≡◌};
 ghost use Rattle.serf_agent_c.specs.Codes.{fire_code, merge_code, note_code, number_of, open_code, query_code, receive_code, respond_code, state_code};
@@ -13,17 +13,17 @@ use serf_snap::NoteFault;
 pub enum Code {
     /// The call was done.
     Done,
-    /// The handle has no agent.
+    /// The handle has no agent: it is empty.
     Empty,
     /// The handle has an agent already.
     InUse,
-    /// Bytes for the host's file aren't written yet.
+    /// The host's file lacks bytes, and the host has to write them first.
     Unwritten,
-    /// The last call gave no such thing.
+    /// There is nothing of the kind that is asked for: the last call gave none, or the packet is of another kind.
     Nothing,
-    /// There was no memory.
+    /// There was no memory for the call.
     OutOfMemory,
-    /// Settings are out of bounds.
+    /// A setting, or the length of the agent's name, is out of its bounds.
     BadConfig,
     /// The agent's sink failed.
     SinkFault,
@@ -31,26 +31,26 @@ pub enum Code {
     Stopped,
     /// The event, the query or the response is too large.
     TooLarge,
-    /// The clock stands at 2^64 - 1.
+    /// The clock stands at 2^64 - 1, or 2^64 - 1 was given as a time, which it is not.
     Exhausted,
     /// The packet is no message.
     NoMessage,
-    /// The query has as many answers as it takes.
+    /// The query has answers of as many nodes as the agent counts.
     RespondersFull,
-    /// The message is of another kind.
+    /// The message to merge is no push/pull.
     NotPushPull,
-    /// A text or a list is longer than 4,294,967,295.
+    /// A text has more than 4,294,967,295 bytes, or a list more items.
     TooLong,
-    /// The timeout is 0 or below.
+    /// The query's timeout is 0 or below.
     NoTime,
-    /// The moment is after the query's deadline.
+    /// The moment of the response is after the query's deadline.
     PastDeadline,
-    /// No query of this number is handed out and not yet answered.
+    /// No query waits for an answer by the number that was given.
     NotHanded,
 }
 
 impl Code {
-    /// The number that C reads.
+    /// The number of the code, which C reads.
     pub fn number(self) -> u32
         ensures { result ≡ number_of self }
     {
@@ -76,6 +76,7 @@ impl Code {
         }
     }
 
+    /// The code of a refused opening.
     pub(crate) fn of_open(fault: OpenFault) -> Code
         ensures { result ≡ open_code fault }
     {
@@ -86,6 +87,7 @@ impl Code {
         }
     }
 
+    /// The code of an event that was not fired.
     pub(crate) fn of_fire(fault: FireFault) -> Code
         ensures { result ≡ fire_code fault }
     {
@@ -98,6 +100,7 @@ impl Code {
         }
     }
 
+    /// The code of a packet that was not taken.
     pub(crate) fn of_receive(fault: ReceiveFault) -> Code
         ensures { result ≡ receive_code fault }
     {
@@ -110,6 +113,7 @@ impl Code {
         }
     }
 
+    /// The code of a query that was not fired.
     pub(crate) fn of_query(fault: QueryFault) -> Code
         ensures { result ≡ query_code fault }
     {
@@ -123,6 +127,7 @@ impl Code {
         }
     }
 
+    /// The code of a state that was not merged, or not all of it.
     pub(crate) fn of_merge(fault: MergeFault) -> Code
         ensures { result ≡ merge_code fault }
     {
@@ -135,6 +140,7 @@ impl Code {
         }
     }
 
+    /// The code of a state that was not made.
     pub(crate) fn of_state(fault: PushPullFault) -> Code
         ensures { result ≡ state_code fault }
     {
@@ -145,6 +151,7 @@ impl Code {
         }
     }
 
+    /// The code of a response that was not made.
     pub(crate) fn of_respond(fault: RespondFault) -> Code
         ensures { result ≡ respond_code fault }
     {
@@ -155,6 +162,7 @@ impl Code {
         }
     }
 
+    /// The code of a line that was not written.
     pub(crate) fn of_note(fault: NoteFault) -> Code
         ensures { result ≡ note_code fault }
     {

@@ -3,11 +3,11 @@
 ghost use Rattle.std.specs.Prelude.{◌≡◌};
 ghost use Rattle.serf_agent_c.specs.Texts.{copied};
 
-/// Copies as many items of `from` to the begin of `to` as fit.
+/// Copies the first items of `from` to the begin of `to`, as many as fit.
 pub(crate) fn copy_into<T: Copy>(to: &mut [T], from: &[T])
     ensures { to.new ≡ copied from.now to.old }
 {
-    let n = to.len().min(from.len());
-    let (front, _) = to.split_at_mut(n);
-    front.copy_from_slice(&from[..n]);
+    let count = to.len().min(from.len());
+    let (front, _) = to.split_at_mut(count);
+    front.copy_from_slice(&from[..count]);
 }

@@ -9,7 +9,7 @@ use crate::heads::FaultHead;
 use serf_pack::PackFault;
 use serf_wire::{WireFault, decode};
 
-/// The number of a fault in C.
+/// The number of `fault`, by `enum serf_agent_fault` of `include/serf_agent.h`.
 fn fault_kind(fault: WireFault) -> u32
     ensures { result ≡ fault_kind fault }
 {
@@ -29,7 +29,7 @@ fn fault_kind(fault: WireFault) -> u32
     }
 }
 
-/// Where in the packet the fault is, in bytes from its begin.
+/// Where in the packet `fault` is, in bytes from its begin; 0 where the fault is of the whole packet.
 fn fault_offset(fault: WireFault) -> usize
     ensures { result ≡ fault_offset fault }
 {
@@ -47,7 +47,7 @@ fn fault_offset(fault: WireFault) -> usize
     }
 }
 
-/// The byte of the packet that the fault names, 0 where it names none.
+/// The byte of the packet that `fault` names, 0 where it names none.
 fn fault_byte(fault: WireFault) -> u8
     ensures { result ≡ fault_byte fault }
 {
@@ -58,7 +58,7 @@ fn fault_byte(fault: WireFault) -> u8
     }
 }
 
-/// What C reads of a fault.
+/// What C reads of `fault`.
 pub(crate) fn head_of_fault(fault: WireFault) -> FaultHead
     ensures { result ≡ fault_head fault }
 {
@@ -69,7 +69,7 @@ pub(crate) fn head_of_fault(fault: WireFault) -> FaultHead
     }
 }
 
-/// Why a packet is no message; where it is one, the fault stays as it was.
+/// Fills `fault` with the first fault of `packet`; where it is a message, gives `Nothing`, and `fault` stays as it was.
 pub(crate) fn read_fault(packet: &[u8], fault: &mut FaultHead) -> Code
     ensures { ReadsFault (decoded packet.now) fault.old fault.new result }
 {

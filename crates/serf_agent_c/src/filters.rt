@@ -16,7 +16,7 @@ use crate::told::put_texts;
 use serf_wire::{Message, Texts, decode};
 use std::alloc::{AllocError, Global};
 
-/// How many filters a query has, and how long they are together.
+/// How many filters a query has, and how many bytes they have together.
 #[repr(C)]
 #[derive(Clone, Copy)]
 pub struct FiltersHead {
@@ -30,7 +30,7 @@ pub struct LentFilters<'a> {
     filters: Texts<'a>,
 }
 
-/// The filters that a message has, if it is a query.
+/// The filters of `message`, if it is a query.
 fn filters_of<'a>(message: &Message<'a>) -> Option<LentFilters<'a>>
     ensures { option_map filters_lent result ≡ filters_of (message_of message.now) }
 {
@@ -42,7 +42,7 @@ fn filters_of<'a>(message: &Message<'a>) -> Option<LentFilters<'a>>
     }
 }
 
-/// The filters that a packet has, if it is a query.
+/// The filters of the query that `packet` is, if it is one.
 fn lent_filters(packet: &[u8]) -> Option<LentFilters<'_>>
     ensures { option_map filters_lent result ≡ filters_in (decoded packet.now) }
 {
@@ -52,7 +52,7 @@ fn lent_filters(packet: &[u8]) -> Option<LentFilters<'_>>
     }
 }
 
-/// Appends the length of a filter, in bytes.
+/// Appends `len`, the length of a filter in bytes.
 fn put_len(out: &mut Vec<usize>, len: usize) -> Result<(), AllocError>
     ensures { OnOk result (out.new.items ≡ out.old.items ++ len ∷ []) }
 {
@@ -60,7 +60,7 @@ fn put_len(out: &mut Vec<usize>, len: usize) -> Result<(), AllocError>
     Ok(())
 }
 
-/// Appends the length of each filter, in bytes.
+/// Appends the lengths of `filters`, in bytes, in order.
 fn put_lens(out: &mut Vec<usize>, filters: Texts) -> Result<(), AllocError>
     ensures { OnOk result (out.new.items ≡ out.old.items
         ++ map (λ filter. length filter) (texts_left filters.entry)) }
@@ -71,7 +71,7 @@ fn put_lens(out: &mut Vec<usize>, filters: Texts) -> Result<(), AllocError>
     Ok(())
 }
 
-/// How many bytes each filter has, in order.
+/// How many bytes each filter of `lent` has, in order.
 fn lens_of(alloc: Global, lent: &LentFilters) -> Result<Vec<usize>, AllocError>
     ensures { IfOk result (λ lens. lens.items ≡ filter_lens (filters_lent lent.now)) }
 {
@@ -80,7 +80,7 @@ fn lens_of(alloc: Global, lent: &LentFilters) -> Result<Vec<usize>, AllocError>
     Ok(lens)
 }
 
-/// The bytes of the filters, one after the other.
+/// The bytes of the filters of `lent`, one filter after the other.
 fn bytes_of(alloc: Global, lent: &LentFilters) -> Result<Vec<u8>, AllocError>
     ensures { IfOk result (λ bytes. bytes.items ≡ filter_bytes (filters_lent lent.now)) }
 {
@@ -89,7 +89,7 @@ fn bytes_of(alloc: Global, lent: &LentFilters) -> Result<Vec<u8>, AllocError>
     Ok(bytes)
 }
 
-/// The filters that a query's packet has.
+/// Fills `all`, `lens` and `filters` with the filters of `packet`, if it is a query (see `serf_agent_query_filters`).
 fn read_filters(
     alloc: Global,
     packet: &[u8],
@@ -106,6 +106,7 @@ fn read_filters(
     let Some(lent) = lent_filters(packet) else {
         return Code::Nothing;
     };
+    // (the length of each filter, in its order)
     let Ok(told) = lens_of(alloc, &lent) else {
         return Code::OutOfMemory;
     };
@@ -121,8 +122,8 @@ fn read_filters(
     Code::Done
 }
 
-/// The filters that a query's packet has, in its order: how many they are, the length of as many of them as fit, and as
-/// much of their bytes, one after the other, as fits. Of another packet it says `NOTHING`.
+/// Fills `all` with how many filters `packet`, a query, has, `lens` with the length of each in bytes, as many as fit, and
+/// `filters` with as much of their bytes, one after the other, as fits. To another packet it answers `NOTHING`.
 #[unsafe(no_mangle)]
 pub extern "C" fn serf_agent_query_filters(
     alloc: Global,

@@ -1,4 +1,5 @@
-//! The getters: what C reads through a handle, which they leave as it was.
+//! The getters: what C reads through a handle, which they leave as it was. They fill what C lends, each text with as many
+//! of its first bytes as fit. In the clauses `s` is the session, and `code` what C gets.
 
 ghost use Rattle.std.specs.Prelude.{◌≢◌, ◌-◌, ◌^◌, min, true, ◌≡◌, ◌+◌, if◌then◌else◌, Some, false, length, slice_get};
 ghost use Rattle.std.specs.Option.{is_some};
@@ -24,7 +25,7 @@ use crate::heads::{
 };
 use std::alloc::Global;
 
-/// What the last call gave.
+/// Fills `gave` with what the last call gave.
 #[unsafe(no_mangle)]
 pub extern "C" fn serf_agent_gave(alloc: Global, handle: &mut Handle, gave: &mut GaveHead) -> u32
     ensures reads { Shows (λ s code. (code ≡ Code.Done) × (gave.new
@@ -47,7 +48,7 @@ pub extern "C" fn serf_agent_gave(alloc: Global, handle: &mut Handle, gave: &mut
     Code::Done.number()
 }
 
-/// An event that the last call handed out, from 0 on, and as much of its texts as fits.
+/// Fills `event`, `name` and `payload` with the event `index`, from 0 on, that the last call handed out.
 #[unsafe(no_mangle)]
 pub extern "C" fn serf_agent_event(
     alloc: Global,
@@ -72,7 +73,7 @@ pub extern "C" fn serf_agent_event(
     code.number()
 }
 
-/// What an ack's or a response's packet says: where `serf_agent_receive` gave `ACK` or `RESPONSE`, it is what was counted.
+/// Fills `answer`, `from` and `payload` with what `packet` says, an ack or a response; to another it answers `NOTHING`.
 #[unsafe(no_mangle)]
 pub extern "C" fn serf_agent_answer(
     packet: &[u8],
@@ -89,8 +90,8 @@ pub extern "C" fn serf_agent_answer(
     read_answer(packet, answer, from, payload).number()
 }
 
-/// Why a packet is no message: its first fault, where `serf_agent_receive` and `serf_agent_merge` say `NO_MESSAGE`. Of a
-/// message it says `NOTHING`, and the fault stays as it was.
+/// Fills `fault` with why `packet` is no message: its first fault, where `serf_agent_receive` and `serf_agent_merge`
+/// answer `NO_MESSAGE`. To a message it answers `NOTHING`, and `fault` stays as it was.
 #[unsafe(no_mangle)]
 pub extern "C" fn serf_agent_packet_fault(packet: &[u8], fault: &mut FaultHead) -> u32
     ensures { (code : Code) × (result ≡ number_of code)
@@ -99,7 +100,7 @@ pub extern "C" fn serf_agent_packet_fault(packet: &[u8], fault: &mut FaultHead) 
     read_fault(packet, fault).number()
 }
 
-/// The packet that the last call gave to send: its length, and as much of it as fits.
+/// Fills `len` and `to` with the packet that the last call gave to send: its length, and as much of it as fits.
 #[unsafe(no_mangle)]
 pub extern "C" fn serf_agent_packet(
     alloc: Global,
@@ -120,7 +121,7 @@ pub extern "C" fn serf_agent_packet(
     code.number()
 }
 
-/// The ack to send, of a query that is handed out here: its length, and as much of it as fits.
+/// Fills `len` and `to` with the ack to send, of a query that the last call handed out: its length, and what fits.
 #[unsafe(no_mangle)]
 pub extern "C" fn serf_agent_ack(
     alloc: Global,
@@ -141,7 +142,7 @@ pub extern "C" fn serf_agent_ack(
     code.number()
 }
 
-/// A query that was handed out and not yet answered, by its number, and as much of its texts as fits.
+/// Fills `handed` and the texts with the query that was handed out as `number`; `source` is the asking node's name.
 #[unsafe(no_mangle)]
 pub extern "C" fn serf_agent_handed(
     alloc: Global,
@@ -170,7 +171,7 @@ pub extern "C" fn serf_agent_handed(
     code.number()
 }
 
-/// The agent's clocks.
+/// Fills `clocks` with the agent's clocks, and with the minimums of events and of queries.
 #[unsafe(no_mangle)]
 pub extern "C" fn serf_agent_clocks(
     alloc: Global,
@@ -189,7 +190,7 @@ pub extern "C" fn serf_agent_clocks(
     code.number()
 }
 
-/// The least deadline of the open queries, if one is open.
+/// Sets `deadline` to the least deadline of the agent's own open queries; `NOTHING` where none is open.
 #[unsafe(no_mangle)]
 pub extern "C" fn serf_agent_next_deadline(
     alloc: Global,
@@ -209,7 +210,7 @@ pub extern "C" fn serf_agent_next_deadline(
     code.number()
 }
 
-/// How many queries of this agent's own still take answers.
+/// Sets `total` to how many queries of this agent's own are open: these still take answers.
 #[unsafe(no_mangle)]
 pub extern "C" fn serf_agent_open_queries(
     alloc: Global,
@@ -229,7 +230,7 @@ pub extern "C" fn serf_agent_open_queries(
     code.number()
 }
 
-/// A query that the last call closed, from 0 on, in the order in which they were fired.
+/// Fills `closed` with the query `index`, from 0 on, of those that the last call closed, in the order of their firing.
 #[unsafe(no_mangle)]
 pub extern "C" fn serf_agent_closed(
     alloc: Global,
@@ -250,7 +251,7 @@ pub extern "C" fn serf_agent_closed(
     code.number()
 }
 
-/// The name of a node that acked a closed query, from 0 on, in order of arrival: its length, and as much of it as fits.
+/// Fills `len` and `to` with the name of the node whose ack of the closed query `index` came as `number`, both from 0 on.
 #[unsafe(no_mangle)]
 pub extern "C" fn serf_agent_closed_ack(
     alloc: Global,
@@ -274,7 +275,7 @@ pub extern "C" fn serf_agent_closed_ack(
     code.number()
 }
 
-/// A response to a closed query, from 0 on, in order of arrival, and as much of its texts as fits.
+/// Fills `response` and the texts with the response to the closed query `index` that came as `number`, both from 0 on.
 #[unsafe(no_mangle)]
 pub extern "C" fn serf_agent_closed_response(
     alloc: Global,
@@ -301,7 +302,8 @@ pub extern "C" fn serf_agent_closed_response(
     code.number()
 }
 
-/// Whether the file is worth a compaction: more than `limit` bytes, of which a compaction takes away at least half.
+/// Sets `should` to whether the host should compact: its file has more than `limit` bytes, of which a compaction would
+/// take away at least half.
 #[unsafe(no_mangle)]
 pub extern "C" fn serf_agent_should_compact(
     alloc: Global,

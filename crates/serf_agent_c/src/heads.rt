@@ -1,6 +1,9 @@
-//! The structs that C reads and sets, laid out as in `include/serf_agent.h`.
+//! The structs that C reads and sets, laid out as in `include/serf_agent.h`. A field `.._len` is how many bytes a text
+//! has that a getter gives beside the struct.
 
-/// An agent's settings; its name stands beside them.
+/// An agent's settings, but for its name: the slots of the two buffers, the greatest length of a fired event, how many
+/// names are counted of a query's acks, and of its responses, how many events, or queries, are taken of one time, and
+/// whether a join lifts the minimum of events.
 #[repr(C)]
 #[derive(Clone, Copy)]
 pub struct Settings {
@@ -18,7 +21,9 @@ pub struct Settings {
     pub keep_events: bool,
 }
 
-/// What the last call gave.
+/// What the last call gave: its kind and the reason why a packet was ignored, by the enums of the header; the number of
+/// the query that is handed out, how many events are, and a foreign message's type, each 0 for none; and whether the
+/// packet that came is to be sent on unchanged.
 #[repr(C)]
 #[derive(Clone, Copy)]
 pub struct GaveHead {
@@ -30,7 +35,7 @@ pub struct GaveHead {
     pub rebroadcast: bool,
 }
 
-/// The bytes that the host's file lacks.
+/// How many bytes the host's file lacks, and whether they replace its text.
 #[repr(C)]
 #[derive(Clone, Copy)]
 pub struct BytesHead {
@@ -38,7 +43,7 @@ pub struct BytesHead {
     pub replaces: bool,
 }
 
-/// An event that is handed out.
+/// An event that is handed out: its time, and Serf's flag `coalesce`.
 #[repr(C)]
 #[derive(Clone, Copy)]
 pub struct EventHead {
@@ -48,7 +53,8 @@ pub struct EventHead {
     pub coalesce: bool,
 }
 
-/// How a query is fired.
+/// How a query is fired: for how many nanoseconds answers are taken, at which port, by how many relays they go too,
+/// whether acks are wanted, whether nodes shall not send it on, and whether this node's tags pass its tag filters.
 #[repr(C)]
 #[derive(Clone, Copy)]
 pub struct Params {
@@ -60,7 +66,8 @@ pub struct Params {
     pub tags_pass: bool,
 }
 
-/// A query that was handed out and not yet answered.
+/// A query that was handed out and not yet answered: its time, the last moment at which it can be answered, its ID, and
+/// the port and the relays of its answer. Its texts: name, payload, the asking node's name, that node's address.
 #[repr(C)]
 #[derive(Clone, Copy)]
 pub struct HandedHead {
@@ -75,7 +82,7 @@ pub struct HandedHead {
     pub relay_factor: u8,
 }
 
-/// The agent's clocks.
+/// The agent's three clocks, and the least times of an event and of a query that it takes.
 #[repr(C)]
 #[derive(Clone, Copy)]
 pub struct ClocksHead {
@@ -86,7 +93,8 @@ pub struct ClocksHead {
     pub query_minimum: u64,
 }
 
-/// What an ack or a response says.
+/// What an ack or a response says: the time and the ID of its query, and whether it is an ack. Its texts are the name of
+/// the node that it is from, and its payload.
 #[repr(C)]
 #[derive(Clone, Copy)]
 pub struct AnswerHead {
@@ -97,7 +105,8 @@ pub struct AnswerHead {
     pub is_ack: bool,
 }
 
-/// Why a packet is no message.
+/// Why a packet is no message: where its first fault is, in bytes from the packet's begin, its kind by the header's
+/// enum, and the byte that the fault names, else 0.
 #[repr(C)]
 #[derive(Clone, Copy)]
 pub struct FaultHead {
@@ -106,7 +115,8 @@ pub struct FaultHead {
     pub byte: u8,
 }
 
-/// A query of the agent's own that the last call closed.
+/// A query of the agent's own that the last call closed: its time, the last moment at which answers were counted, how
+/// many nodes acked it and how many responded, and its ID.
 #[repr(C)]
 #[derive(Clone, Copy)]
 pub struct ClosedHead {
@@ -117,7 +127,7 @@ pub struct ClosedHead {
     pub id: u32,
 }
 
-/// A response to a closed query.
+/// The lengths of a response's texts: the name of the node that responded, and the payload.
 #[repr(C)]
 #[derive(Clone, Copy)]
 pub struct ResponseHead {

@@ -1,4 +1,4 @@
-//! What C reads of intents, and has written.
+//! Intents to join and to leave, for C: what a packet of one says, and the packet of one.
 
 ghost use Rattle.std.specs.Prelude.{◌≡◌, ◌≢◌, ◌<◌, true, false, length};
 ghost use Rattle.serf_lamport.specs.Clock.{greatest_clock};
@@ -16,7 +16,8 @@ use serf_lamport::Time;
 use serf_wire::{EncodeFault, Intent, Join, Leave, encode_intent, read_intent};
 use std::alloc::Global;
 
-/// What an intent says, beside the node's name.
+/// What C reads of an intent, beside the node's name: its time by the member clock, the length of the name in bytes,
+/// whether the node leaves (else it joins), and whether members are to forget it at once.
 #[repr(C)]
 #[derive(Clone, Copy)]
 pub struct IntentHead {
@@ -26,7 +27,7 @@ pub struct IntentHead {
     pub prune: bool,
 }
 
-/// What C reads of an intent, beside the node's name.
+/// What C reads of `intent`, beside the node's name.
 fn head_of_intent(intent: &Intent) -> IntentHead
     ensures { result ≡ intent_head (intent_of intent.now) }
 {
@@ -46,7 +47,7 @@ fn head_of_intent(intent: &Intent) -> IntentHead
     }
 }
 
-/// The name of the node that an intent is of.
+/// The name of the node that joins or leaves by `intent`.
 fn node_of<'a>(intent: &Intent<'a>) -> &'a [u8]
     ensures { result.now ≡ intent_node (intent_of intent.now) }
 {
@@ -56,7 +57,7 @@ fn node_of<'a>(intent: &Intent<'a>) -> &'a [u8]
     }
 }
 
-/// Fills `intent` and `node` with the intent that `packet` is, if it is one.
+/// Fills `intent` with what `packet` says, where it is an intent, and `node` with as much of the node's name as fits.
 fn read(packet: &[u8], intent: &mut IntentHead, node: &mut [u8]) -> Code
     ensures reads { ReadsIntent (intent_read packet.now) (λ i. (intent.new ≡ intent_head i)
         × (node.new ≡ copied (intent_node i) node.old)) result }
@@ -73,7 +74,7 @@ fn read(packet: &[u8], intent: &mut IntentHead, node: &mut [u8]) -> Code
     }
 }
 
-/// Fills `fault` with why `packet` is no intent, where its type is an intent's or no message's.
+/// Fills `fault` with the first fault of `packet`, where it is a faulty intent or no message; else gives `Nothing`.
 fn read_fault(packet: &[u8], fault: &mut FaultHead) -> Code
     ensures { ReadsIntentFault (intent_read packet.now) fault.old fault.new result }
 {
@@ -86,7 +87,7 @@ fn read_fault(packet: &[u8], fault: &mut FaultHead) -> Code
     }
 }
 
-/// The code that C gets where a packet can't be made.
+/// The code that C gets where the packet of an intent can't be made, for `fault`.
 fn code_of(fault: EncodeFault) -> Code
     ensures { result ≡ encode_code fault }
 {
@@ -96,7 +97,7 @@ fn code_of(fault: EncodeFault) -> Code
     }
 }
 
-/// The packet of an intent.
+/// Makes the packet of `intent`: sets `len` to its length in bytes, and fills `to` with as much of it as fits.
 fn write(alloc: Global, intent: &Intent, len: &mut usize, to: &mut [u8]) -> Code
     ensures too_long { is_long (intent_node (intent_of intent.now)) ≡ true
         → result ≡ Code.TooLong }
@@ -117,7 +118,7 @@ fn write(alloc: Global, intent: &Intent, len: &mut usize, to: &mut [u8]) -> Code
     }
 }
 
-/// The packet of a leave, where it is said whether the members are to prune the node, or else of a join.
+/// Makes the packet by which `node` leaves at `time`, where `prune` says whether to forget it at once, or else joins.
 fn write_said(
     alloc: Global,
     time: u64,
@@ -137,8 +138,8 @@ fn write_said(
     }
 }
 
-/// What a packet says that is an intent, and as much of the node's name as fits. Of another message's packet it says
-/// `NOTHING`, and of one that is no message, or a faulty intent, `NO_MESSAGE`.
+/// Fills `intent` with what `packet` says, an intent, and `node` with as much of the node's name as fits. It answers
+/// `NOTHING` to another message, and `NO_MESSAGE` to a packet that is none, or a faulty intent.
 #[unsafe(no_mangle)]
 pub extern "C" fn serf_agent_intent(packet: &[u8], intent: &mut IntentHead, node: &mut [u8]) -> u32
     ensures { (code : Code) × (result ≡ number_of code)
@@ -149,8 +150,8 @@ pub extern "C" fn serf_agent_intent(packet: &[u8], intent: &mut IntentHead, node
     read(packet, intent, node).number()
 }
 
-/// Why a packet is no intent: its first fault, where `serf_agent_intent` says `NO_MESSAGE`. Else it says `NOTHING`, and
-/// the fault stays as it was.
+/// Fills `fault` with why `packet` is no intent: its first fault, where `serf_agent_intent` answers `NO_MESSAGE`. Else
+/// it answers `NOTHING`, and `fault` stays as it was.
 #[unsafe(no_mangle)]
 pub extern "C" fn serf_agent_intent_fault(packet: &[u8], fault: &mut FaultHead) -> u32
     ensures { (code : Code) × (result ≡ number_of code)
@@ -159,7 +160,7 @@ pub extern "C" fn serf_agent_intent_fault(packet: &[u8], fault: &mut FaultHead) 
     read_fault(packet, fault).number()
 }
 
-/// The packet of a join: its length, and as much of it as fits.
+/// Makes the packet by which `node` joins at `time`: sets `len` to its length, and fills `to` with as much as fits.
 #[unsafe(no_mangle)]
 pub extern "C" fn serf_agent_join_packet(
     alloc: Global,
@@ -174,7 +175,7 @@ pub extern "C" fn serf_agent_join_packet(
     write_said(alloc, time, node, None, len, to).number()
 }
 
-/// The packet of a leave: its length, and as much of it as fits.
+/// Makes the packet by which `node` leaves at `time`: sets `len` to its length, and fills `to` with as much as fits.
 #[unsafe(no_mangle)]
 pub extern "C" fn serf_agent_leave_packet(
     alloc: Global,

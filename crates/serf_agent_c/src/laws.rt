@@ -8,7 +8,7 @@ use serf_agent::{kept_life_promises, once_steps, unseen_promises};
 use serf_snap::read_laws;
 use serf_wire::{decoded_ranges, decoded_texts};
 
-/// What each export leaves of the ideal agent that a session follows, and of its host's file. Does nothing.
+/// Says what each export leaves of the ideal agent that a session follows, and of its host's file. It does nothing.
 ///
 /// `codes` says that the clauses of one call speak of one code.
 pub fn host_steps()
@@ -16,7 +16,7 @@ pub fn host_steps()
     ensures codes { CodesDiffer }
 {}
 
-/// What is promised to a host in C over one file, in all its lives. Does nothing.
+/// Says what is promised to a host in C over one file, in all its lives. It does nothing.
 ///
 /// A host makes calls, says by `serf_agent_written` what its file has, and is killed at any place. Each session opens on
 /// a text that begins with all that the host said was written, or with the text of a compaction that was under way; any

@@ -2,12 +2,13 @@
 //!
 //! A [`Handle`] lies in the host's memory and has a session: an agent, what its last call gave, and which bytes the
 //! host's file lacks. The library holds no file: the agent's sink is in memory, and the host appends to its file what
-//! [`serf_agent_unwritten`] gives, flushes it, and says so by [`serf_agent_written`]. Until then no call is made and
+//! [`serf_agent_unwritten`] gives, flushes it, and calls [`serf_agent_written`]. Until then no call is made and
 //! nothing that was handed out is read, so an event is handed out only once its line is durable.
 //!
 //! Each export that calls the agent says that the agent takes the step that the ideal agent takes (see `serf_agent`), and
 //! each getter that C reads what was given. No export requires anything: an empty handle, one in use and a wrong number
-//! are answered by a [`Code`].
+//! are answered by a [`Code`]. In the clauses `s` is the session before a call, `t` the one after it, `code` what C gets:
+//! `waits` is about a file that lacks bytes, `memory` about want of memory, `gives` about what C reads then.
 #![tactic(auto)]
 
 ghost use Rattle.std.specs.Prelude.{true, ◌≡◌, ◌≢◌, ◌++◌, ◌∷◌, if◌then◌else◌, [], None, Some, IfSome, false, length};
@@ -84,7 +85,7 @@ use session::Session;
 use std::alloc::Global;
 pub use told::{MemberHead, MembersHead, serf_agent_state_members};
 
-/// Opens an agent over the text of the host's file, into an empty handle.
+/// Opens the agent `name` over `text`, the bytes of the host's file, into an empty `handle`. One in use stays as it is.
 #[unsafe(no_mangle)]
 pub extern "C" fn serf_agent_open(
     alloc: Global,
@@ -120,7 +121,7 @@ pub extern "C" fn serf_agent_open(
     }
 }
 
-/// Closes the agent: the handle is empty then.
+/// Closes the agent behind `handle`, which is empty then. An empty handle is answered by `EMPTY`.
 #[unsafe(no_mangle)]
 pub extern "C" fn serf_agent_close(alloc: Global, handle: &mut Handle) -> u32
     ensures empty { handle.new.place.value ≡ None }
@@ -136,7 +137,8 @@ pub extern "C" fn serf_agent_close(alloc: Global, handle: &mut Handle) -> u32
     }
 }
 
-/// The bytes that the host's file lacks: their length, and as many of them as fit.
+/// Fills `bytes` with how many bytes the host's file lacks, and whether they replace its text, and `to` with the first
+/// of them, as many as fit.
 #[unsafe(no_mangle)]
 pub extern "C" fn serf_agent_unwritten(
     alloc: Global,
@@ -158,7 +160,7 @@ pub extern "C" fn serf_agent_unwritten(
     Code::Done.number()
 }
 
-/// Says that the host's file has the bytes that it lacked, and was flushed.
+/// Notes that the host's file has all of the agent's text, and was flushed.
 #[unsafe(no_mangle)]
 pub extern "C" fn serf_agent_written(alloc: Global, handle: &mut Handle) -> u32
     ensures { Answers (λ s t code. (code ≡ Code.Done)
@@ -175,7 +177,7 @@ pub extern "C" fn serf_agent_written(alloc: Global, handle: &mut Handle) -> u32
     Code::Done.number()
 }
 
-/// Fires an event.
+/// Fires the event of `name` and `payload`; `coalesce` is Serf's flag of it. The getters read what it gave.
 #[unsafe(no_mangle)]
 pub extern "C" fn serf_agent_fire(
     alloc: Global,
@@ -201,8 +203,8 @@ pub extern "C" fn serf_agent_fire(
     code.number()
 }
 
-/// Takes a packet that comes at a moment, in nanoseconds, where the host says whether this node's tags pass every tag
-/// filter of its query.
+/// Takes a packet that comes at the moment `now`, in nanoseconds; of a query, the host says by `tags_pass` whether this
+/// node's tags pass all tag filters. The getters read the outcome.
 #[unsafe(no_mangle)]
 pub extern "C" fn serf_agent_receive(
     alloc: Global,
@@ -228,7 +230,7 @@ pub extern "C" fn serf_agent_receive(
     code.number()
 }
 
-/// Merges another agent's whole state.
+/// Merges another agent's whole state, the push/pull `packet`; `is_join` says whether it was exchanged for a join.
 #[unsafe(no_mangle)]
 pub extern "C" fn serf_agent_merge(
     alloc: Global,
@@ -252,8 +254,8 @@ pub extern "C" fn serf_agent_merge(
     code.number()
 }
 
-/// Makes the packet of the agent's whole state, with the members that were named since the last that was tried; it
-/// forgets them.
+/// Makes the push/pull packet of the agent's whole state, with the members that were added for it. They are forgotten
+/// then, unless memory was wanting. The getters read the packet.
 #[unsafe(no_mangle)]
 pub extern "C" fn serf_agent_local_state(alloc: Global, handle: &mut Handle) -> u32
     ensures waits { Answers (λ s t code. Waits s t code) handle.old handle.new result }
@@ -272,7 +274,7 @@ pub extern "C" fn serf_agent_local_state(alloc: Global, handle: &mut Handle) -> 
     code.number()
 }
 
-/// Adds a member's status time to what the next state names.
+/// Adds the member `name` to the next state, with `status_time`: the time of its status, by the member clock.
 #[unsafe(no_mangle)]
 pub extern "C" fn serf_agent_add_status(
     alloc: Global,
@@ -291,7 +293,7 @@ pub extern "C" fn serf_agent_add_status(
     code.number()
 }
 
-/// Adds a member that left to what the next state names.
+/// Adds the member `name` to those that the next state names as left.
 #[unsafe(no_mangle)]
 pub extern "C" fn serf_agent_add_left(alloc: Global, handle: &mut Handle, name: &[u8]) -> u32
     ensures { Answers (λ s t code. Waits s t code × AddsLeft name.now s t code)
@@ -305,7 +307,7 @@ pub extern "C" fn serf_agent_add_left(alloc: Global, handle: &mut Handle, name: 
     code.number()
 }
 
-/// Adds a filter of the next query, also while bytes for the host's file aren't written.
+/// Adds `filter`, the bytes of a filter as Serf writes it, to the next query: even while the host's file lacks bytes.
 #[unsafe(no_mangle)]
 pub extern "C" fn serf_agent_add_filter(alloc: Global, handle: &mut Handle, filter: &[u8]) -> u32
     ensures adds { Answers (λ s t code. AddsFilter filter.now s t code)
@@ -321,7 +323,8 @@ pub extern "C" fn serf_agent_add_filter(alloc: Global, handle: &mut Handle, filt
     code.number()
 }
 
-/// Fires a query with the filters that were added since the last that was tried; it forgets them.
+/// Fires the query `id` of `name` and `payload` at the moment `now`, in nanoseconds; its answers go to `addr`. It has
+/// the filters that were added for it, which are forgotten then, unless memory was wanting.
 #[unsafe(no_mangle)]
 pub extern "C" fn serf_agent_query(
     alloc: Global,
@@ -351,7 +354,8 @@ pub extern "C" fn serf_agent_query(
     code.number()
 }
 
-/// Answers the query of this number; a success spends it.
+/// Answers the query that was handed out as number `number`, with `payload` at the moment `now`, in nanoseconds. Once
+/// it is answered it is gone.
 #[unsafe(no_mangle)]
 pub extern "C" fn serf_agent_respond(
     alloc: Global,
@@ -375,7 +379,7 @@ pub extern "C" fn serf_agent_respond(
     code.number()
 }
 
-/// Forgets the query of this number: it isn't answered, and nothing is kept of it.
+/// Forgets the query that was handed out as number `number`: it isn't answered, and takes no memory any more.
 #[unsafe(no_mangle)]
 pub extern "C" fn serf_agent_forget_query(alloc: Global, handle: &mut Handle, number: u64) -> u32
     ensures waits { Answers (λ s t code. Waits s t code) handle.old handle.new result }
@@ -393,8 +397,8 @@ pub extern "C" fn serf_agent_forget_query(alloc: Global, handle: &mut Handle, nu
     code.number()
 }
 
-/// Closes the open queries whose deadline is before a moment, gives them with their answers, and says how many they were.
-/// Queries that were handed out, and whose deadline is before it, are forgotten: they can't be answered any more.
+/// Closes the agent's own queries whose deadline is before the moment `now`, gives them with their answers, and sets
+/// `closed` to how many they were. Queries that were handed out, with a deadline before `now`, are forgotten.
 #[unsafe(no_mangle)]
 pub extern "C" fn serf_agent_close_due(
     alloc: Global,
@@ -419,7 +423,7 @@ pub extern "C" fn serf_agent_close_due(
     code.number()
 }
 
-/// Notes the member clock, so that a restart goes on from there.
+/// Writes a line of the member clock to the agent's text, so that a restart goes on from there.
 #[unsafe(no_mangle)]
 pub extern "C" fn serf_agent_save_member_clock(alloc: Global, handle: &mut Handle) -> u32
     ensures waits { Answers (λ s t code. Waits s t code) handle.old handle.new result }
@@ -438,8 +442,8 @@ pub extern "C" fn serf_agent_save_member_clock(alloc: Global, handle: &mut Handl
     code.number()
 }
 
-/// Makes the text that replaces the file's: one line of each clock, and where the settings keep events the lines of what
-/// the buffers hold.
+/// Makes the text that replaces the host's file: a line of each clock, and where the settings keep events the lines of
+/// the events and queries in the buffers.
 #[unsafe(no_mangle)]
 pub extern "C" fn serf_agent_compact(alloc: Global, handle: &mut Handle) -> u32
     ensures waits { Answers (λ s t code. Waits s t code) handle.old handle.new result }

@@ -13,7 +13,7 @@ use crate::heads::HandedHead;
 use crate::session::Session;
 use serf_agent::{HandedQuery, LentQueries};
 
-/// What C reads of a query that was handed out, beside its texts.
+/// What C reads of `query`, which was handed out, beside its texts.
 fn head_of_query(query: &HandedQuery) -> HandedHead
     ensures { result ≡ handed_head query.now }
 {
@@ -30,7 +30,7 @@ fn head_of_query(query: &HandedQuery) -> HandedHead
     }
 }
 
-/// How many queries are lent, or the greatest number where they are more.
+/// How many queries `queries` lends, or 2^64 - 1 where they are more.
 fn count(queries: LentQueries<'_>) -> usize
     ensures { result ≡ min (length (queries_left queries.entry)) (2 ^ 64 - 1) }
 {
@@ -42,7 +42,7 @@ fn count(queries: LentQueries<'_>) -> usize
 }
 
 impl Session {
-    /// The query `number` that was handed out and not yet answered.
+    /// The query that was handed out as `number`, if it still waits. That of the last call has the next number.
     fn handed_at(&self, number: u64) -> Option<&HandedQuery>
         ensures { option_copied result ≡ waiting_at number (settled self.now).waiting }
     {
@@ -53,7 +53,7 @@ impl Session {
         }
     }
 
-    /// Fills `head` and the texts with the query `number` that was handed out and not yet answered.
+    /// Fills `head` and the texts with the query that was handed out as `number`; `NotHanded` where none waits by it.
     pub(crate) fn read_handed(
         &self,
         number: u64,
@@ -86,7 +86,7 @@ impl Session {
         Code::Done
     }
 
-    /// Sets `deadline` to the least one of the open queries, if one is open.
+    /// Sets `deadline` to the least deadline of the agent's own open queries; `Nothing` where none is open.
     pub(crate) fn read_next_deadline(&self, deadline: &mut u64) -> Code
         ensures waits { is_ready self.now ≡ false → result ≡ Code.Unwritten }
         ensures tells { is_ready self.now ≡ true
@@ -105,7 +105,7 @@ impl Session {
         }
     }
 
-    /// Sets `total` to how many queries of the agent's own still take answers.
+    /// Sets `total` to how many queries of the agent's own are open: these still take answers.
     pub(crate) fn read_open_queries(&self, total: &mut usize) -> Code
         ensures reads { ReadsAs (is_ready self.now)
             (Some (min (length self.now.agent.concrete.asked) (2 ^ 64 - 1)))

@@ -1,4 +1,4 @@
-//! The members that the next state names.
+//! The members that the host adds for the next state, and the packet of the state that names them.
 
 ghost use Rattle.std.specs.Prelude.{◌≡◌, ◌≢◌, ◌++◌, ◌∷◌, [], map, Err, IfOk, OnOk, OnErr};
 ghost use Rattle.serf_wire.specs.Lists.{status_of};
@@ -13,15 +13,15 @@ use serf_agent::{BytesList, PushPullFault};
 use serf_wire::{Bytes, StatusTime};
 use std::alloc::{AllocError, Global};
 
-/// A member, and the time of its status.
+/// A member, and the time of its status by the member clock.
 #[derive(Drop)]
 pub struct Member {
     pub(crate) name: Bytes,
     pub(crate) time: u64,
 }
 
-/// Adds a member, or changes nothing where there is no memory for it.
-fn add(members: &mut Vec<Member>, member: Member) -> Result<(), AllocError>
+/// Puts `member` after the others, or changes nothing where there is no memory for it.
+fn add_member(members: &mut Vec<Member>, member: Member) -> Result<(), AllocError>
     ensures ok { OnOk result (members.new.items ≡ members.old.items ++ member ∷ []) }
     ensures err { OnErr result (members.new.items ≡ members.old.items) }
 {
@@ -29,7 +29,7 @@ fn add(members: &mut Vec<Member>, member: Member) -> Result<(), AllocError>
     Ok(())
 }
 
-/// The members' names with their times, lent.
+/// The names and the status times of `members`, lent, in order.
 fn lend_status<'a>(alloc: Global, members: &'a [Member]) -> Result<Vec<StatusTime<'a>>, AllocError>
     ensures { IfOk result (λ lent. map status_of lent.items ≡ map named members.now) }
 {
@@ -44,7 +44,7 @@ fn lend_status<'a>(alloc: Global, members: &'a [Member]) -> Result<Vec<StatusTim
     Ok(lent)
 }
 
-/// Names, lent.
+/// The bytes of `names`, lent, in order.
 fn lend_names<'a>(alloc: Global, names: &'a [Bytes]) -> Result<Vec<&'a [u8]>, AllocError>
     ensures { IfOk result (λ lent. map (λ t. t.now) lent.items ≡ names.now) }
 {
@@ -56,7 +56,7 @@ fn lend_names<'a>(alloc: Global, names: &'a [Bytes]) -> Result<Vec<&'a [u8]>, Al
 }
 
 impl Session {
-    /// Adds a member's status time to what the next state names.
+    /// Adds the member `name` to the next state, with the `time` of its status. `Unwritten` while the file lacks bytes.
     pub(crate) fn add_status(&mut self, alloc: Global, name: &[u8], time: u64) -> Code
         ensures waits { Waits self.old self.new result }
         ensures adds { AddsStatus name.now time self.old self.new result }
@@ -67,13 +67,13 @@ impl Session {
         let Ok(name) = Bytes::copy_of(alloc, name) else {
             return Code::OutOfMemory;
         };
-        match add(&mut self.status, Member { name, time }) {
+        match add_member(&mut self.status, Member { name, time }) {
             Ok(()) => Code::Done,
             Err(_) => Code::OutOfMemory,
         }
     }
 
-    /// Adds a member that left to what the next state names.
+    /// Adds the member `name` to those that the next state names as left. `Unwritten` while the file lacks bytes.
     pub(crate) fn add_left(&mut self, alloc: Global, name: &[u8]) -> Code
         ensures waits { Waits self.old self.new result }
         ensures adds { AddsLeft name.now self.old self.new result }
@@ -90,7 +90,7 @@ impl Session {
         }
     }
 
-    /// The packet of the agent's whole state, with the members that were named.
+    /// The push/pull packet of the agent's whole state, with the members that the host added for it.
     pub(crate) fn state(&self, alloc: Global) -> Result<Bytes, PushPullFault>
         ensures { result ≢ Err PushPullFault.OutOfMemory → result
             ≡ send_state self.now.agent.concrete (map named self.now.status.items) self.now.left }
@@ -105,7 +105,7 @@ impl Session {
             .local_state(alloc, status.as_slice(), left.as_slice())
     }
 
-    /// Forgets the members that were named, once a state was tried with them: memory was there.
+    /// Forgets the members that were added, where `code` says that a state was tried with them: memory was there.
     pub(crate) fn forget_members(&mut self, alloc: Global, code: Code)
         ensures kept { code ≡ Code.OutOfMemory → KeepsMembers self.old self.new }
         ensures forgotten { code ≢ Code.OutOfMemory

@@ -1,4 +1,4 @@
-//! A session's whole state, to send and to merge, and its own lines.
+//! A session's whole state, to send and to merge, and the lines that a host asks for: a member clock's, a compaction's.
 
 ghost use Rattle.std.specs.Prelude.{◌≡◌, if◌then◌else◌, true, false, Some, Ok, Err};
 ghost use Rattle.serf_wire.specs.Decoded.{decoded};
@@ -20,7 +20,7 @@ use serf_snap::{MemSink, NoteFault};
 use serf_wire::Bytes;
 use std::alloc::Global;
 
-/// The code that C gets where a push/pull was merged, or not all of it.
+/// The code that C gets where a push/pull was merged, or for `fault`, why not all of it was.
 fn merged_code(fault: Option<MergeFault>) -> Code
     ensures { result ≡ merged_code fault }
 {
@@ -30,7 +30,7 @@ fn merged_code(fault: Option<MergeFault>) -> Code
     }
 }
 
-/// The code that C gets where a state was made or refused.
+/// The code that C gets for the agent's `answer` to making its state: the packet, or why there is none.
 fn state_code(answer: &Result<Bytes, PushPullFault>) -> Code
     ensures code { result ≡ answer_code state_code answer.now }
     ensures memory { answer.now ≡ Err PushPullFault.OutOfMemory → result ≡ Code.OutOfMemory }
@@ -41,7 +41,7 @@ fn state_code(answer: &Result<Bytes, PushPullFault>) -> Code
     }
 }
 
-/// The code that C gets where a line was written or refused.
+/// The code that C gets for the agent's `answer` to writing a line or compacting its text.
 fn noted_code(answer: &Result<(), NoteFault>) -> Code
     ensures code { result ≡ answer_code note_code answer.now }
     ensures memory { answer.now ≡ Err NoteFault.OutOfMemory → result ≡ Code.OutOfMemory }
@@ -52,8 +52,8 @@ fn noted_code(answer: &Result<(), NoteFault>) -> Code
     }
 }
 
-/// Merges another agent's whole state into `agent`; what is new is added to `events`. Gives why not all of it was merged,
-/// if so.
+/// Merges `packet`, another agent's whole state, into `agent`; the events that are new are added to `events`. Gives why
+/// not all of it was merged, if so. `is_join` says whether it was exchanged for a join.
 fn merge_into(
     agent: &mut Agent<MemSink>,
     alloc: Global,
@@ -75,7 +75,7 @@ fn merge_into(
 }
 
 impl Session {
-    /// Merges another agent's whole state, and keeps what it gave.
+    /// Merges `packet`, another agent's whole state, and keeps the events of it that are new.
     pub(crate) fn merge(&mut self, alloc: Global, packet: &[u8], is_join: bool) -> Code
         ensures waits { Waits self.old self.new result }
         ensures tells { Tells self.old self.new }
@@ -93,7 +93,7 @@ impl Session {
         merged_code(fault)
     }
 
-    /// Makes the packet of the agent's whole state, with the members that were named, and forgets them.
+    /// Makes the packet of the agent's whole state, with the members that were added for it, which it forgets then.
     pub(crate) fn local_state(&mut self, alloc: Global) -> Code
         ensures waits { Waits self.old self.new result }
         ensures forgets { ForgetsMembers self.old self.new result }
@@ -130,7 +130,7 @@ impl Session {
         code
     }
 
-    /// Notes that the agent's text was replaced, where it was: the whole text replaces the file's then.
+    /// Where a compaction replaced the agent's text (`is_replaced`), notes that the file lacks all of the new one.
     fn note_replaced(&mut self, is_replaced: bool)
         ensures written { self.new.written ≡ (if is_replaced then 0 else self.old.written) }
         ensures replaces { self.new.replaces ≡ (if is_replaced then true else self.old.replaces) }
@@ -144,7 +144,7 @@ impl Session {
         }
     }
 
-    /// Makes the text that replaces the file's.
+    /// Compacts the agent's text: the new one replaces that of the host's file.
     pub(crate) fn compact(&mut self, alloc: Global) -> Code
         ensures waits { Waits self.old self.new result }
         ensures memory { IsUncompacted self.old self.new result }

@@ -1,4 +1,4 @@
-//! What C reads of a session.
+//! What C reads of a session: what its last call gave, the bytes that the host's file lacks, and the clocks.
 
 ghost use Rattle.std.specs.Prelude.{◌≢◌, Some, ◌≡◌, ◌+◌, if◌then◌else◌, length, slice_get, option_copied};
 ghost use Rattle.std.specs.Option.{is_some};
@@ -15,7 +15,7 @@ use crate::session::Session;
 use serf_agent::{EventOut, Outcome, Reason};
 use serf_wire::Bytes;
 
-/// The number of a reason, by `enum serf_agent_reason` of `include/serf_agent.h`.
+/// The number of the `reason` why a packet was ignored, by `enum serf_agent_reason` of `include/serf_agent.h`.
 fn reason_number(reason: Reason) -> u32
     ensures { result ≡ reason_number reason }
 {
@@ -34,7 +34,7 @@ fn reason_number(reason: Reason) -> u32
     }
 }
 
-/// The kind of an outcome, by `enum serf_agent_kind` of `include/serf_agent.h`.
+/// The kind of `outcome`, that of a packet, by `enum serf_agent_kind` of `include/serf_agent.h`.
 fn outcome_kind(outcome: &Outcome) -> u32
     ensures { result ≡ outcome_kind outcome.now }
 {
@@ -66,7 +66,7 @@ impl Gave {
         }
     }
 
-    /// The number of why a packet was ignored, 0 where none was.
+    /// The number of the reason why the packet was ignored, by the header's enum; 0 where none was ignored.
     fn reason(&self) -> u32
         ensures { result ≡ reason_of self.now }
     {
@@ -76,7 +76,7 @@ impl Gave {
         }
     }
 
-    /// The type byte of a foreign message, 0 where none came.
+    /// The type byte of the message that came, where its type isn't read here; else 0.
     fn foreign(&self) -> u8
         ensures { result ≡ foreign_of self.now }
     {
@@ -97,7 +97,7 @@ impl Gave {
         }
     }
 
-    /// How many events are handed out.
+    /// How many events the call handed out.
     fn events(&self) -> usize
         ensures { result ≡ length (events_in self.now) }
     {
@@ -111,7 +111,7 @@ impl Gave {
 }
 
 impl Session {
-    /// Fills `gave` with what the last call gave.
+    /// Fills `gave` with what the last call gave. A query that it handed out has the number after those that wait.
     pub(crate) fn read_gave(&self, gave: &mut GaveHead)
         ensures { gave.new
             ≡ record {
@@ -139,7 +139,7 @@ impl Session {
         };
     }
 
-    /// Fills `bytes` with how many bytes the host's file lacks, and `to` with as many of them as fit.
+    /// Fills `bytes` with how many bytes the host's file lacks, and `to` with the first of them, as many as fit.
     pub(crate) fn read_lacking(&self, bytes: &mut BytesHead, to: &mut [u8])
         ensures head { bytes.new
             ≡ record {
@@ -156,7 +156,7 @@ impl Session {
         copy_into(to, lacking);
     }
 
-    /// Fills `event` and the texts with the event `index`, from 0 on, that the last call handed out.
+    /// Fills `event`, `name` and `payload` with the event `index`, from 0 on, that the last call handed out.
     pub(crate) fn read_event(
         &self,
         index: usize,
@@ -182,7 +182,7 @@ impl Session {
         Code::Done
     }
 
-    /// Reads the packet that the last call gave to send: its length, and as much of it as fits.
+    /// Fills `len` and `to` with the packet that the last call gave to send: its length, and as much of it as fits.
     pub(crate) fn read_packet(&self, len: &mut usize, to: &mut [u8]) -> Code
         ensures reads { ReadsAs (is_ready self.now) (packet_in self.now.gave)
             (λ p. (len.new ≡ length p) × (to.new ≡ copied p to.old)) result }
@@ -198,7 +198,7 @@ impl Session {
         Code::Done
     }
 
-    /// Reads the ack that the last call gave to send: its length, and as much of it as fits.
+    /// Sets `len` to the length of the ack that the last call gave to send, and fills `to` with as much of it as fits.
     pub(crate) fn read_ack(&self, len: &mut usize, to: &mut [u8]) -> Code
         ensures reads { ReadsAs (is_ready self.now) (ack_in self.now.gave)
             (λ p. (len.new ≡ length p) × (to.new ≡ copied p to.old)) result }
@@ -214,7 +214,7 @@ impl Session {
         Code::Done
     }
 
-    /// Fills `clocks` with the agent's clocks.
+    /// Fills `clocks` with the agent's clocks and minimums; `Unwritten` while the host's file lacks bytes.
     pub(crate) fn read_clocks(&self, clocks: &mut ClocksHead) -> Code
         ensures reads { ReadsAs (is_ready self.now) (Some (clocks_head self.now.agent.concrete))
             (λ head. clocks.new ≡ head) result }
@@ -234,7 +234,7 @@ impl Session {
     }
 }
 
-/// What C reads of an event beside its texts.
+/// What C reads of the event `out`, which was handed out, beside its texts.
 fn head_of_event(out: &EventOut) -> EventHead
     ensures { result ≡ event_head out.now }
 {
@@ -246,7 +246,7 @@ fn head_of_event(out: &EventOut) -> EventHead
     }
 }
 
-/// Sets `len` to the length of a packet, and copies as much of it to `to` as fits.
+/// Sets `len` to the length of `packet`, and fills `to` with as much of it as fits.
 fn read_bytes(packet: &Bytes, len: &mut usize, to: &mut [u8])
     ensures len { len.new ≡ length packet.now }
     ensures copied { to.new ≡ copied packet.now to.old }

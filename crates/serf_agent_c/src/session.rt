@@ -1,4 +1,4 @@
-//! An agent, what its last call gave, and what the host's file lacks.
+//! The session behind a handle: an agent, what its last call gave, and which bytes the host's file lacks.
 
 ghost use Rattle.std.specs.Prelude.{◌≡◌, false, true, length, Err, IsOk, None, OnOk, OnErr};
 ghost use Rattle.serf_agent_c.specs.Gaves.{unsettled_in};
@@ -16,7 +16,7 @@ use serf_snap::MemSink;
 use std::alloc::AllocError;
 use std::collections::VecDeque;
 
-/// An agent, whose sink keeps the text of the host's file.
+/// An agent whose sink, in memory, keeps the text of the host's file, and what a host still has to read or to add.
 #[derive(Drop)]
 pub struct Session {
     pub(crate) agent: Agent<MemSink>,
@@ -24,22 +24,22 @@ pub struct Session {
     pub(crate) gave: Gave,
     /// How many bytes of the agent's text the host's file has.
     pub(crate) written: usize,
-    /// Whether the bytes that the file lacks replace its text.
+    /// Whether the bytes that the host's file lacks are to replace its text: else they are appended.
     pub(crate) replaces: bool,
-    /// The queries that earlier calls handed out, and that can still be answered.
+    /// The queries that earlier calls handed out, neither answered nor forgotten. That of the last call is in `gave`.
     pub(crate) waiting: Waiting,
-    /// The filters of the next query.
+    /// The filters that the host added for the next query.
     pub(crate) filters: BytesList,
-    /// The members' status times that the next state names.
+    /// The members with a status time that the host added for the next state.
     pub(crate) status: Vec<Member>,
-    /// The members that left, which the next state names.
+    /// The names of members that left, which the host added for the next state.
     pub(crate) left: BytesList,
     /// The outcomes of a burst that nobody has read yet, in the order of its calls.
     pub(crate) burst: VecDeque<Answered>,
 }
 
 impl Session {
-    /// The bytes that the host's file lacks.
+    /// The bytes that the host's file lacks: the agent's text after its first `written` bytes.
     pub(crate) fn lacking(&self) -> &[u8]
         ensures { result.now ≡ lacking self.now.agent.device self.now.written }
     {
@@ -57,7 +57,7 @@ impl Session {
         !self.replaces && self.lacking().is_empty()
     }
 
-    /// Notes that the host's file has all of the agent's text.
+    /// Notes that the host's file has all of the agent's text: no byte of it is lacking, and none replaces it.
     pub(crate) fn note_written(&mut self)
         ensures written { self.new.written ≡ length (text_of self.old.agent.device) }
         ensures replaces { self.new.replaces ≡ false }
@@ -69,7 +69,7 @@ impl Session {
         self.replaces = false;
     }
 
-    /// Puts the last query that was handed out with those that wait for an answer, and forgets what else was given.
+    /// Forgets what the last call gave, but puts its query with those that wait; without memory `gave` keeps the query.
     fn settle(&mut self) -> Result<(), AllocError>
         ensures ok { OnOk result ((numbered self.new.waiting ≡ settled self.old)
             × (self.new.gave ≡ Gave.Nothing)) }
@@ -92,7 +92,8 @@ impl Session {
         }
     }
 
-    /// Makes ready for a call of the agent: the host's file has all of its text, and what the last call gave is settled.
+    /// Makes ready for a call of the agent: forgets what the last call gave, but not its query (see `settle`). While the
+    /// host's file lacks bytes it gives `Unwritten` and changes nothing.
     pub(crate) fn begin(&mut self) -> Result<(), Code>
         ensures ok { OnOk result ((is_ready self.old ≡ true)
             × (numbered self.new.waiting ≡ settled self.old) × (self.new.gave ≡ Gave.Nothing)) }
@@ -111,7 +112,7 @@ impl Session {
         if !self.is_ready() {
             return Err(Code::Unwritten);
         }
-        // (it has all of it: `written` says just that from here on)
+        // (the file has all of the text; `written` may have been more than its length, and is its length from here on)
         self.note_written();
         match self.settle() {
             Ok(()) => Ok(()),

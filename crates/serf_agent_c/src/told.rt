@@ -1,4 +1,4 @@
-//! What C reads of the members that a push/pull's packet names: what a host does with them, it has to know.
+//! What C reads of the members that a push/pull's packet names. The agent keeps no members: a host may.
 
 ghost use Rattle.std.specs.Prelude.{◌≡◌, ◌≢◌, ◌++◌, ◌∷◌, [], map, IfOk, OnOk};
 ghost use Rattle.std.specs.List.{flat_map};
@@ -15,7 +15,7 @@ use crate::copies::copy_into;
 use serf_wire::{Message, StatusTimes, Texts, decode};
 use std::alloc::{AllocError, Global};
 
-/// A member that a push/pull names.
+/// A member that a push/pull names: among those that left, or else with the time of its status, by the member clock.
 #[repr(C)]
 #[derive(Clone, Copy)]
 pub struct MemberHead {
@@ -24,7 +24,7 @@ pub struct MemberHead {
     pub left: bool,
 }
 
-/// How many members a push/pull names, and how long their names are together.
+/// The member clock of a push/pull's sender, how many members it names, and how many bytes their names have together.
 #[repr(C)]
 #[derive(Clone, Copy)]
 pub struct MembersHead {
@@ -33,7 +33,7 @@ pub struct MembersHead {
     pub names_len: usize,
 }
 
-/// What a push/pull says of members, lent from its packet.
+/// What a push/pull says of members, lent from its packet: the sender's clock, and those with a status time or that left.
 #[derive(Clone, Copy)]
 pub struct LentMembers<'a> {
     clock: u64,
@@ -41,7 +41,7 @@ pub struct LentMembers<'a> {
     left: Texts<'a>,
 }
 
-/// What a message says of members, if it is a push/pull.
+/// What `message` says of members, if it is a push/pull.
 fn members_of<'a>(message: &Message<'a>) -> Option<LentMembers<'a>>
     ensures { option_map members_lent result ≡ members_of (message_of message.now) }
 {
@@ -55,7 +55,7 @@ fn members_of<'a>(message: &Message<'a>) -> Option<LentMembers<'a>>
     }
 }
 
-/// What a packet says of members, if it is a push/pull.
+/// What `packet` says of members, if it is a push/pull's; none also where it is no message.
 fn lent_members(packet: &[u8]) -> Option<LentMembers<'_>>
     ensures { option_map members_lent result ≡ members_in (decoded packet.now) }
 {
@@ -65,7 +65,7 @@ fn lent_members(packet: &[u8]) -> Option<LentMembers<'_>>
     }
 }
 
-/// Appends the head of a member.
+/// Appends `head`, what C reads of a member.
 fn put_head(out: &mut Vec<MemberHead>, head: MemberHead) -> Result<(), AllocError>
     ensures { OnOk result (out.new.items ≡ out.old.items ++ head ∷ []) }
 {
@@ -73,7 +73,7 @@ fn put_head(out: &mut Vec<MemberHead>, head: MemberHead) -> Result<(), AllocErro
     Ok(())
 }
 
-/// Appends the heads of the members that have a status time.
+/// Appends the heads of the members in `status`, which have a status time each.
 fn put_status_heads(out: &mut Vec<MemberHead>, status: StatusTimes) -> Result<(), AllocError>
     ensures { OnOk result (out.new.items ≡ out.old.items
         ++ map status_head (status_left status.entry)) }
@@ -91,7 +91,7 @@ fn put_status_heads(out: &mut Vec<MemberHead>, status: StatusTimes) -> Result<()
     Ok(())
 }
 
-/// Appends the heads of the members that left.
+/// Appends the heads of the members that left; `left` has their names.
 fn put_left_heads(out: &mut Vec<MemberHead>, left: Texts) -> Result<(), AllocError>
     ensures { OnOk result (out.new.items ≡ out.old.items ++ map left_head (texts_left left.entry)) }
 {
@@ -108,7 +108,7 @@ fn put_left_heads(out: &mut Vec<MemberHead>, left: Texts) -> Result<(), AllocErr
     Ok(())
 }
 
-/// Appends the names of the members that have a status time.
+/// Appends the names of the members in `status`, one after the other.
 fn put_status_names(out: &mut Vec<u8>, status: StatusTimes) -> Result<(), AllocError>
     ensures { OnOk result (out.new.items ≡ out.old.items
         ++ flat_map (λ p. p.0) (status_left status.entry)) }
@@ -119,7 +119,7 @@ fn put_status_names(out: &mut Vec<u8>, status: StatusTimes) -> Result<(), AllocE
     Ok(())
 }
 
-/// Appends texts, one after the other.
+/// Appends the bytes of `texts`, one text after the other.
 pub(crate) fn put_texts(out: &mut Vec<u8>, texts: Texts) -> Result<(), AllocError>
     ensures { OnOk result (out.new.items ≡ out.old.items
         ++ flat_map (λ text. text) (texts_left texts.entry)) }
@@ -130,7 +130,7 @@ pub(crate) fn put_texts(out: &mut Vec<u8>, texts: Texts) -> Result<(), AllocErro
     Ok(())
 }
 
-/// The members as C reads them.
+/// The heads of the members that `lent` names: those with a status time first, then those that left.
 fn heads_of(alloc: Global, lent: &LentMembers) -> Result<Vec<MemberHead>, AllocError>
     ensures { IfOk result (λ heads. heads.items ≡ member_heads (members_lent lent.now)) }
 {
@@ -140,7 +140,7 @@ fn heads_of(alloc: Global, lent: &LentMembers) -> Result<Vec<MemberHead>, AllocE
     Ok(heads)
 }
 
-/// Their names, one after the other.
+/// The names of the members that `lent` names, one after the other, in the order of their heads.
 fn names_of(alloc: Global, lent: &LentMembers) -> Result<Vec<u8>, AllocError>
     ensures { IfOk result (λ names. names.items ≡ member_names (members_lent lent.now)) }
 {
@@ -150,7 +150,7 @@ fn names_of(alloc: Global, lent: &LentMembers) -> Result<Vec<u8>, AllocError>
     Ok(names)
 }
 
-/// The members that a push/pull's packet names.
+/// Fills `all`, `members` and `names` with what `packet` says of members, if it is a push/pull.
 fn read_members(
     alloc: Global,
     packet: &[u8],
@@ -170,22 +170,22 @@ fn read_members(
     let Ok(heads) = heads_of(alloc, &lent) else {
         return Code::OutOfMemory;
     };
-    let Ok(told) = names_of(alloc, &lent) else {
+    let Ok(all_names) = names_of(alloc, &lent) else {
         return Code::OutOfMemory;
     };
     *all = MembersHead {
         member_clock: lent.clock,
         members: heads.len(),
-        names_len: told.len(),
+        names_len: all_names.len(),
     };
     copy_into(members, heads.as_slice());
-    copy_into(names, told.as_slice());
+    copy_into(names, all_names.as_slice());
     Code::Done
 }
 
-/// What a push/pull's packet says of members: its sender's member clock, and how many members it names; as many of them
-/// as fit, and as much of their names, one after the other, as fits. First come those with a status time, in the packet's
-/// order, and then those that left. Of another packet it says `NOTHING`.
+/// Fills `all` with the member clock of `packet`, a push/pull, and with how many members it names; `members` with as many
+/// of these as fit, those with a status time first, and `names` with as much of their names, one after the other, as
+/// fits. To another packet it answers `NOTHING`.
 #[unsafe(no_mangle)]
 pub extern "C" fn serf_agent_state_members(
     alloc: Global,

@@ -1,4 +1,4 @@
-//! The queries that were handed out and wait for an answer.
+//! The queries that were handed out and wait for an answer, each by its number.
 
 ghost use Rattle.std.specs.Prelude.{◌≡◌, ◌≢◌, ◌==◌, ◌<◌, ◌≤◌, ◌-◌, ◌^◌, All, AllPairs};
 ghost use Rattle.std.specs.List.{insert, position};
@@ -7,19 +7,20 @@ ghost use Rattle.std.specs.Vec.{vec_len, vec_capacity};
 use serf_agent::{HandedQuery, Reply, RespondFault};
 use std::alloc::Global;
 
-/// The queries that were handed out and wait for an answer, each by its number, in order. A query that was answered or
-/// forgotten is gone, and its number isn't given again.
+/// The queries that were handed out and wait for an answer, each by its number, from 1 on, in order. A query that was
+/// answered or forgotten is gone, and its number isn't given again.
 #[derive(Drop)]
 pub struct Waiting {
-    /// How many were handed out so far: the last one has this number.
+    /// How many queries were handed out so far, which is the number of the last one.
     pub(crate) handed: u64,
+    /// The queries that wait, each after its number.
     pub(crate) queries: Vec<(u64, HandedQuery)>,
     ghost room: { handed < 2 ^ 64 - 1 },
     ghost below: { All (λ w. w.0 ≤ handed) queries.items },
     ghost once: { AllPairs (λ v w. v.0 < w.0) queries.items },
 }
 
-/// Where in `queries` the query `number` is, if it waits: found by a binary search, since the numbers rise.
+/// The index in `queries` of the query `number`, if it waits: found by a binary search, since the numbers rise.
 fn place_of(queries: &[(u64, HandedQuery)], number: u64) -> Option<usize>
     requires { AllPairs (λ v w. v.0 < w.0) queries.now }
     ensures { result ≡ position (λ w. w.0 == number) queries.now }
@@ -27,13 +28,14 @@ fn place_of(queries: &[(u64, HandedQuery)], number: u64) -> Option<usize>
     queries.binary_search_by_key(&number, |&(own, _)| own).ok()
 }
 
-/// Puts a query back at `index`, where it was taken out.
+/// Puts `query`, with its number, back at `index`, where it was taken out.
 fn put_back(queries: &mut Vec<(u64, HandedQuery)>, index: usize, query: (u64, HandedQuery))
     requires { (index ≤ vec_len queries.old) × (vec_len queries.old < vec_capacity queries.old) }
     ensures { queries.new.items ≡ insert queries.old.items index query }
 {
     match queries.insert(index, query) {
         Ok(()) => {}
+        // (there is room: it stood there before)
         Err(_) => unreachable!(),
     }
 }
@@ -44,7 +46,7 @@ impl Waiting {
     ghost use Rattle.serf_agent_c.specs.Asking.{left_of, reply_of};
     ghost use Rattle.serf_agent_c.specs.Numbered.{IsNumbered, WaitsInTime, in_time, numbered, waiting_at, with_handed, without};
 
-    /// No query was handed out. Takes no memory.
+    /// The queries that wait where none was handed out yet. Takes no memory.
     pub(crate) fn new(alloc: Global) -> Waiting
         ensures { numbered result ≡ record { handed = 0; waiting = [] } }
     {
@@ -61,7 +63,7 @@ impl Waiting {
         self.handed + 1
     }
 
-    /// Puts a query after the others, by the next number; or gives it back where there is no memory for it, or no number.
+    /// Puts `query` after the others, by the next number; gives it back where there is no memory, or no number left.
     pub(crate) fn push(&mut self, query: HandedQuery) -> Result<(), HandedQuery>
         ensures ok { OnOk result (numbered self.new
             ≡ with_handed (Some query) (numbered self.old)) }
@@ -81,7 +83,7 @@ impl Waiting {
         }
     }
 
-    /// The query of a number, if it waits. Takes no memory.
+    /// The query `number`, if it waits. Takes no memory.
     pub(crate) fn get(&self, number: u64) -> Option<&HandedQuery>
         ensures { option_copied result ≡ waiting_at number self.now.queries.items }
     {
@@ -94,7 +96,7 @@ impl Waiting {
         }
     }
 
-    /// Answers the query of a number, if it waits; a success takes it out.
+    /// Answers the query `number` at the moment `now`, if it waits, and takes it out. Where that is refused it waits on.
     pub(crate) fn respond(
         &mut self,
         alloc: Global,
@@ -125,7 +127,7 @@ impl Waiting {
         }
     }
 
-    /// Takes the query of a number out, if it waits, and says whether it did. Takes no memory.
+    /// Takes the query `number` out, if it waits, and gives whether it did. Takes no memory.
     pub(crate) fn forget(&mut self, number: u64) -> bool
         ensures known { (q : Handed) → waiting_at number self.old.queries.items ≡ Some q
             → result ≡ true }

@@ -1,3 +1,4 @@
+pub mod Names
 pub mod LineLemmas
 pub mod LoneLemmas
 pub mod SessionLemmas

@@ -1,11 +1,5 @@
 -- A line of which at most eight words are cut, and what it says.
-use Rattle.std.proofs.Common.{◌≡◌, ◌≤◌, ◌<◌, ◌++◌, ◌∙◌, ℕ, List, [], true, false, refl, sym, ap, subst, arith, length}
-use Rattle.std.specs.Prelude.{nat_lt, Err}
-use Rattle.std.proofs.lemmas.Grind.{common_steps}
-use Rattle.std.proofs.lemmas.List.{append-nil, length-append}
-use Rattle.serf_text.specs.declared.cause.Cause.TheVariants.{WordCount}
-use Rattle.serf_text.specs.Words.{word_at}
-use Rattle.serf_conform.specs.Reply.{counted_words, kind_of, line_of}
+use Rattle.serf_conform.proofs.Names.{List, [], ap, arith, false, length, refl, subst, sym, true, ℕ, ◌++◌, ◌<◌, ◌∙◌, ◌≡◌, ◌≤◌, common_steps, append-nil, length-append, Err, nat_lt, word_at, WordCount, counted_words, kind_of, line_of}
 
 -- a line of more than eight words
 pub long_line : (all ws more : List (List ℕ)) → ws ++ more ≡ all → length ws ≡ 8 → 0 < length more → line_of all ≡ Err WordCount

@@ -1,16 +1,7 @@
 -- The model's agent alone, in a world of its own.
-use Rattle.std.proofs.Common.{◌≡◌, ◌++◌, ◌∙◌, ℕ, List, [], ◌∷◌, Some, refl, sym, ap, subst, length}
-use Rattle.std.specs.Prelude.{slice_get, map}
-use Rattle.std.proofs.lemmas.List.Sums.{fold_push}
-use Rattle.serf_agent.specs.declared.config.Config.{Config}
-use Rattle.serf_model.specs.declared.action.Act.{Act}
+use Rattle.serf_conform.proofs.Names.{List, Some, [], ap, length, refl, subst, sym, ℕ, ◌++◌, ◌∙◌, ◌∷◌, ◌≡◌, fold_push, slice_get, Config, AgentCall, Alone, alone, calls_on, Applied, IdealNode, apply, first_node, step, with_handed, AreRepresentable, Act, Line, IsViewed, TakesStep, WorldState, node_of, DoesAs, IsLone, lone_cluster}
+use Rattle.std.specs.Prelude.{map}
 use Rattle.serf_model.specs.declared.action.Action.TheVariants as actions
-use Rattle.serf_model.specs.declared.line.Line.{Line}
-use Rattle.serf_model.specs.Alone.{AgentCall, Alone, alone, calls_on}
-use Rattle.serf_model.specs.Cluster.{Applied, IdealNode, apply, first_node, step, with_handed}
-use Rattle.serf_model.specs.Ready.{AreRepresentable}
-use Rattle.serf_world.specs.View.{IsViewed, TakesStep, WorldState, node_of}
-use Rattle.serf_conform.specs.Lone.{DoesAs, IsLone, lone_cluster}
 
 -- a packet that was sent last
 last-sent : (sent : List (List ℕ)) (bytes : List ℕ) → slice_get (sent ++ bytes ∷ []) (length sent) ≡ Some bytes

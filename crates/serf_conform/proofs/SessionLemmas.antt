@@ -1,22 +1,6 @@
 -- A session, turn by turn.
-use Rattle.std.proofs.Common.{◌≡◌, ◌≤◌, ◌+◌, ◌++◌, ◌∙◌, ℕ, Bool, true, List, [], ◌∷◌, Option, Some, None, refl, sym, ap, subst, arith, length, drop, get_or}
-use Rattle.serf_agent.specs.declared.config.Config.{Config}
-use Rattle.serf_model.specs.declared.action.Action.{Action}
-use Rattle.serf_model.specs.declared.line.Line.{Line}
-use Rattle.serf_model.specs.Alone.{AgentCall}
-use Rattle.std.specs.Prelude.{IfOk, IfSome, Result, Ok, Err}
-use Rattle.std.specs.Io.KnownBytes.{Appends}
-use Rattle.std.proofs.KnownBytes.{Appends-nil, Appends-trans}
-use Rattle.serf_model.specs.Trace.{Turn, turns_from}
-use Rattle.serf_conform.specs.declared.look.Look.{Look}
-use Rattle.serf_conform.specs.declared.asking.Tally.{Tally}
-use Rattle.serf_conform.specs.declared.verdict.ConformFault.{ConformFault}
-use Rattle.serf_conform.specs.declared.asking.Asked.{Asked}
+use Rattle.serf_conform.proofs.Names.{Bool, List, None, Option, Some, [], ap, arith, drop, get_or, length, refl, subst, sym, true, ℕ, ◌++◌, ◌+◌, ◌∙◌, ◌∷◌, ◌≡◌, ◌≤◌, Appends-nil, Appends-trans, Appends, Err, IfOk, IfSome, Ok, Result, Config, AgentCall, Turn, turns_from, Action, Line, look_after, look_line, Said, AskedOf, Concludes, IsAlong, IsAsked, IsFew, IsLeft, IsTaken, RestIs, Session, Taken, after_asked, after_ending, agrees, asked_of, counted, due_of, ending_of, last_of, look_if, looked_of, made_after, no_calls, opened_of, session, session_from, taken_at, taken_of, then_looked, turn_at, with_line, with_looked, Asked, Tally, Look, ConformFault, Verdict}
 use Rattle.serf_conform.specs.declared.asking.Asked.TheVariants as asks
-use Rattle.serf_conform.specs.declared.verdict.Verdict.{Verdict}
-use Rattle.serf_conform.specs.Look.{look_after, look_line}
-use Rattle.serf_conform.specs.Reply.{Said}
-use Rattle.serf_conform.specs.Session.{AskedOf, Concludes, IsAlong, IsAsked, IsFew, IsLeft, IsTaken, RestIs, Session, Taken, after_asked, after_ending, agrees, asked_of, counted, due_of, ending_of, last_of, look_if, looked_of, made_after, no_calls, opened_of, session, session_from, taken_at, taken_of, then_looked, turn_at, with_line, with_looked}
 
 -- where no verdict comes of a call, the reader has the rest left
 rest_goes : (asked : Asked) (action : ℕ) (n : Tally) (new : Option (List ℕ)) (rest : List ℕ) → ending_of asked action n ≡ None → RestIs asked new rest → new ≡ Some rest

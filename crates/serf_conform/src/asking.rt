@@ -1,4 +1,5 @@
-//! One call of an agent, and one turn.
+//! Makes one call of an agent, or takes one turn of a trace, and compares the reply with the one that is wanted. `reader`
+//! has the agent's replies and `writer` takes its calls. A look is due where `due` has what the agent is to have.
 
 ghost use Rattle.std.specs.Prelude.{◌≡◌, ◌+◌, ◌-◌, ◌^◌, ◌<◌, ◌≤◌, ℕ, List, Option, IfOk, IfSome, OnOk, Some, length};
 ghost use Rattle.std.specs.Io.KnownBytes.{Appends};
@@ -25,35 +26,39 @@ use serf_wire::Bytes;
 use std::alloc::Global;
 use std::io::{Read, Write};
 
-/// How many replies agree, and how many looks had none.
+/// The counts of a comparison so far.
 #[derive(Clone, Copy, PartialEq, Eq)]
 pub(crate) struct Tally {
-    /// How many calls agree. That the agent was opened is one.
+    /// How many calls agree; the opening is one of them.
     pub(crate) calls: u64,
-    /// How many looks agree.
+    /// How many replies to `look` agree.
     pub(crate) looks: u64,
-    /// How many looks are unsupported.
+    /// How many replies to `look` are `unsupported`.
     pub(crate) unsupported: u64,
 }
 
-/// What came of a turn.
+/// The outcome of a turn, or of a call or a look by itself.
 #[derive(Drop)]
 pub(crate) enum Asked {
-    /// It is no call of the agent.
+    /// The turn is no call of the agent.
     Skipped,
-    /// It rests on a rule of this project's own, and was not tried.
+    /// The turn rests on a rule of this project's own, and its call was not made.
     OwnRule,
+    /// The reply means the one that is wanted.
     Agrees,
+    /// The reply is `unsupported`: the agent has no such call.
     Unsupported,
+    /// The reply, of this text, doesn't mean the one that is wanted, or can't be read.
     Differs(Bytes),
+    /// The agent ended before its reply was whole.
     Ended,
-    /// It agrees, and so does the look after it.
+    /// The reply agrees, and so does the reply to the look after it.
     Looked,
-    /// It agrees, and the look after it is unsupported.
+    /// The reply agrees, and the reply to the look after it is `unsupported`.
     Unlooked,
-    /// It agrees, and the look after it, of which this is wanted, does not.
+    /// The reply agrees, and the one to the look after it doesn't: what was wanted there, and the text of that reply.
     LookDiffers(Look, Bytes),
-    /// It agrees, and the agent ended at the look after it, of which this is wanted.
+    /// The reply agrees, and the agent ended at the look after it: what was wanted there.
     LookEnded(Look),
 }
 
@@ -61,7 +66,7 @@ impl Asked {
     ghost use Rattle.std.specs.Prelude.{◌≡◌};
     ghost use Rattle.serf_conform.specs.Session.{HasRoom, counted};
 
-    /// The counts after it.
+    /// The counts after this outcome, where `tally` has those before it.
     pub(crate) fn counted(&self, tally: Tally) -> Tally
         requires { HasRoom tally }
         ensures { result ≡ counted self.now tally }
@@ -83,8 +88,8 @@ impl Asked {
     }
 }
 
-/// The next reply, or `None` where the agent has ended.
-fn heard<R: Read>(alloc: Global, reader: &mut R) -> Result<Option<Vec<u8>>, ConformFault>
+/// The text of the agent's next reply, or `None` where the agent ended before the reply was whole.
+fn next_reply<R: Read>(alloc: Global, reader: &mut R) -> Result<Option<Vec<u8>>, ConformFault>
     ensures { IfOk result (λ text. IfSome (R.remaining reader.old) (λ input. Hears
         (first_reply input) (option_map (λ t. t.items) text) (R.remaining reader.new))) }
 {
@@ -97,7 +102,7 @@ fn heard<R: Read>(alloc: Global, reader: &mut R) -> Result<Option<Vec<u8>>, Conf
     }
 }
 
-/// What came of asking about a line, by a judgement; where the other agent differs, with its text.
+/// The outcome of a call or a look whose reply, of the text `text`, was judged as `judgement`.
 fn asked_by(judgement: Judgement, text: Vec<u8>) -> Asked
     ensures { result ≡ asked_by judgement text.items }
 {
@@ -108,7 +113,7 @@ fn asked_by(judgement: Judgement, text: Vec<u8>) -> Asked
     }
 }
 
-/// Writes a call, reads its reply, and judges it.
+/// Writes `line`, a call's line, and compares the reply with `wanted`. `given` is the packet that the call gave, or empty.
 fn ask<R: Read, W: Write>(
     alloc: Global,
     reader: &mut R,
@@ -125,14 +130,14 @@ fn ask<R: Read, W: Write>(
     if write_output(writer, line).is_err() {
         return Err(ConformFault::WriteFault);
     }
-    let Some(text) = heard(alloc, reader)? else {
+    let Some(text) = next_reply(alloc, reader)? else {
         return Ok(Asked::Ended);
     };
     let judgement = judge(alloc, given, wanted, &text)?;
     Ok(asked_by(judgement, text))
 }
 
-/// Writes `look`, reads its reply, and judges it.
+/// Makes the call `look`, and compares the reply by `rules` with `look`, what the agent is to have.
 pub(crate) fn ask_look<R: Read, W: Write>(
     alloc: Global,
     reader: &mut R,
@@ -148,14 +153,14 @@ pub(crate) fn ask_look<R: Read, W: Write>(
     if write_output(writer, look_line()).is_err() {
         return Err(ConformFault::WriteFault);
     }
-    let Some(text) = heard(alloc, reader)? else {
+    let Some(text) = next_reply(alloc, reader)? else {
         return Ok(Asked::Ended);
     };
     let judgement = judge_look(alloc, rules, look, &text)?;
     Ok(asked_by(judgement, text))
 }
 
-/// A call that agrees, with what came of the look after it.
+/// The outcome of a turn whose call agrees, where `looked` is the outcome of the look after it, which was to show `look`.
 fn with_looked(look: Look, looked: Asked) -> Asked
     ensures { result ≡ with_looked look looked }
 {
@@ -168,7 +173,7 @@ fn with_looked(look: Look, looked: Asked) -> Asked
     }
 }
 
-/// Looks at the agent after a call, where that is due and the call agrees.
+/// Looks where a look is `due` and `asked`, the outcome of the call before it, is `Agrees`. Gives the outcome of both.
 pub(crate) fn then_look<R: Read, W: Write>(
     alloc: Global,
     reader: &mut R,
@@ -192,7 +197,7 @@ pub(crate) fn then_look<R: Read, W: Write>(
     Ok(with_looked(look, looked))
 }
 
-/// Writes a call, reads its reply and judges it, and then looks at the agent where that is due.
+/// Writes `line`, a call's line, and compares the reply with `wanted`; then looks where a look is `due`.
 pub(crate) fn ask_and_look<R: Read, W: Write>(
     alloc: Global,
     reader: &mut R,
@@ -212,7 +217,7 @@ pub(crate) fn ask_and_look<R: Read, W: Write>(
     then_look(alloc, reader, writer, rules, due, asked)
 }
 
-/// Whether an action is one of this agent. Takes no memory.
+/// Whether `action` is one of agent number `agent`. Takes no memory.
 pub fn is_of(action: &Action, agent: u64) -> bool
     ensures { result ≡ is_agent agent (actor_of action.now) }
 {
@@ -222,7 +227,7 @@ pub fn is_of(action: &Action, agent: u64) -> bool
     }
 }
 
-/// The packet that an action gives to its agent, of those that were sent. It has no bytes where the action is no
+/// The packet that `action` gives to its agent, of the packets `sent` before it. It has no bytes where the action is no
 /// delivery and no merge. `None` where the action names a packet that wasn't sent. Takes no memory.
 pub fn given_packet<'a>(action: &Action, sent: &'a [Bytes]) -> Option<&'a [u8]>
     ensures { option_copied result ≡ given_of action.now (packet_given sent.now action.now) }
@@ -236,8 +241,8 @@ pub fn given_packet<'a>(action: &Action, sent: &'a [Bytes]) -> Option<&'a [u8]>
     }
 }
 
-/// Makes a call of an agent, which is given this packet, judges its reply against the action's line, and then looks at
-/// the agent where that is due.
+/// Makes the call of `action`, which gives the packet `given`, and compares the reply with `line`, the trace's line of
+/// the action, and `packets`, which the action sent. Then looks where a look is `due`.
 fn make_call<R: Read, W: Write>(
     alloc: Global,
     reader: &mut R,
@@ -254,15 +259,16 @@ fn make_call<R: Read, W: Write>(
         (asked_of given.now (wanted_of line.now given.now packets.now) input)))
         came (R.remaining reader.new) (W.contents writer.old) (W.contents writer.new))) }
 {
-    let mut text = Vec::new(alloc);
-    put_call(&mut text, action, given)?;
+    let mut call = Vec::new(alloc);
+    put_call(&mut call, action, given)?;
     let reply = wanted(alloc, line, given, packets)?;
-    ask_and_look(alloc, reader, writer, rules, due, &text, given, &reply)
+    ask_and_look(alloc, reader, writer, rules, due, &call, given, &reply)
 }
 
-/// Makes the call of a turn, where it is one of this agent that rests on these rules, judges its reply, and then looks at
-/// the agent where that is due. `keeps` says whether the agent keeps its events over a restart. So many of all packets
-/// were sent before the turn; `OtherTrace` where there are fewer.
+/// Takes the turn of `action` and `line`: makes its call and compares the reply, where it is one of agent number `agent`
+/// that rests on `rules`, and then looks where a look is `due`. `keeps` says whether the agent keeps its events over a
+/// restart. Of `sent`, all packets of the run, `count` were sent before the turn. `OtherTrace` where there are fewer, or
+/// too few after them for those that the turn sent.
 pub(crate) fn take_turn<R: Read, W: Write>(
     alloc: Global,
     reader: &mut R,
@@ -281,6 +287,7 @@ pub(crate) fn take_turn<R: Read, W: Write>(
         input) asked (R.remaining reader.new) (W.contents writer.old) (W.contents writer.new))) }
     ensures fits { OnOk result (count + length line.now.sent ≤ length sent.now) }
 {
+    // How many packets the turn sent.
     let own = line.sent.as_slice().len();
     if count > sent.len() || own > sent.len() - count {
         return Err(ConformFault::OtherTrace);

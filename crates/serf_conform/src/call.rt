@@ -1,4 +1,4 @@
-//! The lines of calls.
+//! Writes the lines of calls.
 ghost use Rattle.std.specs.Prelude.{◌≡◌, ◌++◌, OnOk};
 ghost use Rattle.serf_conform.specs.CallText.{call_line, open_line};
 
@@ -8,7 +8,7 @@ use serf_model::Action;
 use serf_schedule::{put_act_words, put_config_words, verb_word};
 use std::alloc::AllocError;
 
-/// Appends the line of the call that makes an agent of these settings on a snapshot of this text.
+/// Appends the line of the call `open`, which makes an agent of the settings `config` on a snapshot of the text `text`.
 ///
 /// After an `AllocError`, which comes only where there is no memory for the line, `out` may have a prefix of it.
 #[tactic(auto, unfolding(crate::specs::CallText::open_line))]
@@ -21,9 +21,8 @@ pub fn put_open(out: &mut Vec<u8>, config: &Config, text: &[u8]) -> Result<(), A
     out.extend_from_slice(b"\n")
 }
 
-/// Appends an action as the line of a call: without the agent's number, and with the packet's bytes in place of its
-/// number. The packet `given` counts where the action is a delivery or a merge. An injection is no agent's call, and
-/// adds nothing.
+/// Appends `action` as the line of a call: without the agent's number, and with the packet's bytes in place of its
+/// number. `given` is the packet that a delivery or a merge gives. An injection is no agent's call, and adds nothing.
 ///
 /// After an `AllocError`, which comes only where there is no memory for the line, `out` may have a prefix of it.
 pub fn put_call(out: &mut Vec<u8>, action: &Action, given: &[u8]) -> Result<(), AllocError>

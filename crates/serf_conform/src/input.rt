@@ -1,4 +1,4 @@
-//! Reading one reply of an agent.
+//! Reads the text of one reply from what an agent writes.
 
 ghost use Rattle.std.specs.Prelude.{◌≡◌, ◌<◌, ◌≤◌, IfOk, IfSome, IsErrOf, None, length};
 ghost use Rattle.serf_conform.specs.Input.{ReadsReply, first_reply, longest_reply};
@@ -26,10 +26,10 @@ pub enum ReadFault {
     OutOfMemory,
 }
 
-/// The lines of the next reply, each with its newline. Just they are read, and the empty line after them.
+/// The lines of the next reply, each with its newline. They and the empty line after them are read, and no more.
 ///
-/// A line that is a carriage return alone ends a reply too. The carriage return is then the last byte of the text: such an
-/// agent ends its lines otherwise, and would never write an empty one.
+/// A line that is a carriage return alone ends a reply too. The carriage return is then the last byte of the text: an
+/// agent that ends its lines by a carriage return and a newline would never write an empty one.
 ///
 /// A read of no bytes is the end of the input. After an error some bytes of a reply may have been read.
 pub fn read_reply_text<R: Read>(alloc: Global, reader: &mut R) -> Result<Vec<u8>, ReadFault>
@@ -42,6 +42,7 @@ pub fn read_reply_text<R: Read>(alloc: Global, reader: &mut R) -> Result<Vec<u8>
     ensures short { IfOk result (λ text. length text.items ≤ longest_reply) }
 {
     let mut text = Vec::new(alloc);
+    // Whether the next byte begins a line; and whether the line so far is a carriage return alone.
     let mut begins = true;
     let mut is_return = false;
     let mut byte = [0u8; 1];

@@ -1,4 +1,4 @@
-//! What is thought of a reply.
+//! Compares the text of a reply with the reply that is wanted.
 
 ghost use Rattle.std.specs.Prelude.{◌≡◌, IfOk};
 ghost use Rattle.serf_conform.specs.Reply.{reply_of, said_in};
@@ -8,25 +8,25 @@ use crate::meaning::reply_means;
 use crate::reply::{Reply, ReplyFault, read_reply};
 use std::alloc::{AllocError, Global};
 
-/// What a reply is against the one that is wanted.
+/// How a reply compares with the one that is wanted.
 #[derive(Clone, Copy, PartialEq, Eq)]
 pub enum Judgement {
-    /// It means the one that is wanted.
+    /// The reply means the one that is wanted.
     Agrees,
-    /// It doesn't, or can't be read.
+    /// The reply doesn't mean the one that is wanted, or can't be read.
     Differs,
-    /// The agent has no such call.
+    /// The reply is `unsupported`: the agent has no such call.
     Unsupported,
 }
 
-/// Whether a reply says that the agent has no such call.
-pub(crate) fn is_refused(reply: &Reply) -> bool
+/// Whether `reply` is `unsupported`: the agent has no such call.
+pub(crate) fn says_unsupported(reply: &Reply) -> bool
     ensures { result ≡ is_unsupported (said_in reply.now) }
 {
     reply.answer.as_slice() == b"unsupported".as_slice() && reply.lines.is_empty()
 }
 
-/// Compares the text of a reply with the reply that is wanted. The call was given this packet.
+/// Compares `text`, a reply's text, with the reply `wanted`. `given` is the packet that the call gave, or empty.
 ///
 /// A reply that can't be read differs. An `AllocError` comes only where there is no memory to read or compare it.
 pub fn judge(
@@ -41,7 +41,7 @@ pub fn judge(
         Err(ReplyFault::BadLine { .. }) => Ok(Judgement::Differs),
         Err(ReplyFault::OutOfMemory) => Err(AllocError),
         Ok(reply) => {
-            if is_refused(&reply) {
+            if says_unsupported(&reply) {
                 return Ok(Judgement::Unsupported);
             }
             if reply_means(alloc, given, wanted, &reply)? {

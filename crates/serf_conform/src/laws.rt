@@ -1,4 +1,4 @@
-//! What an agent that is held by itself says of the whole cluster, as a clause of a function that does nothing.
+//! Why agents can be held one by one: the clause of a function that does nothing, which the prover learns by a call.
 
 ghost use Rattle.std.specs.Prelude.{◌≡◌, ℕ, List, Some, slice_get};
 ghost use Rattle.serf_agent.specs.declared.config.Config.{Config};
@@ -18,6 +18,7 @@ pub fn projection()
         → slice_get (run_of configs actions).cluster.nodes a ≡ Some m
         → IsAlone config a (turns_by a (turns_of actions (trace_of (run_of configs actions)))) m }
 {
+    // A run has of each agent just the turns that the agent has alone; and a trace shows the turns of its run.
     agents_alone();
     turns_shown();
 }

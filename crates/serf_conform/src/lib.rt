@@ -1,5 +1,5 @@
-//! Any agent, held against the reference. Here are an agent's calls, the replies that are wanted of it, and the verdict.
-//! Calls and replies go through the pipe, as lines of text (docs/SPEC.md).
+//! Holds any agent against the reference: makes calls of it, compares each reply with the reference's, and gives a
+//! verdict. Calls and replies go through the pipe, as lines of text (docs/SPEC.md, "The pipe").
 #![tactic(auto)]
 
 mod asking;

@@ -1,4 +1,5 @@
-//! The model's agent, which gets the calls of the agent that is held, and nothing else.
+//! The lone agent: the reference, agent 0 of a world of its own, gets the calls of the agent that is held, and nothing
+//! else. What it has is what the other is to have.
 
 ghost use Rattle.std.specs.Prelude.{◌≡◌, ◌++◌, ◌∷◌, List, [], true, IfErr, IfOk, OnOk, Some, slice_get};
 ghost use Rattle.serf_agent.specs.declared.config.Config.{Config};
@@ -17,7 +18,7 @@ use serf_wire::Bytes;
 use serf_world::{Roster, World};
 use std::alloc::Global;
 
-/// The roster of an agent of these settings alone. It is `NoAgent` exactly where they are out of bounds, and `OutOfMemory`
+/// The roster of one agent, of the settings `config`. `NoAgent` exactly where they are out of bounds, and `OutOfMemory`
 /// only where they are within them and there is no memory for the roster. There is no other fault.
 pub fn lone_roster(alloc: Global, config: &Config) -> Result<Roster, ConformFault>
     ensures alone { IfOk result (λ roster. roster ≡ config.now ∷ []) }
@@ -37,14 +38,14 @@ pub fn lone_roster(alloc: Global, config: &Config) -> Result<Roster, ConformFaul
     }
 }
 
-/// The model's agent of these settings, on an empty snapshot. `NoAgent` where they are out of bounds.
+/// A world of one agent, of the settings `config`, on an empty snapshot. `NoAgent` where they are out of bounds.
 pub(crate) fn open_lone(alloc: Global, config: &Config) -> Result<World, ConformFault>
     ensures { IfOk result (λ world. IsLone config.now [] world) }
 {
     Ok(World::new(alloc, lone_roster(alloc, config)?)?)
 }
 
-/// The agent acts, by an act that does what this call does.
+/// The lone agent of `world` does `act`.
 fn act_lone(alloc: Global, world: &mut World, act: Act) -> Result<(), ConformFault>
     ensures { (config : Config) (made : List AgentCall) (call : AgentCall)
         → IsLone config made world.old → DoesAs world.old.sent act call
@@ -54,7 +55,7 @@ fn act_lone(alloc: Global, world: &mut World, act: Act) -> Result<(), ConformFau
     Ok(())
 }
 
-/// A packet is sent that the agent did not make, and its number is given.
+/// Injects the packet `given` into `world`, and gives its number among the packets that were sent, counted from 0.
 fn send_lone(alloc: Global, world: &mut World, given: &[u8]) -> Result<u64, ConformFault>
     ensures lone { (config : Config) (made : List AgentCall) → IsLone config made world.old
         → OnOk result (IsLone config made world.new) }
@@ -67,7 +68,7 @@ fn send_lone(alloc: Global, world: &mut World, given: &[u8]) -> Result<u64, Conf
     Ok(number)
 }
 
-/// The agent makes a call, which gives it this packet.
+/// The lone agent of `world` makes the call `act`: a delivery or a merge of the packet `given`, or another act.
 fn call_lone(alloc: Global, world: &mut World, act: &Act, given: &[u8]) -> Result<(), ConformFault>
     ensures { (config : Config) (made : List AgentCall) → IsLone config made world.old
         → OnOk result (IsLone config
@@ -87,7 +88,7 @@ fn call_lone(alloc: Global, world: &mut World, act: &Act, given: &[u8]) -> Resul
     }
 }
 
-/// What the agent has.
+/// What the lone agent of `world` has. `NoAgent` where the world has none.
 pub(crate) fn look_at(alloc: Global, world: &World) -> Result<Look, ConformFault>
     ensures { (config : Config) (made : List AgentCall) → IsLone config made world.now
         → IfOk result (λ look. look ≡ look_after config made) }
@@ -106,7 +107,7 @@ pub(crate) fn look_at(alloc: Global, world: &World) -> Result<Look, ConformFault
     })
 }
 
-/// The look that is due after a call of this answer.
+/// What the lone agent of `world` has, if a look is due after a call that was answered `answer`.
 fn due_look(alloc: Global, world: &World, answer: Answer) -> Result<Option<Look>, ConformFault>
     ensures { (config : Config) (made : List AgentCall) → IsLone config made world.now
         → IfOk result (λ due. due ≡ due_if (looked_behind answer) (look_after config made)) }
@@ -117,8 +118,9 @@ fn due_look(alloc: Global, world: &World, answer: Answer) -> Result<Option<Look>
     Ok(Some(look_at(alloc, world)?))
 }
 
-/// The agent makes the call of a turn, where it is one of the agent of this number, and the look is given that is due
-/// after it. So many packets were sent before; `OtherTrace` where there are fewer.
+/// The lone agent of `world` makes the call of the turn of `action` and `line`, if it is one of agent number `agent`.
+/// Gives what the agent has then, if a look is due after the turn. Of `sent`, all packets of the run, `count` were sent
+/// before the turn; `OtherTrace` where there are fewer.
 pub(crate) fn follow_turn(
     alloc: Global,
     world: &mut World,

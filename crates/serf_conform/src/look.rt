@@ -1,4 +1,4 @@
-//! What an agent has: its clocks, its least times, and what its disk keeps.
+//! Looks: what an agent has (clocks, minimums, the text that its disk keeps), and whether its reply to `look` agrees.
 
 ghost use Rattle.std.specs.Prelude.{◌≡◌, ◌++◌, ◌∷◌, [], IfOk, OnOk};
 ghost use Rattle.std.specs.Option.{option_copied};
@@ -7,7 +7,7 @@ ghost use Rattle.serf_conform.specs.Look.{is_looked_behind as looked_behind, kep
 ghost use Rattle.serf_conform.specs.Reply.{reply_of, said_in};
 ghost use Rattle.serf_conform.specs.Rules.{is_serf};
 
-use crate::judging::{Judgement, is_refused};
+use crate::judging::{Judgement, says_unsupported};
 use crate::put::put_number_word;
 use crate::reply::{Reply, ReplyFault, read_reply};
 use crate::reply_line::ReplyLine;
@@ -17,17 +17,17 @@ use serf_snap::read_clocks;
 use serf_wire::Bytes;
 use std::alloc::{AllocError, Global};
 
-/// What an agent has.
+/// What an agent has, by its reply to the call `look`.
 #[derive(Drop)]
 pub struct Look {
     pub member_clock: u64,
     pub event_clock: u64,
     pub query_clock: u64,
-    /// The least time of an event that is taken.
+    /// The least time that an event may have to be taken.
     pub event_minimum: u64,
-    /// The least time of a query that is taken.
+    /// The least time that a query may have to be taken.
     pub query_minimum: u64,
-    /// The text that its disk keeps.
+    /// The text of the snapshot that its disk keeps.
     pub kept: Bytes,
 }
 
@@ -39,7 +39,7 @@ pub fn look_line() -> &'static [u8]
     b"look\n"
 }
 
-/// Whether `look` is asked after a call of this answer: it is after a refusal, a restart and a compaction.
+/// Whether a look follows a call that the reference answers by `answer`: a refusal, a restart or a compaction.
 pub fn is_looked_behind(answer: Answer) -> bool
     ensures { result ≡ looked_behind answer }
 {
@@ -49,7 +49,7 @@ pub fn is_looked_behind(answer: Answer) -> bool
     )
 }
 
-/// The answer that is wanted.
+/// The first line, without its newline, of an agent's reply to the call `look`, where the agent has `look`.
 #[tactic(auto, unfolding(crate::specs::Look::look_answer))]
 fn answer_of(alloc: Global, look: &Look) -> Result<Vec<u8>, AllocError>
     ensures { IfOk result (λ answer. answer.items ≡ look_answer look.now) }
@@ -63,7 +63,7 @@ fn answer_of(alloc: Global, look: &Look) -> Result<Vec<u8>, AllocError>
     Ok(out)
 }
 
-/// The reply that is wanted of an agent that has this. An `AllocError` comes only where there is no memory for it.
+/// The reply to the call `look` that is wanted of an agent that has `look`. An `AllocError` comes only without memory.
 pub fn look_reply(alloc: Global, look: &Look) -> Result<Reply, AllocError>
     ensures { IfOk result (λ reply. said_in reply ≡ look_said look.now) }
 {
@@ -74,7 +74,7 @@ pub fn look_reply(alloc: Global, look: &Look) -> Result<Reply, AllocError>
     Ok(Reply { answer, lines })
 }
 
-/// Whether the same clocks are read in two texts.
+/// Whether the same three clocks are read in two texts of snapshots, `one` and `other`.
 fn have_same_clocks(one: &[u8], other: &[u8]) -> bool
     ensures { result ≡ same_clocks one.now other.now }
 {
@@ -85,7 +85,7 @@ fn have_same_clocks(one: &[u8], other: &[u8]) -> bool
         && wanted.query_clock == got.query_clock
 }
 
-/// Whether a text that is kept is as it is wanted.
+/// Whether `got`, the text that a disk keeps, agrees with `wanted`: by Serf's rules in its clocks, else in its bytes.
 fn is_kept_alike(rules: Rules, wanted: &[u8], got: &[u8]) -> bool
     ensures { result ≡ kept_alike (is_serf rules) wanted.now got.now }
 {
@@ -96,7 +96,7 @@ fn is_kept_alike(rules: Rules, wanted: &[u8], got: &[u8]) -> bool
     }
 }
 
-/// The text of a reply's only line, where it says what is kept.
+/// The text of a `kept` line that is the only one of `lines`, the lines of a reply after its answer; else `None`.
 fn only_kept(lines: &[ReplyLine]) -> Option<&[u8]>
     ensures { option_copied result ≡ only_kept lines.now }
 {
@@ -106,7 +106,7 @@ fn only_kept(lines: &[ReplyLine]) -> Option<&[u8]>
     }
 }
 
-/// Whether a reply has the clocks and the least times that are wanted, and a text that is alike.
+/// Whether the reply `got` has the clocks and the minimums of `look`, and a text that agrees with the one of `look`.
 fn is_wanted_look(alloc: Global, rules: Rules, look: &Look, got: &Reply) -> Result<bool, AllocError>
     ensures { IfOk result (λ b. b
         ≡ look_means (is_serf rules) look.now (said_in got.now)) }
@@ -121,8 +121,8 @@ fn is_wanted_look(alloc: Global, rules: Rules, look: &Look, got: &Reply) -> Resu
     }
 }
 
-/// What the text of a reply to `look` is against what is wanted: its clocks and least times are equal. So are the bytes
-/// of what is kept, or by Serf's rules the clocks that are read in it ([`serf_snap::read_clocks`]).
+/// Compares `text`, a reply to the call `look`, with `look`, what the agent is to have: its clocks, its minimums, and the
+/// bytes of the text that its disk keeps, or by Serf's rules the clocks in that text ([`serf_snap::read_clocks`]).
 ///
 /// A reply that can't be read differs. An `AllocError` comes only where there is no memory to read or compare it.
 pub fn judge_look(
@@ -138,7 +138,7 @@ pub fn judge_look(
         Err(ReplyFault::BadLine { .. }) => Ok(Judgement::Differs),
         Err(ReplyFault::OutOfMemory) => Err(AllocError),
         Ok(reply) => {
-            if is_refused(&reply) {
+            if says_unsupported(&reply) {
                 return Ok(Judgement::Unsupported);
             }
             if is_wanted_look(alloc, rules, look, &reply)? {

@@ -1,4 +1,4 @@
-//! When a line of a reply means what is wanted.
+//! Whether a reply means the one that is wanted: packets are compared by what they mean, and all else by its bytes.
 
 ghost use Rattle.std.specs.Prelude.{◌≡◌, ◌++◌, IfOk, OnOk};
 ghost use Rattle.std.specs.List.{flat_map};
@@ -18,7 +18,7 @@ use serf_text::{put_members, put_message, put_number_line, put_slot};
 use serf_wire::{Message, PushPull, SlotView, SlotViews, decode};
 use std::alloc::{AllocError, Global};
 
-/// Appends a slot without its number, or nothing where it is empty.
+/// Appends the lines of the slot `slot` of a state, with the number 0 for its own; nothing where it is empty.
 fn put_held(out: &mut Vec<u8>, slot: &SlotView) -> Result<(), AllocError>
     ensures { OnOk result (out.new.items ≡ out.old.items ++ held_lines (slot_of_view slot.now)) }
 {
@@ -28,7 +28,7 @@ fn put_held(out: &mut Vec<u8>, slot: &SlotView) -> Result<(), AllocError>
     }
 }
 
-/// Appends the lines of what slots hold.
+/// Appends the lines of `slots` but for the empty ones, each with the number 0.
 fn put_held_slots(out: &mut Vec<u8>, slots: SlotViews) -> Result<(), AllocError>
     ensures { OnOk result (out.new.items ≡ out.old.items
         ++ flat_map held_lines (slots_left slots.entry)) }
@@ -39,7 +39,7 @@ fn put_held_slots(out: &mut Vec<u8>, slots: SlotViews) -> Result<(), AllocError>
     Ok(())
 }
 
-/// Appends the fields of a state without its empty slots.
+/// Appends the text of the state `state` without its empty slots, and with the number 0 for each other slot.
 #[tactic(auto, unfolding(crate::specs::Meaning::state_lines))]
 fn put_state(out: &mut Vec<u8>, state: &PushPull) -> Result<(), AllocError>
     ensures { OnOk result (out.new.items ≡ out.old.items ++ state_lines state.now.member_clock
@@ -52,7 +52,7 @@ fn put_state(out: &mut Vec<u8>, state: &PushPull) -> Result<(), AllocError>
     put_number_line(out, b"QueryLTime", state.query_clock)
 }
 
-/// Appends what a message says, where empty slots of a state don't count.
+/// Appends the meaning of `message`: the text of its fields, without the empty slots of a state.
 fn put_meaning(out: &mut Vec<u8>, message: &Message) -> Result<(), AllocError>
     ensures { OnOk result (out.new.items ≡ out.old.items ++ meaning_text (message_of message.now)) }
 {
@@ -62,7 +62,7 @@ fn put_meaning(out: &mut Vec<u8>, message: &Message) -> Result<(), AllocError>
     }
 }
 
-/// What a packet means, where it spells a message.
+/// The meaning of the message that `packet` spells ([`put_meaning`]); `None` where it spells none.
 fn meaning(alloc: Global, packet: &[u8]) -> Result<Option<Vec<u8>>, AllocError>
     ensures { IfOk result (λ found. option_map (λ v. v.items) found
         ≡ meaning_of (decoded packet.now)) }
@@ -77,14 +77,14 @@ fn meaning(alloc: Global, packet: &[u8]) -> Result<Option<Vec<u8>>, AllocError>
     }
 }
 
-/// Whether two texts are the same bytes.
+/// Whether `one` and `other` are the same bytes.
 fn is_equal(one: &[u8], other: &[u8]) -> bool
     ensures { result ≡ bytes_eq one.now other.now }
 {
     one == other
 }
 
-/// Whether two packets spell messages of one meaning.
+/// Whether the packets `one` and `other` spell messages of one meaning.
 fn spell_one(alloc: Global, one: &[u8], other: &[u8]) -> Result<bool, AllocError>
     ensures { IfOk result (λ b. b ≡ spell_same one.now other.now) }
 {
@@ -97,7 +97,7 @@ fn spell_one(alloc: Global, one: &[u8], other: &[u8]) -> Result<bool, AllocError
     Ok(is_equal(&wanted, &got))
 }
 
-/// Whether a packet is as it is wanted: byte for byte where it is wanted as it was given.
+/// Whether the packet `got` agrees with `wanted`: byte for byte where `wanted` equals `given`, else in its meaning.
 fn is_wanted_packet(
     alloc: Global,
     given: &[u8],
@@ -112,7 +112,7 @@ fn is_wanted_packet(
     spell_one(alloc, wanted, got)
 }
 
-/// The text of a line of a reply.
+/// The text of `line`, without a newline.
 fn line_text(alloc: Global, line: &ReplyLine) -> Result<Vec<u8>, AllocError>
     ensures { IfOk result (λ text. text.items ≡ text_of line.now) }
 {
@@ -121,11 +121,11 @@ fn line_text(alloc: Global, line: &ReplyLine) -> Result<Vec<u8>, AllocError>
     Ok(out)
 }
 
-/// Whether a line of a reply means the one that is wanted, of a call that was given this packet.
+/// Whether `got`, a line of a reply, means the line `wanted`. `given` is the packet that the call gave, or empty.
 ///
-/// A packet that is wanted just as it was given is equal byte for byte. Any other packet spells the same message, where
-/// empty slots of a state don't count. Every other line has the same values. An `AllocError` comes only where there is
-/// no memory for the texts that are compared.
+/// Where `wanted` has the packet `given`, which was sent on, `got` has just its bytes. Any other packet spells a message
+/// of equal fields, where empty slots of a state don't count, and any other line has equal values. An `AllocError` comes
+/// only where there is no memory for the texts that are compared.
 pub fn line_means(
     alloc: Global,
     given: &[u8],
@@ -149,7 +149,7 @@ pub fn line_means(
     }
 }
 
-/// Whether there are as many lines, each of which means the one that is wanted in its place.
+/// Whether `got` has as many lines as `wanted`, each of which means the one in its place ([`line_means`]).
 fn lines_agree(
     alloc: Global,
     given: &[u8],
@@ -163,22 +163,22 @@ fn lines_agree(
     'lines: loop {
         match wanted {
             [] => return Ok(got.is_empty()),
-            [first, wanteds @ ..] => match got {
+            [wanted_line, wanted_left @ ..] => match got {
                 [] => return Ok(false),
-                [second, gots @ ..] => {
-                    if !line_means(alloc, given, first, second)? {
+                [got_line, got_left @ ..] => {
+                    if !line_means(alloc, given, wanted_line, got_line)? {
                         return Ok(false);
                     }
-                    wanted = wanteds;
-                    got = gots;
+                    wanted = wanted_left;
+                    got = got_left;
                 }
             },
         }
     }
 }
 
-/// Whether a reply means the one that is wanted, of a call that was given this packet: an equal answer, and as many
-/// lines, each of which means the one that is wanted in its place ([`line_means`]).
+/// Whether the reply `got` means the reply `wanted`: an equal answer, and as many lines, each of which means the one in
+/// its place ([`line_means`]). `given` is the packet that the call gave, or empty.
 ///
 /// An `AllocError` comes only where there is no memory for the texts that are compared.
 pub fn reply_means(

@@ -1,11 +1,11 @@
-//! Words with a space before them.
+//! Appends words of calls and replies, each with a space before it.
 ghost use Rattle.std.specs.Prelude.{◌≡◌, ◌++◌, OnOk};
 ghost use Rattle.serf_conform.specs.CallText.{flag_word, hex_word, moment_words, number_word, texts_words};
 
 use serf_text::{flag, put_hex, put_number};
 use std::alloc::AllocError;
 
-/// Appends a space and a number.
+/// Appends a space and `n` in decimal.
 #[tactic(auto, unfolding(crate::specs::CallText::number_word))]
 pub(crate) fn put_number_word(out: &mut Vec<u8>, n: u64) -> Result<(), AllocError>
     ensures { OnOk result (out.new.items ≡ out.old.items ++ number_word n) }
@@ -14,7 +14,7 @@ pub(crate) fn put_number_word(out: &mut Vec<u8>, n: u64) -> Result<(), AllocErro
     put_number(out, n)
 }
 
-/// Appends a space and bytes in hex.
+/// Appends a space and `bytes` in hex, or `-` where there are none.
 #[tactic(auto, unfolding(crate::specs::CallText::hex_word))]
 pub(crate) fn put_hex_word(out: &mut Vec<u8>, bytes: &[u8]) -> Result<(), AllocError>
     ensures { OnOk result (out.new.items ≡ out.old.items ++ hex_word bytes.now) }
@@ -23,7 +23,7 @@ pub(crate) fn put_hex_word(out: &mut Vec<u8>, bytes: &[u8]) -> Result<(), AllocE
     put_hex(out, bytes)
 }
 
-/// Appends a space, and 1 for true or 0 for false.
+/// Appends a space, and `1` where `value` is true, else `0`.
 #[tactic(auto, unfolding(crate::specs::CallText::flag_word))]
 pub(crate) fn put_flag_word(out: &mut Vec<u8>, value: bool) -> Result<(), AllocError>
     ensures { OnOk result (out.new.items ≡ out.old.items ++ flag_word value) }
@@ -32,7 +32,7 @@ pub(crate) fn put_flag_word(out: &mut Vec<u8>, value: bool) -> Result<(), AllocE
     out.extend_from_slice(flag(value))
 }
 
-/// A name and a payload.
+/// Appends `name` and `payload` in hex, each with a space before it.
 #[tactic(auto, unfolding(crate::specs::CallText::texts_words))]
 pub(crate) fn put_texts_words(
     out: &mut Vec<u8>,
@@ -45,11 +45,11 @@ pub(crate) fn put_texts_words(
     put_hex_word(out, payload)
 }
 
-/// Two numbers.
+/// Appends a query's Lamport time `time` and its ID `id`, each with a space before it.
 #[tactic(auto, unfolding(crate::specs::CallText::moment_words))]
-pub(crate) fn put_moment_words(out: &mut Vec<u8>, now: u64, id: u64) -> Result<(), AllocError>
-    ensures { OnOk result (out.new.items ≡ out.old.items ++ moment_words now id) }
+pub(crate) fn put_moment_words(out: &mut Vec<u8>, time: u64, id: u64) -> Result<(), AllocError>
+    ensures { OnOk result (out.new.items ≡ out.old.items ++ moment_words time id) }
 {
-    put_number_word(out, now)?;
+    put_number_word(out, time)?;
     put_number_word(out, id)
 }

@@ -1,4 +1,4 @@
-//! What is wanted of a reply.
+//! The replies of the reference, which are wanted of the agent that is held.
 
 ghost use Rattle.std.specs.Prelude.{◌≡◌, ◌++◌, IfOk, OnOk, map};
 ghost use Rattle.std.specs.Option.{option_to_list};
@@ -14,14 +14,14 @@ use serf_schedule::put_answer;
 use serf_wire::{Bytes, Message, decode};
 use std::alloc::{AllocError, Global};
 
-/// Adds the ack that a packet is.
+/// Adds the `counted ack` line of the packet `given`, an ack; nothing where it is no ack and no response.
 fn add_ack(alloc: Global, lines: &mut Vec<ReplyLine>, given: &[u8]) -> Result<(), AllocError>
     ensures { OnOk result (lines.new.items ≡ lines.old.items ++ ack_of (decoded given.now)) }
 {
     match decode(given) {
-        Ok(Message::QueryResponse(answer)) => {
-            let (time, id) = (answer.time, u64::from(answer.id));
-            let from = Bytes::copy_of(alloc, answer.from)?;
+        Ok(Message::QueryResponse(ack)) => {
+            let (time, id) = (ack.time, u64::from(ack.id));
+            let from = Bytes::copy_of(alloc, ack.from)?;
             lines.push(ReplyLine::CountedAck { time, id, from })?;
             Ok(())
         }
@@ -29,15 +29,15 @@ fn add_ack(alloc: Global, lines: &mut Vec<ReplyLine>, given: &[u8]) -> Result<()
     }
 }
 
-/// Adds the response that a packet is.
+/// Adds the `counted response` line of the packet `given`, a response; nothing where it is no ack and no response.
 fn add_response(alloc: Global, lines: &mut Vec<ReplyLine>, given: &[u8]) -> Result<(), AllocError>
     ensures { OnOk result (lines.new.items ≡ lines.old.items ++ response_of (decoded given.now)) }
 {
     match decode(given) {
-        Ok(Message::QueryResponse(answer)) => {
-            let (time, id) = (answer.time, u64::from(answer.id));
-            let from = Bytes::copy_of(alloc, answer.from)?;
-            let payload = Bytes::copy_of(alloc, answer.payload)?;
+        Ok(Message::QueryResponse(response)) => {
+            let (time, id) = (response.time, u64::from(response.id));
+            let from = Bytes::copy_of(alloc, response.from)?;
+            let payload = Bytes::copy_of(alloc, response.payload)?;
             lines.push(ReplyLine::CountedResponse {
                 time,
                 id,
@@ -50,7 +50,7 @@ fn add_response(alloc: Global, lines: &mut Vec<ReplyLine>, given: &[u8]) -> Resu
     }
 }
 
-/// Adds the line of the ack or the response that an answer counted; `given` is its packet.
+/// Adds the `counted` line of the packet `given`, if `answer` is `Ack` or `Response`, by which it was counted.
 fn add_counted(
     alloc: Global,
     lines: &mut Vec<ReplyLine>,
@@ -66,7 +66,7 @@ fn add_counted(
     }
 }
 
-/// Adds a line for each packet that was sent.
+/// Adds a `sent` line for each of `packets`.
 fn add_sent(alloc: Global, lines: &mut Vec<ReplyLine>, packets: &[Bytes]) -> Result<(), AllocError>
     ensures { OnOk result (lines.new.items ≡ lines.old.items ++ map (λ p. Sent p) packets.now) }
 {
@@ -77,7 +77,7 @@ fn add_sent(alloc: Global, lines: &mut Vec<ReplyLine>, packets: &[Bytes]) -> Res
     Ok(())
 }
 
-/// The line of an event that was handed out.
+/// The `event` line of `event`, which was handed out.
 fn event_line(alloc: Global, event: &EventLine) -> Result<ReplyLine, AllocError>
     ensures { IfOk result (λ line. line ≡ event_said event.now) }
 {
@@ -91,7 +91,7 @@ fn event_line(alloc: Global, event: &EventLine) -> Result<ReplyLine, AllocError>
     })
 }
 
-/// Adds a line for each event that was handed out.
+/// Adds an `event` line for each of `events`, which were handed out.
 fn add_events(
     alloc: Global,
     lines: &mut Vec<ReplyLine>,
@@ -105,7 +105,7 @@ fn add_events(
     Ok(())
 }
 
-/// The line of a query that was handed out.
+/// The `handed` line of `query`, which was handed out.
 fn handed_line(alloc: Global, query: &HandedLine) -> Result<ReplyLine, AllocError>
     ensures { IfOk result (λ line. line ≡ handed_said query.now) }
 {
@@ -120,7 +120,7 @@ fn handed_line(alloc: Global, query: &HandedLine) -> Result<ReplyLine, AllocErro
     })
 }
 
-/// Adds the line of the query that was handed out, if one was.
+/// Adds the `handed` line of `handed`, the query that was handed out, if one was.
 fn add_handed(
     alloc: Global,
     lines: &mut Vec<ReplyLine>,
@@ -138,11 +138,11 @@ fn add_handed(
     }
 }
 
-/// What the reference replies to a call, by the action's line and the packets that it sent. The call was given this
-/// packet where it is a delivery or a merge.
+/// What the reference replies to a call, by `line`, the trace's line of the action, and `packets`, which the action sent.
+/// `given` is the packet that a delivery or a merge gives.
 ///
-/// After an ack or a response that was counted stands what was counted, which the packet says. An `AllocError` comes
-/// only where there is no memory for the reply.
+/// After an ack or a response that was counted stands what was counted, which `given` says. An `AllocError` comes only
+/// where there is no memory for the reply.
 pub fn wanted(
     alloc: Global,
     line: &Line,

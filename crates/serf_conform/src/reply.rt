@@ -1,4 +1,4 @@
-//! A whole reply.
+//! Reads a whole reply from its text.
 
 ghost use Rattle.std.specs.Prelude.{◌≡◌, ◌==◌, []};
 ghost use Rattle.std.specs.List.{slice_split};
@@ -11,26 +11,26 @@ use serf_wire::Bytes;
 use std::alloc::Global;
 use thiserror::Error;
 
-/// What an agent replied to a call.
+/// What an agent replied to a call, or is to reply.
 #[derive(Drop)]
 pub struct Reply {
-    /// The first line, as it stands.
+    /// The first line, as it stands, without its newline.
     pub answer: Bytes,
     /// What the lines after it say, in order.
     pub lines: Vec<ReplyLine>,
 }
 
-/// Why a reply is not read.
+/// Why a reply can't be read.
 #[derive(Clone, Copy, Debug, Drop, Error, PartialEq, Eq)]
 pub enum ReplyFault {
-    /// The first line, counted from 1, that can't be read, and what is wrong with it.
+    /// The number of the first line, counted from 1, that can't be read, and what is wrong with it.
     #[error("line {line} of the reply is bad: {cause}")]
     BadLine { line: u64, cause: Cause },
     #[error("out of memory")]
     OutOfMemory,
 }
 
-/// Adds what a line says to the lines before it.
+/// Adds to `lines` what `line` says; an empty line says nothing.
 #[tactic(auto, unfolding(crate::specs::Reply::after_line))]
 fn add_line(alloc: Global, lines: &mut Vec<ReplyLine>, line: &[u8]) -> Result<(), LineFault>
     ensures { Gives (λ _. lines.new.items) result (after_line lines.old.items line.now) }
@@ -42,7 +42,7 @@ fn add_line(alloc: Global, lines: &mut Vec<ReplyLine>, line: &[u8]) -> Result<()
     lines.push(said).map_err(|_| LineFault::OutOfMemory)
 }
 
-/// What the lines of a text say, of which the first is the second of its reply.
+/// What the lines of `text` say, the part of a reply after its answer. `line` counts them, and is 2 at the first of them.
 fn read_lines(alloc: Global, text: &[u8]) -> Result<Vec<ReplyLine>, ReplyFault>
     ensures { ReadsLines result (after_lines 2 [] (slice_split (λ b. b == 10) text.now)) }
 {
@@ -66,7 +66,7 @@ fn read_lines(alloc: Global, text: &[u8]) -> Result<Vec<ReplyLine>, ReplyFault>
     }
 }
 
-/// The reply that these lines say, or its first line that can't be read.
+/// The reply that `text` says, or its first line that can't be read.
 ///
 /// The text is cut at newlines. The first line is the answer, of any bytes but none. Empty lines after it say nothing;
 /// [`crate::read_reply_text`] gives none but the one at the end. `OutOfMemory` may come before a bad line that stands

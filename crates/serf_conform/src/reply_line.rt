@@ -1,4 +1,4 @@
-//! A line of a reply after its answer.
+//! Reads a line of a reply after its answer.
 
 ghost use Rattle.std.specs.Prelude.{◌≡◌, ◌==◌, ◌≤◌, length, map};
 ghost use Rattle.serf_text.specs.Gives.{Gives};
@@ -11,7 +11,7 @@ use serf_text::{
 use serf_wire::Bytes;
 use std::alloc::Global;
 
-/// The greatest time.
+/// The greatest Lamport time.
 const MAX_TIME: u64 = u64::MAX - 1;
 
 /// The greatest ID of a query.
@@ -20,7 +20,7 @@ const MAX_ID: u64 = u32::MAX as u64;
 /// What a line of a reply says. Times are Lamport times, below 2^64 - 1.
 #[derive(Drop)]
 pub enum ReplyLine {
-    /// A packet was sent.
+    /// This packet was sent.
     Sent(Bytes),
     /// An event was handed out.
     Event {
@@ -59,7 +59,7 @@ pub enum ReplyLine {
     Kept(Bytes),
 }
 
-/// What a line is about.
+/// The kind of a line, as [`ReplyLine`] has it.
 #[derive(Clone, Copy, PartialEq, Eq)]
 pub(crate) enum LineKind {
     Sent,
@@ -70,7 +70,7 @@ pub(crate) enum LineKind {
     Kept,
 }
 
-/// What was counted, by the second word.
+/// The kind of a `counted` line whose second word is `word`; `None` where it is neither `ack` nor `response`.
 fn counted(word: &[u8]) -> Option<LineKind>
     ensures { result ≡ counted_kind word.now }
 {
@@ -83,7 +83,7 @@ fn counted(word: &[u8]) -> Option<LineKind>
     }
 }
 
-/// What a line is about, by its first two words.
+/// The kind of a line whose first two words are `first` and `second`; `None` where no line begins by them.
 fn kind(first: &[u8], second: &[u8]) -> Option<LineKind>
     ensures { result ≡ kind_of first.now second.now }
 {
@@ -103,7 +103,7 @@ fn kind(first: &[u8], second: &[u8]) -> Option<LineKind>
 }
 
 impl LineKind {
-    /// How many words its line has.
+    /// How many words a line of this kind has.
     fn count(self) -> usize
         ensures { result ≡ count_of self }
     {
@@ -115,7 +115,7 @@ impl LineKind {
     }
 }
 
-/// The event that the words of a reply say.
+/// The event that `words` say, the five words of an `event` line; word 1 is `event`.
 #[tactic(auto, unfolding(crate::specs::Reply::event_of))]
 fn event(alloc: Global, words: &[&[u8]]) -> Result<ReplyLine, LineFault>
     ensures { Gives (λ l. l) result (event_of (map (λ w. w.now) words.now)) }
@@ -132,7 +132,7 @@ fn event(alloc: Global, words: &[&[u8]]) -> Result<ReplyLine, LineFault>
     })
 }
 
-/// The query that the words of a reply say.
+/// The query that `words` say, the six words of a `handed` line; word 1 is `handed`.
 #[tactic(auto, unfolding(crate::specs::Reply::handed_of))]
 fn handed(alloc: Global, words: &[&[u8]]) -> Result<ReplyLine, LineFault>
     ensures { Gives (λ l. l) result (handed_of (map (λ w. w.now) words.now)) }
@@ -151,7 +151,7 @@ fn handed(alloc: Global, words: &[&[u8]]) -> Result<ReplyLine, LineFault>
     })
 }
 
-/// The ack that the words of a reply say.
+/// The ack that `words` say, the five words of a `counted ack` line; words 1 and 2 are these two.
 #[tactic(auto, unfolding(crate::specs::Reply::counted_ack_of))]
 fn counted_ack(alloc: Global, words: &[&[u8]]) -> Result<ReplyLine, LineFault>
     ensures { Gives (λ l. l) result (counted_ack_of (map (λ w. w.now) words.now)) }
@@ -162,7 +162,7 @@ fn counted_ack(alloc: Global, words: &[&[u8]]) -> Result<ReplyLine, LineFault>
     Ok(ReplyLine::CountedAck { time, id, from })
 }
 
-/// The response that the words of a reply say.
+/// The response that `words` say, the six words of a `counted response` line; words 1 and 2 are these two.
 #[tactic(auto, unfolding(crate::specs::Reply::counted_response_of))]
 fn counted_response(alloc: Global, words: &[&[u8]]) -> Result<ReplyLine, LineFault>
     ensures { Gives (λ l. l) result (counted_response_of (map (λ w. w.now) words.now)) }
@@ -179,7 +179,7 @@ fn counted_response(alloc: Global, words: &[&[u8]]) -> Result<ReplyLine, LineFau
     })
 }
 
-/// What a line of a kind says, which has as many words as that needs.
+/// What a line of the kind `kind` says, whose words are `words`: [`LineKind::count`] of them.
 #[tactic(auto, unfolding(crate::specs::Reply::sent_of, crate::specs::Reply::kept_of))]
 fn line_of_kind(alloc: Global, kind: LineKind, words: &[&[u8]]) -> Result<ReplyLine, LineFault>
     ensures { Gives (λ l. l) result (of_kind kind (map (λ w. w.now) words.now)) }
@@ -194,7 +194,7 @@ fn line_of_kind(alloc: Global, kind: LineKind, words: &[&[u8]]) -> Result<ReplyL
     }
 }
 
-/// What the words of a line say.
+/// What a line after a reply's answer says, whose words are `words`.
 fn line_in(alloc: Global, words: &[&[u8]]) -> Result<ReplyLine, LineFault>
     ensures { Gives (λ l. l) result (counted_words
         (kind_of (word_at 1 (map (λ w. w.now) words.now)) (word_at 2 (map (λ w. w.now) words.now)))

@@ -1,4 +1,4 @@
-//! The text of a reply's lines.
+//! Writes the lines of a reply after its answer.
 ghost use Rattle.std.specs.Prelude.{◌≡◌, ◌++◌, OnOk, codes, if◌then◌else◌};
 ghost use Rattle.serf_conform.specs.CallText.{moment_words, number_word};
 ghost use Rattle.serf_conform.specs.ReplyText.{counted_ack_name, counted_response_name, line_text};
@@ -7,7 +7,7 @@ use crate::put::{put_flag_word, put_hex_word, put_moment_words, put_number_word,
 use crate::reply_line::ReplyLine;
 use std::alloc::AllocError;
 
-/// What a line of an ack that was counted, or of a response, begins with.
+/// The first two words of the line of an ack that was counted, where `is_ack`, or else of a response.
 #[tactic(auto, unfolding(crate::specs::ReplyText::counted_ack_name, crate::specs::ReplyText::counted_response_name))]
 fn counted_name(is_ack: bool) -> &'static [u8]
     ensures { result.now ≡ (if is_ack then counted_ack_name else counted_response_name) }
@@ -19,7 +19,7 @@ fn counted_name(is_ack: bool) -> &'static [u8]
     }
 }
 
-/// The kind, the time and the ID of an ack or a response that was counted.
+/// Appends the first two words of a `counted` line ([`counted_name`]), and then the query's `time` and `id`.
 fn put_counted(out: &mut Vec<u8>, is_ack: bool, time: u64, id: u64) -> Result<(), AllocError>
     ensures { OnOk result (out.new.items ≡ out.old.items
         ++ (if is_ack then counted_ack_name else counted_response_name) ++ moment_words time id) }
@@ -28,7 +28,7 @@ fn put_counted(out: &mut Vec<u8>, is_ack: bool, time: u64, id: u64) -> Result<()
     put_moment_words(out, time, id)
 }
 
-/// The kind, the index, the time and the ID of a query that was handed out.
+/// Appends the word `handed`, and then a query's `index`, `time` and `id`.
 fn put_handed(out: &mut Vec<u8>, index: u64, time: u64, id: u64) -> Result<(), AllocError>
     ensures { OnOk result (out.new.items ≡ out.old.items ++ codes "handed" ++ number_word index
         ++ moment_words time id) }
@@ -38,7 +38,7 @@ fn put_handed(out: &mut Vec<u8>, index: u64, time: u64, id: u64) -> Result<(), A
     put_moment_words(out, time, id)
 }
 
-/// Appends the words of a line of a reply, without a newline.
+/// Appends the text of `line`, without a newline.
 ///
 /// After an `AllocError`, which comes only where there is no memory for them, `out` may have a prefix of them.
 pub fn put_reply_line(out: &mut Vec<u8>, line: &ReplyLine) -> Result<(), AllocError>

@@ -1,4 +1,4 @@
-//! An agent, held against the reference from its first call to its last.
+//! Holds an agent against the reference from its first call to its last, and gives the verdict.
 
 ghost use Rattle.std.specs.Prelude.{◌≡◌, ℕ, List, [], Option, IfOk, IfSome, OnOk};
 ghost use Rattle.std.specs.Io.KnownBytes.{Appends};
@@ -24,7 +24,7 @@ use serf_world::World;
 use std::alloc::{AllocError, Global};
 use std::io::{Read, Write};
 
-/// The text of the call that opens an agent with these settings.
+/// The line of the call that opens an agent of the settings `config` on an empty snapshot.
 fn open_text(alloc: Global, config: &Config) -> Result<Vec<u8>, AllocError>
     ensures { IfOk result (λ text. text.items ≡ open_line config.now []) }
 {
@@ -33,7 +33,8 @@ fn open_text(alloc: Global, config: &Config) -> Result<Vec<u8>, AllocError>
     Ok(out)
 }
 
-/// Opens an agent of these settings on an empty snapshot, and looks at it. The model's agent has done nothing.
+/// Opens an agent of the settings `config` on an empty snapshot, and looks at it: it is to have what the agent of `lone`
+/// has, which has done nothing.
 fn open<R: Read, W: Write>(
     alloc: Global,
     reader: &mut R,
@@ -53,7 +54,8 @@ fn open<R: Read, W: Write>(
     ask_and_look(alloc, reader, writer, rules, Some(look), &text, &[], &reply)
 }
 
-/// A verdict at an action, with the look that was wanted, where it ended at one.
+/// The verdict of a comparison that ended at action number `action` by `end`. `tally` has its counts, and `look` what the
+/// agent was to have, where it ended at a look.
 fn verdict_at(action: u64, tally: Tally, look: Option<Look>, end: End) -> Verdict
     ensures { result ≡ verdict_at action tally look end }
 {
@@ -67,7 +69,8 @@ fn verdict_at(action: u64, tally: Tally, look: Option<Look>, end: End) -> Verdic
     }
 }
 
-/// The verdict where this came of the call of an action, after so many that agree; `None` where it goes on.
+/// The verdict, if `asked`, the outcome of action number `action`, ends the comparison; `None` where it goes on. `tally`
+/// has the counts before the action.
 fn ending(asked: Asked, action: u64, tally: Tally) -> Option<Verdict>
     requires { HasRoom tally }
     ensures { result ≡ ending_of asked action tally }
@@ -85,7 +88,8 @@ fn ending(asked: Asked, action: u64, tally: Tally) -> Option<Verdict>
     Some(verdict_at(action, more, look, end))
 }
 
-/// The verdict where this came of the look after the last call.
+/// The verdict, where `looked` is the outcome of the look after the last call, which was to show `look`. `tally` has the
+/// counts before that look, and `action` is one more than the number of the last action.
 fn last_ending(looked: Asked, action: u64, tally: Tally, look: Look) -> Verdict
     requires { HasRoom tally }
     ensures { result ≡ last_of looked action tally look }
@@ -108,7 +112,8 @@ fn last_ending(looked: Asked, action: u64, tally: Tally, look: Look) -> Verdict
     }
 }
 
-/// Looks at the agent after the last call.
+/// Looks at the agent after the last call, and gives the verdict: the agent is to have what the agent of `lone` has.
+/// `tally` has the counts before the look, and `action` is one more than the number of the last action.
 fn look_last<R: Read, W: Write>(
     alloc: Global,
     reader: &mut R,
@@ -131,7 +136,9 @@ fn look_last<R: Read, W: Write>(
     Ok(last_ending(looked, action, tally, look))
 }
 
-/// Holds an agent that was opened with these settings against the turns from here on.
+/// Holds an agent that was opened with the settings `config` against the turns of `actions` and `lines`: makes the calls
+/// of agent number `agent`. `sent` has all packets of the run, `lone` is the world of the lone agent, and `tally` has the
+/// counts after the opening. `OtherTrace` where there are fewer lines than actions, or fewer packets than lines say.
 fn hold_on<R: Read, W: Write>(
     alloc: Global,
     reader: &mut R,
@@ -155,6 +162,7 @@ fn hold_on<R: Read, W: Write>(
     let keeps = config.keep_events;
     let mut actions = actions;
     let mut lines = lines;
+    // `number` is the next action's, and `count` is how many packets were sent before it.
     let mut number: u64 = 1;
     let mut tally = tally;
     let mut count: usize = 0;
@@ -184,16 +192,16 @@ fn hold_on<R: Read, W: Write>(
 }
 
 /// Holds an agent against the reference: opens it on an empty snapshot, makes the calls that agent number `agent` got in
-/// the trace of these actions, and compares each reply by its meaning ([`crate::line_means`]).
+/// `trace`, the trace of `actions`, and compares each reply by its meaning ([`crate::line_means`]).
 ///
 /// It looks at the agent after the opening, after each call that is refused, restarts it or compacts its snapshot, and
-/// after the last call: what it has is to be what the model's agent has after the same calls ([`judge_look`]). A look
-/// that is unsupported is counted, and changes nothing else.
+/// after the last call: the agent is to have what the reference has after the same calls ([`judge_look`]). A look that is
+/// unsupported is counted, and changes nothing else.
 ///
 /// A call is written only once the reply to the one before is read and agrees. A delivery or a merge that names no
 /// packet is no call. Where the agent has not ended, just the replies to the calls were read, so that the next `hold` on
-/// these devices opens it anew. `NoAgent` where the settings are out of bounds. After a fault the agent may have got a
-/// part of a call.
+/// these devices opens it anew. `NoAgent` where the settings `config` are out of bounds. After a fault the agent may have
+/// got a part of a call.
 ///
 /// [`judge_look`]: crate::judge_look
 pub fn hold<R: Read, W: Write>(

@@ -1,16 +1,16 @@
-//! What an agent is thought of.
+//! The verdict on an agent that was held against the reference, and the faults that leave none.
 
 use crate::look::Look;
 use serf_wire::Bytes;
 use std::alloc::AllocError;
 use thiserror::Error;
 
-/// Which rules are asked for.
+/// By which rules an agent is held against the reference.
 #[derive(Clone, Copy, PartialEq, Eq)]
 pub enum Rules {
-    /// Those of Serf: a comparison ends before the first turn that rests on a rule of this project's own.
+    /// Serf's rules: a comparison ends before the first turn that rests on a rule of this project's own.
     Serf,
-    /// All.
+    /// All rules, this project's own too.
     Own,
 }
 
@@ -18,7 +18,7 @@ impl Rules {
     ghost use Rattle.std.specs.Prelude.{◌≡◌};
     ghost use Rattle.serf_conform.specs.Rules.{is_serf};
 
-    /// Whether they are Serf's alone. Takes no memory.
+    /// Whether they are Serf's rules alone. Takes no memory.
     pub fn is_serf(self) -> bool
         ensures { result ≡ is_serf self }
     {
@@ -29,41 +29,42 @@ impl Rules {
 /// Why a comparison ended.
 #[derive(Drop)]
 pub enum End {
-    /// Every call was made, and every reply agrees.
+    /// Every call was made, and every reply agrees; but a look may be unsupported.
     AllAgree,
     /// The action rests on a rule of this project's own, and was not tried.
     OwnRule,
-    /// The agent has no such call.
+    /// The reply is `unsupported`: the agent has no such call.
     Unsupported,
     /// The reply of this text is not the one that is wanted, or can't be read.
     Differs(Bytes),
-    /// The agent ended before its reply did.
+    /// The agent ended before its reply was whole.
     Ended,
 }
 
-/// What came of holding an agent against the reference.
+/// The verdict on an agent that was held against the reference.
 #[derive(Drop)]
 pub struct Verdict {
-    /// How many calls agree. That the agent was opened is one.
+    /// How many calls agree; the opening is one of them.
     pub calls: u64,
-    /// How many looks agree.
+    /// How many replies to `look` agree.
     pub looks: u64,
-    /// How many looks are unsupported.
+    /// How many replies to `look` are `unsupported`.
     pub unsupported_looks: u64,
-    /// The action at which it ended, counted from 1; 0 is the opening, and one more than there are is after the last.
+    /// The number of the action at which it ended, from 1 on; 0 is the opening, and one above all is after the last.
     pub action: u64,
-    /// The look that was wanted after that action, where it ended at one: the action itself agrees.
+    /// What the agent was to have after that action, where it ended at a look: the reply to the action itself agrees.
     pub look: Option<Look>,
+    /// Why it ended.
     pub end: End,
 }
 
 /// Why there is no verdict.
 #[derive(Clone, Copy, Debug, Drop, Error, PartialEq, Eq)]
 pub enum ConformFault {
-    /// No agent has this number.
+    /// There is no agent: the settings are out of bounds, or a world has none.
     #[error("there is no such agent")]
     NoAgent,
-    /// The trace is not one of these actions.
+    /// The trace is not that of the actions: it has too few lines, or too few packets.
     #[error("the trace is of other actions")]
     OtherTrace,
     /// A read failed.

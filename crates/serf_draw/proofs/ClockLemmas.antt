@@ -1,11 +1,5 @@
 -- The event clock of an agent that a world stores, and the least time of an event that it takes.
-use Rattle.std.proofs.Common.{◌≡◌, ℕ, List, Option, Some, None, refl, sym, ap, ◌∙◌}
-use Rattle.std.specs.Prelude.{slice_get}
-use Rattle.std.specs.Option.{option_map}
-use Rattle.std.proofs.lemmas.Option.{slice_get-map}
-use Rattle.serf_model.specs.Cluster.{Cluster, IdealNode}
-use Rattle.serf_world.specs.View.{IsViewed, NodeState, WorldState, agent_at, node_of}
-use Rattle.serf_draw.specs.Drawing.{clock_in, least_in}
+use Rattle.serf_draw.proofs.Names.{List, None, Option, Some, ap, refl, sym, ℕ, ◌∙◌, ◌≡◌, slice_get-map, option_map, slice_get, Cluster, IdealNode, IsViewed, NodeState, WorldState, agent_at, node_of, clock_in, least_in}
 
 mapped : (o : Option IdealNode) → option_map (λ s. s.events.clock) (option_map (λ s. s.concrete) (option_map node_of o)) ≡ option_map (λ m. m.agent.events.clock) o
 mapped None = refl

@@ -1,11 +1,5 @@
 -- What is coded has only coded bytes.
-use Rattle.std.proofs.Common.{◌≡◌, ℕ, ◌+◌, ◌%◌, ◌^◌, ◌<◌, Bool, true, false, cond, List, [], ◌∷◌, codes, decimal, refl, ◌∙◌, arith}
-use Rattle.std.proofs.lemmas.Fmt.{decimal_by_steps}
-use Rattle.std.proofs.lemmas.Bool.Decides.{nat_tests}
-use Rattle.std.proofs.lemmas.List.Folds.{list_all-append}
-use Rattle.std.specs.List.{list_all}
-use Rattle.serf_draw.specs.Svg.{between}
-use Rattle.serf_draw.specs.Mermaid.{coded, coded_byte, is_coded, is_plain, is_printable}
+use Rattle.serf_draw.proofs.Names.{Bool, List, [], arith, codes, cond, decimal, false, refl, true, ℕ, ◌%◌, ◌+◌, ◌<◌, ◌^◌, ◌∙◌, ◌∷◌, ◌≡◌, nat_tests, decimal_by_steps, list_all-append, list_all, coded, coded_byte, is_coded, is_plain, is_printable, between}
 
 digit_coded : (d : ℕ) → d < 10 → is_coded (48 + d) ≡ true
 digit_coded d h = grind (arith, nat_tests)

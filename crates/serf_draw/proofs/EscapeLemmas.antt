@@ -1,8 +1,5 @@
 -- What is escaped is safe.
-use Rattle.std.proofs.Common.{◌≡◌, ℕ, ◌==◌, ◌||◌, nat_lt, Bool, true, false, cond, List, [], ◌∷◌, codes, refl, arith}
-use Rattle.std.proofs.lemmas.List.Folds.{list_all-append}
-use Rattle.std.specs.List.{list_all}
-use Rattle.serf_draw.specs.Escape.{escape, escaped_byte, is_safe}
+use Rattle.serf_draw.proofs.Names.{Bool, List, [], arith, codes, cond, false, nat_lt, refl, true, ℕ, ◌==◌, ◌||◌, ◌∷◌, ◌≡◌, list_all-append, list_all, escape, escaped_byte, is_safe}
 
 by_tests : (b : ℕ) (amp less greater quote single low high : Bool) → (b == 60) ≡ less → (b == 62) ≡ greater → (b == 34) ≡ quote → (b == 39) ≡ single → nat_lt b 32 ≡ low → nat_lt 126 b ≡ high
     → list_all is_safe (cond amp (codes "&amp;") (cond less (codes "&lt;") (cond greater (codes "&gt;") (cond quote (codes "&quot;") (cond single (codes "&#39;") (cond (low || high) (codes "&#65533;") (b ∷ []))))))) ≡ true

@@ -1,14 +1,6 @@
 -- What texts with blanks come to.
-use Rattle.std.proofs.Common.{◌≡◌, ◌++◌, ◌∷◌, [], ◌∙◌, ℕ, Bor, List, codes, decimal, refl, sym, ap, append_assoc}
-use Rattle.std.proofs.lemmas.List.{append-nil}
+use Rattle.serf_draw.proofs.Names.{Bor, List, [], ap, append_assoc, codes, decimal, refl, sym, ℕ, ◌++◌, ◌∙◌, ◌∷◌, ◌≡◌, append-nil, escape, filled, nothing_of, label_place, line_of, mark_text, place_text, tone_word, between, class_text, dot_text, label_text, lane_line, number_text, placed_text, row_text, size_text, text_element, view_text, Lane, Row, ROW}
 use Rattle.serf_draw.specs.declared.filled.Part.TheVariants as parts
-use Rattle.serf_draw.specs.declared.picture.Lane.{Lane}
-use Rattle.serf_draw.specs.declared.picture.Row.{Row}
-use Rattle.serf_draw.specs.declared.style.TheConstants.{ROW}
-use Rattle.serf_draw.specs.Escape.{escape}
-use Rattle.serf_draw.specs.Filled.{filled}
-use Rattle.serf_draw.specs.Merges.{nothing_of}
-use Rattle.serf_draw.specs.Svg.{between, class_text, dot_text, label_place, label_text, lane_line, line_of, mark_text, number_text, place_text, placed_text, row_text, size_text, text_element, tone_word, view_text}
 
 -- texts in groups, and one behind another
 two : (a n b m c : List ℕ) → (a ++ n ++ b) ++ (m ++ c) ≡ a ++ (n ++ (b ++ (m ++ c)))

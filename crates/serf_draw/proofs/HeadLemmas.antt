@@ -1,8 +1,5 @@
 -- One more line with the names of the lanes.
-use Rattle.std.proofs.Common.{◌≡◌, ℕ, ◌+◌, List, ◌++◌, map, ap, sym, ◌∙◌, zero-add}
-use Rattle.std.proofs.lemmas.List.{flat_map_more}
-use Rattle.std.proofs.lemmas.List.FromFn.{map-range_with_len_more}
-use Rattle.std.specs.List.{flat_map, range_with_len}
+use Rattle.serf_draw.proofs.Names.{List, ap, map, sym, zero-add, ℕ, ◌++◌, ◌+◌, ◌∙◌, ◌≡◌, flat_map_more, map-range_with_len_more, flat_map, range_with_len}
 
 pub heads_more : (f : ℕ → ℕ) (g : ℕ → List ℕ) (out : List ℕ) (k : ℕ)
     → (out ++ flat_map g (map f (range_with_len 0 k))) ++ g (f k) ≡ out ++ flat_map g (map f (range_with_len 0 (k + 1)))

@@ -1,3 +1,4 @@
+pub mod Names
 pub mod EscapeLemmas
 pub mod ClockLemmas
 pub mod CodedLemmas

@@ -1,11 +1,5 @@
 -- What is drawn of a run, one action after another.
-use Rattle.std.proofs.Common.{◌≡◌, ◌+◌, List, [], ◌∷◌, ap, ◌∙◌, length, refl, arith, zero-add}
-use Rattle.std.specs.List.{fold}
-use Rattle.serf_agent.specs.declared.config.Config.{Config}
-use Rattle.serf_model.specs.declared.action.Action.{Action}
-use Rattle.serf_model.specs.Cluster.{Cluster, Run, after, run_of, start, step}
-use Rattle.serf_draw.specs.declared.asked.Asked.{Asked}
-use Rattle.serf_draw.specs.Drawing.{Drawing, blank, drawing_of, drawn}
+use Rattle.serf_draw.proofs.Names.{List, [], ap, arith, length, refl, zero-add, ◌+◌, ◌∙◌, ◌∷◌, ◌≡◌, fold, Config, Cluster, Run, after, run_of, start, step, Action, Drawing, blank, drawing_of, drawn, Asked}
 
 count-from : (asked : Asked) (d : Drawing) (actions : List Action) → (fold (drawn asked) d actions).count ≡ d.count + length actions
 count-from asked d [] = omega arith

@@ -39,7 +39,7 @@ fn is_taken(answer: Answer) -> bool
     )
 }
 
-/// Whether a packet is an event of this name.
+/// Whether `packet` is a user event called `name`.
 fn is_event_of(name: &[u8], packet: &[u8]) -> bool
     ensures { result ≡ packet_brings name.now (Some packet.now) }
 {
@@ -49,7 +49,7 @@ fn is_event_of(name: &[u8], packet: &[u8]) -> bool
     }
 }
 
-/// Whether an act is of events of this name.
+/// Whether `act` fires an event called `name`, or delivers one, in the packet `given`.
 fn act_is_of(name: &[u8], act: &Act, given: Option<&[u8]>) -> bool
     ensures { result ≡ act_names name.now act.now (option_copied given.entry) }
 {
@@ -63,7 +63,7 @@ fn act_is_of(name: &[u8], act: &Act, given: Option<&[u8]>) -> bool
     }
 }
 
-/// Whether an event that was handed out has this name.
+/// Whether `event`, which was handed out, is called `name`.
 fn is_named(name: &[u8], event: &EventLine) -> bool
     ensures { result ≡ has_name name.now event.now }
 {
@@ -92,7 +92,7 @@ fn those_named(
 }
 
 impl Asked {
-    /// Whether an agent has a lane. Takes no memory.
+    /// Whether agent number `agent` has a lane. Takes no memory.
     pub(crate) fn is_chosen(&self, agent: u64) -> bool
         ensures { result ≡ is_chosen self.now.agents.items agent }
     {
@@ -102,7 +102,8 @@ impl Asked {
         is_among(self.agents.as_slice(), agent)
     }
 
-    /// Whether an action of an agent, or of none, is in the range and of an agent that is drawn. Takes no memory.
+    /// Whether action number `action`, of agent number `agent` or an injection, is in the range, and its agent is drawn.
+    /// Takes no memory.
     fn shows(&self, action: u64, agent: Option<u64>) -> bool
         ensures { result ≡ shows self.now.agents.items self.now.from self.now.to action agent }
     {
@@ -115,14 +116,15 @@ impl Asked {
         }
     }
 
-    /// The first agent that is named and isn't among so many, which are numbered from 0. Takes no memory.
+    /// The first agent that is named and isn't one of `count`, which are numbered from 0. Takes no memory.
     pub(crate) fn missing_agent(&self, count: u64) -> Option<u64>
         ensures { result ≡ missing_agent self.now.agents.items count }
     {
         self.agents.iter().copied().find(|agent| count <= *agent)
     }
 
-    /// Whether an action's answer, and the events that it passed over, leave it drawn. Takes no memory.
+    /// Whether an action is drawn by its `answer` and by `passed`, the times of the events that it passed over. Takes no
+    /// memory.
     fn keeps(&self, answer: Answer, passed: &[u64]) -> bool
         ensures { result ≡ is_kept self.now.taken answer passed.now }
     {
@@ -133,7 +135,7 @@ impl Asked {
         }
     }
 
-    /// Whether an action fires, injects or delivers an event that is asked for, where this packet is given. Takes no
+    /// Whether `action`, which gives the packet `given`, fires, injects or delivers an event that is asked for. Takes no
     /// memory.
     pub(crate) fn names(&self, action: &Action, given: Option<&[u8]>) -> bool
         ensures { result ≡ names self.now.event action.now (option_copied given.entry) }
@@ -147,7 +149,7 @@ impl Asked {
         }
     }
 
-    /// Whether one of these events is asked for. Takes no memory.
+    /// Whether one of `events` is asked for. Takes no memory.
     fn hands_out(&self, events: &[EventLine]) -> bool
         ensures { result ≡ hands_out self.now.event events.now }
     {
@@ -157,8 +159,8 @@ impl Asked {
         }
     }
 
-    /// Whether an action is drawn of which this came, where it is known whether it names an event that is asked for, and
-    /// the times of the events that it passed over. Takes no memory.
+    /// Whether `action`, of the number `number`, is drawn: `line` is its line, `is_named` says whether it names an event
+    /// that is asked for, and `passed` has the times of the events that it passed over. Takes no memory.
     pub(crate) fn draws(
         &self,
         number: u64,
@@ -176,7 +178,7 @@ impl Asked {
             && (is_named || self.hands_out(line.events.as_slice()))
     }
 
-    /// Those of these events that are asked for.
+    /// Those of `events` that are asked for.
     pub(crate) fn named(
         &self,
         alloc: Global,

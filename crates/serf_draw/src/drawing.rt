@@ -28,7 +28,7 @@ pub enum DrawFault {
     OutOfMemory,
 }
 
-/// Who sent what nobody got, of these packets, by actions that are drawn.
+/// Who sent each of `packets` that nobody got, of those that were sent by actions that are drawn.
 fn lost_of(alloc: Global, packets: &[Packet]) -> Result<Vec<Sender>, AllocError>
     ensures { IfOk result (λ lost. lost.items ≡ lost_in packets.now) }
 {
@@ -39,7 +39,7 @@ fn lost_of(alloc: Global, packets: &[Packet]) -> Result<Vec<Sender>, AllocError>
         .collect(alloc)
 }
 
-/// Adds a lane, where it is asked for.
+/// Adds `lane`, where its agent is drawn.
 fn add_lane(lanes: &mut Vec<Lane>, asked: &Asked, lane: Lane) -> Result<(), AllocError>
     ensures { OnOk result (lanes.new.items ≡ lanes.old.items
         ++ filter (λ l. is_chosen asked.now.agents.items l.agent) (lane ∷ [])) }
@@ -50,7 +50,7 @@ fn add_lane(lanes: &mut Vec<Lane>, asked: &Asked, lane: Lane) -> Result<(), Allo
     Ok(())
 }
 
-/// The lanes of these agents.
+/// The lanes of the agents of the settings `configs`, of those that are drawn.
 fn lanes_of(alloc: Global, configs: &[Config], asked: &Asked) -> Result<Vec<Lane>, AllocError>
     ensures { IfOk result (λ lanes. lanes.items ≡ shown_lanes asked.now configs.now) }
 {
@@ -67,7 +67,7 @@ fn lanes_of(alloc: Global, configs: &[Config], asked: &Asked) -> Result<Vec<Lane
     Ok(lanes)
 }
 
-/// The picture of a schedule's run.
+/// The picture of the run of `schedule`, as far as it is asked for.
 fn picture_of<T: Watch>(
     alloc: Global,
     schedule: Schedule,
@@ -87,7 +87,7 @@ fn picture_of<T: Watch>(
     Ok(Picture { lanes, rows, lost })
 }
 
-/// The picture of a schedule's run, where it has each agent that is named.
+/// The picture of the run of `schedule`; `NoAgent` where an agent is named that it doesn't have.
 fn picture_asked<T: Watch>(
     alloc: Global,
     schedule: Schedule,

@@ -8,7 +8,7 @@ use crate::escape::put_escaped;
 use crate::label::put_short;
 use crate::mermaid::{put_coded, put_participant};
 use crate::picture::Lane;
-use crate::places::{put_label_place, put_place};
+use crate::svg::{put_label_place, put_place};
 use serf_text::put_number;
 use std::alloc::AllocError;
 
@@ -24,11 +24,11 @@ pub(crate) enum Part<'a> {
     Escaped(&'a [u8]),
     /// These bytes, coded for Mermaid.
     Coded(&'a [u8]),
-    /// The middle of an agent's lane among these, on the line below so many rows.
+    /// The middle of this agent's lane among these, on the line of the row with this many rows above it.
     Place(&'a [Lane], Option<u64>, u64),
     /// Where all labels begin beside these lanes.
     LabelPlace(&'a [Lane]),
-    /// An agent's participant, or the one for all that have no lane among these.
+    /// This agent's participant, or the one for all that have no lane among these.
     Participant(&'a [Lane], Option<u64>),
 }
 
@@ -48,7 +48,7 @@ fn put_part(out: &mut Vec<u8>, part: Part) -> Result<(), AllocError>
     }
 }
 
-/// Appends a byte, or the part of this number where the byte is a blank; and gives the number of the part that is next.
+/// Appends `byte`, or part number `number`, from 0 on, where it is a blank (`~`); gives the number of the next part.
 fn put_next(out: &mut Vec<u8>, byte: u8, parts: &[Part], number: usize) -> Result<usize, AllocError>
     ensures { IfOk result (λ next. (rest : List ℕ)
         → out.new.items ++ filled rest (drop next parts.entry.now)
@@ -67,7 +67,7 @@ fn put_next(out: &mut Vec<u8>, byte: u8, parts: &[Part], number: usize) -> Resul
     }
 }
 
-/// Appends a text in which each `~` is a blank, and the parts fill them, one after another.
+/// Appends `text`, in which each `~` is a blank; `parts` fill the blanks, one after another.
 pub(crate) fn put_filled(out: &mut Vec<u8>, text: &[u8], parts: &[Part]) -> Result<(), AllocError>
     ensures { OnOk result (out.new.items ≡ out.old.items ++ filled text.now parts.entry.now) }
 {
@@ -78,7 +78,7 @@ pub(crate) fn put_filled(out: &mut Vec<u8>, text: &[u8], parts: &[Part]) -> Resu
     Ok(())
 }
 
-/// Appends what each of these items is written as.
+/// Appends each of `items`, as `put` writes it, one after another.
 pub(crate) fn put_each<T, F: Fn(&mut Vec<u8>, &T) -> Result<(), AllocError>>(
     out: &mut Vec<u8>,
     items: &[T],

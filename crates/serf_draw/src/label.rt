@@ -1,17 +1,20 @@
 //! What is written beside an action.
 
-ghost use Rattle.std.specs.Prelude.{◌≡◌, ◌++◌, IfOk, Ok, OnOk};
+ghost use Rattle.std.specs.Prelude.{◌≡◌, ◌++◌, ◌∷◌, [], IfOk, Ok, OnOk, nat_le};
+ghost use Rattle.std.specs.List.{flat_map, list_any};
 ghost use Rattle.std.specs.Option.{option_copied};
+ghost use Rattle.serf_wire.specs.Lists.{events_left, slot_of_view, slots_left};
 ghost use Rattle.serf_wire.specs.Message.{message_of};
 ghost use Rattle.serf_draw.specs.Label.{act_words, action_words, clock_words, count_words, cut_to, event_behind, first_two, joined as joined_words, label_of, message_words, outcome_words, packet_words, short};
+ghost use Rattle.serf_draw.specs.Merges.{below_words, came_words, passed_over as passed_over_by, passed_words, slot_times, slots_times, times_brought as brought_by, times_given};
 ghost use Rattle.serf_draw.specs.Svg.{label_columns as columns_of_labels, longest as longest_of};
 
 use crate::filled::{Part, put_filled};
-use crate::merges::{put_came, put_passed_over};
 use crate::picture::Row;
 use serf_model::{Act, Action, Answer, EventLine};
+use serf_schedule::put_answer;
 use serf_text::put_number;
-use serf_wire::{Bytes, Message, decode};
+use serf_wire::{Bytes, EventViews, Message, SlotView, SlotViews, decode};
 use std::alloc::{AllocError, Global};
 
 /// The greatest number of bytes of a label.
@@ -46,7 +49,7 @@ pub(crate) fn short_name(alloc: Global, name: &[u8]) -> Result<Vec<u8>, AllocErr
     Ok(text)
 }
 
-/// Appends what a message says.
+/// Appends what `message` says: its texts, and its time.
 #[tactic(auto, unfolding(crate::specs::Label::texts, crate::specs::Label::at_time))]
 fn put_message_words(out: &mut Vec<u8>, message: &Message, length: usize) -> Result<(), AllocError>
     ensures { OnOk result (out.new.items ≡ out.old.items
@@ -73,7 +76,7 @@ fn put_message_words(out: &mut Vec<u8>, message: &Message, length: usize) -> Res
     }
 }
 
-/// Appends what a packet says.
+/// Appends what `packet` says, or where it is no message how many bytes it has.
 fn put_packet_words(out: &mut Vec<u8>, packet: &[u8]) -> Result<(), AllocError>
     ensures { OnOk result (out.new.items ≡ out.old.items ++ packet_words packet.now) }
 {
@@ -83,7 +86,7 @@ fn put_packet_words(out: &mut Vec<u8>, packet: &[u8]) -> Result<(), AllocError>
     }
 }
 
-/// Appends what an agent does, where this packet is given.
+/// Appends what an agent does by `act`, which gives it the packet `given`.
 #[tactic(auto, unfolding(crate::specs::Label::texts))]
 fn put_act_words(out: &mut Vec<u8>, act: &Act, given: Option<&[u8]>) -> Result<(), AllocError>
     ensures { OnOk result (out.new.items ≡ out.old.items
@@ -107,7 +110,7 @@ fn put_act_words(out: &mut Vec<u8>, act: &Act, given: Option<&[u8]>) -> Result<(
     }
 }
 
-/// Appends what is done, where this packet is given.
+/// Appends what is done by `action`, which gives the packet `given`.
 fn put_action_words(
     out: &mut Vec<u8>,
     action: &Action,
@@ -122,7 +125,7 @@ fn put_action_words(
     }
 }
 
-/// The first words of a label, of an action that is given this packet.
+/// The first words of the label of `action`, which gives the packet `given`.
 pub(crate) fn first_words(
     alloc: Global,
     action: &Action,
@@ -136,7 +139,132 @@ pub(crate) fn first_words(
     Ok(out)
 }
 
-/// Appends an event that a merge handed out after these bytes, where there is one.
+/// Adds `time` once for each of `events`.
+fn add_times(times: &mut Vec<u64>, time: u64, events: EventViews) -> Result<(), AllocError>
+    ensures { OnOk result (times.new.items ≡ times.old.items
+        ++ flat_map (λ e. time ∷ []) (events_left events.entry)) }
+{
+    for _event in events {
+        times.push(time)?;
+    }
+    Ok(())
+}
+
+/// Adds the times of the events that `slot` holds.
+fn add_slot_times(times: &mut Vec<u64>, slot: &SlotView) -> Result<(), AllocError>
+    ensures { OnOk result (times.new.items ≡ times.old.items
+        ++ slot_times (slot_of_view slot.now)) }
+{
+    match *slot {
+        SlotView::Empty => Ok(()),
+        SlotView::Single(time, _) => {
+            times.push(time.get())?;
+            Ok(())
+        }
+        SlotView::Held(time, events) => add_times(times, time.get(), events),
+    }
+}
+
+/// The times of the events that `slots` hold, one for each event.
+fn times_of(alloc: Global, slots: SlotViews) -> Result<Vec<u64>, AllocError>
+    ensures { IfOk result (λ times. times.items ≡ slots_times (slots_left slots.entry)) }
+{
+    let mut times = Vec::new(alloc);
+    for slot in slots {
+        add_slot_times(&mut times, &slot)?;
+    }
+    Ok(times)
+}
+
+/// The times of the events that the packet `given` brings, if it is a state; none of another packet.
+fn times_in(alloc: Global, given: Option<&[u8]>) -> Result<Vec<u64>, AllocError>
+    ensures { IfOk result (λ times. times.items ≡ times_given (option_copied given.entry)) }
+{
+    match given {
+        Some(packet) => match decode(packet) {
+            Ok(Message::PushPull(state)) => times_of(alloc, state.slots),
+            _ => Ok(Vec::new(alloc)),
+        },
+        None => Ok(Vec::new(alloc)),
+    }
+}
+
+/// The times of the events that `action` brings, if it is a merge of the packet `given`. Another action brings none.
+pub(crate) fn times_brought(
+    alloc: Global,
+    action: &Action,
+    given: Option<&[u8]>,
+) -> Result<Vec<u64>, AllocError>
+    ensures { IfOk result (λ times. times.items
+        ≡ brought_by action.now (option_copied given.entry)) }
+{
+    match action {
+        Action::Of {
+            act: Act::Merge { .. },
+            ..
+        } => times_in(alloc, given),
+        _ => Ok(Vec::new(alloc)),
+    }
+}
+
+/// The times of the events that an action passed over: all `times` that a merge brought which handed out no event.
+pub(crate) fn passed_over<'a>(answer: Answer, events: &[EventLine], times: &'a [u64]) -> &'a [u64]
+    ensures { result.now ≡ passed_over_by answer events.now times.now }
+{
+    match answer {
+        Answer::Merged if events.is_empty() => times,
+        _ => &[],
+    }
+}
+
+/// Whether one of `times` is `least` or later.
+fn is_any_from(times: &[u64], least: u64) -> bool
+    ensures { result ≡ list_any (λ t. nat_le least t) times.now }
+{
+    times.iter().any(|time| least <= *time)
+}
+
+/// Appends `least`, the agent's minimum of events, where all of `times` are below it.
+#[tactic(auto, unfolding(crate::specs::Merges::below_least))]
+fn put_below(out: &mut Vec<u8>, times: &[u64], least: Option<u64>) -> Result<(), AllocError>
+    ensures { OnOk result (out.new.items ≡ out.old.items ++ below_words times.now least) }
+{
+    let Some(least) = least else {
+        return Ok(());
+    };
+    if is_any_from(times, least) {
+        return Ok(());
+    }
+    put_filled(out, b", below ~", &[Part::Number(least)])
+}
+
+/// Appends how many events of `times` a merge passed over, and why, where `least` is the reason for all.
+fn put_passed_over(out: &mut Vec<u8>, times: &[u64], least: Option<u64>) -> Result<(), AllocError>
+    ensures { OnOk result (out.new.items ≡ out.old.items ++ passed_words times.now least) }
+{
+    if times.is_empty() {
+        return Ok(());
+    }
+    put_filled(out, b": nothing of ~", &[Part::Number(times.len() as u64)])?;
+    put_below(out, times, least)
+}
+
+/// Appends the words for `answer` to an action, whose agent takes events from the time `least` on.
+fn put_came(out: &mut Vec<u8>, answer: Answer, least: Option<u64>) -> Result<(), AllocError>
+    ensures { OnOk result (out.new.items ≡ out.old.items ++ came_words answer least) }
+{
+    match answer {
+        Answer::Restarted { .. } => match least {
+            Some(least) => {
+                put_filled(out, b"started again: events from ~", &[Part::Number(least)])
+            }
+            None => put_answer(out, answer),
+        },
+        _ => put_answer(out, answer),
+    }
+}
+
+/// Appends `event`, which a merge handed out, after `sign`; nothing where there is no event.
 #[tactic(auto, unfolding(crate::specs::Label::event_words, crate::specs::Label::texts))]
 fn put_event_behind<'a>(
     out: &mut Vec<u8>,
@@ -176,7 +304,7 @@ fn put_count(out: &mut Vec<u8>, count: usize) -> Result<(), AllocError>
     put_filled(out, b", +~", &[Part::Number(count as u64)])
 }
 
-/// Appends an agent's event clock.
+/// Appends the agent's event clock, `clock`; nothing where it stayed as it was.
 fn put_clock(out: &mut Vec<u8>, clock: Option<u64>) -> Result<(), AllocError>
     ensures { OnOk result (out.new.items ≡ out.old.items ++ clock_words clock) }
 {
@@ -186,7 +314,7 @@ fn put_clock(out: &mut Vec<u8>, clock: Option<u64>) -> Result<(), AllocError>
     }
 }
 
-/// Cuts a text that is longer than this, and ends it with two full stops.
+/// Cuts `text` where it is longer than `limit` bytes, and ends it with two full stops then.
 #[tactic(auto, unfolding(crate::specs::Label::cut_to))]
 fn cut(text: &mut Vec<u8>, limit: usize) -> Result<(), AllocError>
     ensures { OnOk result (text.new.items ≡ cut_to limit text.old.items) }
@@ -198,7 +326,7 @@ fn cut(text: &mut Vec<u8>, limit: usize) -> Result<(), AllocError>
     Ok(())
 }
 
-/// A label of words at its start, as far as there is room, and words at its end.
+/// The label of `front`, as far as there is room, and of `end` after it.
 #[tactic(auto, unfolding(crate::specs::Label::joined))]
 fn joined(front: Vec<u8>, end: &[u8]) -> Result<Bytes, AllocError>
     ensures { IfOk result (λ label. label ≡ joined_words front.items end.now) }
@@ -209,8 +337,8 @@ fn joined(front: Vec<u8>, end: &[u8]) -> Result<Bytes, AllocError>
     Ok(Bytes::from_vec(text))
 }
 
-/// Appends what came of an action, of an agent that takes events from this time on, where a merge handed out these events
-/// or passed over those of these times.
+/// Appends the words for `answer` to an action, whose agent takes events from `least` on, where a merge handed out
+/// `events`, or passed over those of the times `passed`.
 #[tactic(auto, unfolding(crate::specs::Label::outcome_words))]
 fn put_outcome(
     out: &mut Vec<u8>,
@@ -227,8 +355,8 @@ fn put_outcome(
     put_passed_over(out, passed, least)
 }
 
-/// The label that begins with these words, where a merge handed out these events or passed over those of these times, the
-/// agent takes events from this time on, and its event clock is another one.
+/// The label that begins with `words`, where a merge handed out `events` or passed over those of the times `passed`, the
+/// agent takes events from `least` on, and `clock` is its event clock, if that is another one.
 #[tactic(auto, unfolding(crate::specs::Label::label_of))]
 pub(crate) fn label(
     alloc: Global,
@@ -260,7 +388,7 @@ pub(crate) fn longest(rows: &[Row]) -> usize
     })
 }
 
-/// How many columns labels take, of which the longest has so many bytes.
+/// How many columns labels take, of which the longest has `longest` bytes.
 pub(crate) fn label_columns(longest: usize) -> u64
     ensures { result ≡ columns_of_labels longest }
 {

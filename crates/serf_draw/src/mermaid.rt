@@ -10,7 +10,7 @@ use crate::picture::{Arrow, Lane, Picture, Row, Tone};
 use serf_text::put_number;
 use std::alloc::{AllocError, Global};
 
-/// A letter, a digit, a space, a full stop, an `@` or a `_`.
+/// Whether `byte` is a letter, a digit, a space, a full stop, an `@` or a `_`.
 fn is_plain(byte: u8) -> bool
     ensures { result ≡ is_plain_byte byte }
 {
@@ -54,14 +54,14 @@ pub fn coded_laws()
     ensures coded { (text : List ℕ) → list_all is_coded (coded text) ≡ true }
 {}
 
-/// Whether an agent has a lane among these.
+/// Whether agent number `agent` has a lane among `lanes`.
 fn has_lane(lanes: &[Lane], agent: u64) -> bool
     ensures { result ≡ list_any (λ l. l.agent == agent) lanes.now }
 {
     lanes.iter().any(|lane| lane.agent == agent)
 }
 
-/// Appends the name of an agent's lane.
+/// Appends the participant of the agent: that of its lane, or `outside` where it has none among `lanes`.
 #[tactic(auto, unfolding(crate::specs::Svg::between))]
 pub(crate) fn put_participant(
     out: &mut Vec<u8>,
@@ -105,7 +105,7 @@ fn arrow_word(tone: Tone) -> &'static [u8]
     }
 }
 
-/// Appends an arrow and its label.
+/// Appends the arrow of `row`, which comes from the agent number `sender`, and its label.
 #[tactic(auto, unfolding(crate::specs::Mermaid::message_line, crate::specs::Mermaid::words_of, crate::specs::Svg::between))]
 fn put_message<'a>(
     out: &mut Vec<u8>,
@@ -125,7 +125,7 @@ fn put_message<'a>(
     put_filled(out, b"~~~: ~ ~\n", &parts)
 }
 
-/// Appends a note over a lane.
+/// Appends the label of `row` as a note over the lane of its agent.
 #[tactic(auto, unfolding(crate::specs::Mermaid::note_line, crate::specs::Mermaid::words_of, crate::specs::Svg::between))]
 fn put_note<'a>(out: &mut Vec<u8>, lanes: &'a [Lane], row: &'a Row) -> Result<(), AllocError>
     ensures { OnOk result (out.new.items ≡ out.old.items ++ note_line lanes.now row.now) }

@@ -37,7 +37,7 @@ pub enum Arrow {
     NoPacket,
     /// It names a packet that was not sent before.
     Unsent,
-    /// The packet was sent by this one.
+    /// The packet was sent by this sender.
     From(Sender),
 }
 

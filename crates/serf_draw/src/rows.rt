@@ -1,22 +1,134 @@
 //! The rows of a run, drawn turn by turn.
 
-ghost use Rattle.std.specs.Prelude.{◌≡◌, ◌++◌, ◌∷◌, ◌+◌, [], List, ℕ, IfOk, OnOk};
+ghost use Rattle.std.specs.Prelude.{◌≡◌, ◌++◌, ◌∷◌, ◌+◌, [], List, ℕ, IfOk, OnOk, false, replicate, length, slice_get};
 ghost use Rattle.serf_agent.specs.declared.config.Config.{Config};
 ghost use Rattle.serf_model.specs.Cluster.{Cluster, step};
 ghost use Rattle.serf_world.specs.View.{IsViewed, TakesStep};
-ghost use Rattle.serf_draw.specs.Drawing.{Drawing, IsDrawn, changed, clock_in, drawn, least_in, row_with, shown_row};
+ghost use Rattle.serf_draw.specs.Drawing.{Drawing, IsDrawn, arrow_of, changed, clock_in, drawn, from_packet, given_by, least_in, merged_events as merged, packet_of, restarts, row_tone, row_with, shown_row, tone_of, with_given};
 ghost use Rattle.serf_draw.specs.Rows.{IsFound, draws};
 
 use crate::asked::Asked;
-use crate::label::{first_words, label};
-use crate::merges::{passed_over, times_brought};
-use crate::picture::{Arrow, Packet, Row, Sender};
-use crate::row::{add_packets, arrow, is_restart, merged_events, note_packet, tone};
-use serf_model::{Action, Line};
+use crate::label::{first_words, label, passed_over, times_brought};
+use crate::picture::{Arrow, Packet, Row, Sender, Tone};
+use serf_model::{Act, Action, Answer, EventLine, EventLines, Line};
 use serf_world::{Turns, World};
 use std::alloc::{AllocError, Global};
 
-/// The event clock of an agent of a cluster.
+/// The arrow of packet number `packet`, from whoever sent it.
+fn arrow_from(packets: &[Packet], packet: u64) -> Arrow
+    ensures { result ≡ from_packet (slice_get packets.now packet) }
+{
+    match packets.get(packet as usize) {
+        Some(packet) => Arrow::From(packet.sender),
+        None => Arrow::Unsent,
+    }
+}
+
+/// The arrow of `action`, where `packets` were sent so far.
+fn arrow(packets: &[Packet], action: &Action) -> Arrow
+    ensures { result ≡ arrow_of packets.now action.now }
+{
+    match action {
+        Action::Of {
+            act: Act::Deliver { packet, .. } | Act::Merge { packet, .. },
+            ..
+        } => arrow_from(packets, *packet),
+        _ => Arrow::NoPacket,
+    }
+}
+
+/// Notes that packet number `packet` was given to an agent, if it was sent.
+fn note_given(packets: &mut Vec<Packet>, packet: u64)
+    ensures { packets.new.items ≡ with_given packets.old.items packet }
+{
+    match packets.get_mut(packet as usize) {
+        Some(packet) => packet.is_given = true,
+        None => {}
+    }
+}
+
+/// Notes that the packet which `action` gives to an agent was given; nothing where it gives none.
+fn note_packet(packets: &mut Vec<Packet>, action: &Action)
+    ensures { packets.new.items ≡ given_by packets.old.items action.now }
+{
+    match action {
+        Action::Of {
+            act: Act::Deliver { packet, .. } | Act::Merge { packet, .. },
+            ..
+        } => note_given(packets, *packet),
+        _ => {}
+    }
+}
+
+/// The tone of an answer.
+fn tone_of_answer(answer: Answer) -> Tone
+    ensures { result ≡ tone_of answer }
+{
+    match answer {
+        Answer::Ignored(_) => Tone::Ignored,
+        Answer::Refused(_) => Tone::Refused,
+        _ => Tone::Taken,
+    }
+}
+
+/// How an action ended, of which a merge passed over the events of these times.
+fn tone(answer: Answer, passed: &[u64]) -> Tone
+    ensures { result ≡ row_tone answer passed.now }
+{
+    if passed.is_empty() {
+        tone_of_answer(answer)
+    } else {
+        Tone::Ignored
+    }
+}
+
+/// Whether an answer is that of a restart.
+fn is_restart(answer: Answer) -> bool
+    ensures { result ≡ restarts answer }
+{
+    matches!(answer, Answer::Restarted { .. })
+}
+
+/// Those of `events` that are asked for, where `action` is a merge; none of another action.
+fn merged_events(
+    alloc: Global,
+    asked: &Asked,
+    action: &Action,
+    events: EventLines,
+) -> Result<Vec<EventLine>, AllocError>
+    ensures { IfOk result (λ those. those.items ≡ merged asked.now.event action.now events) }
+{
+    match action {
+        Action::Of {
+            act: Act::Merge { .. },
+            ..
+        } => asked.named(alloc, events),
+        _ => Ok(Vec::new(alloc)),
+    }
+}
+
+/// Adds a packet for each of `numbers`, which `sender` sent by one action; `is_shown` says whether this is drawn. Their
+/// numbers aren't kept: a packet's number is its index.
+fn add_packets(
+    packets: &mut Vec<Packet>,
+    sender: Sender,
+    is_shown: bool,
+    numbers: &[u64],
+) -> Result<(), AllocError>
+    ensures { OnOk result (packets.new.items ≡ packets.old.items
+        ++ replicate (length numbers.now) (packet_of sender is_shown)) }
+{
+    for _number in numbers {
+        packets.push(Packet {
+            sender,
+            is_shown,
+            is_given: false,
+        })?;
+    }
+    Ok(())
+}
+
+/// The event clock of agent number `agent` in the cluster `world`.
 #[tactic(auto, using(crate::proofs::ClockLemmas::clock_viewed))]
 fn event_clock(world: &World, agent: Option<u64>) -> Option<u64>
     ensures { (c : Cluster) → IsViewed c world.now → result ≡ clock_in c agent }
@@ -24,7 +136,7 @@ fn event_clock(world: &World, agent: Option<u64>) -> Option<u64>
     Some(world.agent(agent?)?.event_time())
 }
 
-/// The least time of an event that an agent of a cluster takes.
+/// The minimum of events of agent number `agent` in the cluster `world`.
 #[tactic(auto, using(crate::proofs::ClockLemmas::least_viewed))]
 fn event_minimum(world: &World, agent: Option<u64>) -> Option<u64>
     ensures { (c : Cluster) → IsViewed c world.now → result ≡ least_in c agent }
@@ -32,7 +144,7 @@ fn event_minimum(world: &World, agent: Option<u64>) -> Option<u64>
     Some(world.agent(agent?)?.event_minimum())
 }
 
-/// The clock afterwards, where it is another one.
+/// The clock `now`, where it is another one than `before`.
 fn changed_clock(before: Option<u64>, now: Option<u64>) -> Option<u64>
     ensures { result ≡ changed before now }
 {
@@ -71,7 +183,7 @@ fn row(
     })
 }
 
-/// Adds a row, where it is drawn.
+/// Adds `row`, where it is drawn.
 fn add_row(rows: &mut Vec<Row>, is_shown: bool, row: Row) -> Result<(), AllocError>
     ensures { OnOk result (rows.new.items ≡ rows.old.items ++ shown_row is_shown row) }
 {
@@ -101,7 +213,7 @@ pub(crate) struct Rows<'a> {
 }
 
 impl<'a> Rows<'a> {
-    /// Of a run of no action. Takes no memory.
+    /// The rows of a run of no action; `asked` says which are drawn. Takes no memory.
     pub(crate) fn new(alloc: Global, asked: &'a Asked) -> Rows<'a>
         ensures { (configs : List Config) → draws asked.entry.now result configs [] [] }
     {
@@ -112,7 +224,7 @@ impl<'a> Rows<'a> {
         }
     }
 
-    /// Finds what an action's row has of the cluster before it.
+    /// Finds what the row of `action` has of the cluster before it, which is `world`.
     fn find(&self, alloc: Global, world: &World, action: &Action) -> Result<Found, AllocError>
         ensures { (c : Cluster) → IsViewed c world.now → IfOk result
             (IsFound self.now.asked.now c self.now.packets.items action.now) }
@@ -127,7 +239,7 @@ impl<'a> Rows<'a> {
         })
     }
 
-    /// Adds the row of an action, where it is drawn, and the packets that it sent.
+    /// Adds the row of action number `number`, where it is drawn, and the packets that it sent. `found` is from before it.
     fn add_turn(
         &mut self,
         alloc: Global,

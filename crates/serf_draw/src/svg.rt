@@ -2,14 +2,116 @@
 
 ghost use Rattle.std.specs.Prelude.{◌≡◌, ◌++◌, ◌+◌, ◌-◌, IfOk, OnOk};
 ghost use Rattle.std.specs.List.{flat_map};
-ghost use Rattle.serf_draw.specs.Svg.{arrow_line, arrow_text, back_text, columns as columns_of, cross_text, frame_text, front_text, guide_text, head_text, heads_text, lane_line, lanes_text, legend_text, mark_text, name_text, names_text, outside_text, row_text, size_text, svg_of, tone_word as word_of, view_text};
+ghost use Rattle.serf_draw.specs.Svg.{agent_thousands, arrow_line, arrow_text, back_text, begins_outside as arrow_begins_outside, columns as columns_of, cross_text, frame_text, front_text, guide_text, has_outside as any_outside, head_text, heads_text, is_outside as outside_of, label_place, lane_line, lane_place as place_among, lanes_text, legend_text, line_above as above, line_of, mark_text, name_text, names_text, outside_text, place_text, row_is_outside as row_outside, row_text, size_text, svg_of, tone_word as word_of, view_text};
 
 use crate::filled::{Part, put_each, put_filled};
 use crate::label::{label_columns, longest, short_name};
 use crate::picture::{Arrow, Lane, Picture, Row, Sender, Tone};
-use crate::places::{NAMED_ROWS, has_outside, line, line_above};
 use crate::style::{CROSS, LEGEND, OPENING, ROW, STYLE};
+use serf_text::put_number;
 use std::alloc::{AllocError, Global};
+
+/// How many rows stand between two lines with the names of the lanes.
+const NAMED_ROWS: u64 = 40;
+
+/// The number of the line above a row that has `rows` above it: each [`NAMED_ROWS`] of these have one more line, with the
+/// names of the lanes.
+fn line_above(rows: u64) -> u64
+    ensures { result ≡ above rows }
+{
+    rows.saturating_add(rows / NAMED_ROWS)
+}
+
+/// The number of the line of a row that has `rows` above it.
+fn line(rows: u64) -> u64
+    ensures { result ≡ line_of rows }
+{
+    line_above(rows).saturating_add(1)
+}
+
+/// The index of agent number `agent` among `lanes`, from the left.
+fn lane_place(lanes: &[Lane], agent: u64) -> Option<usize>
+    ensures { result ≡ place_among lanes.now agent }
+{
+    lanes.iter().position(|lane| lane.agent == agent)
+}
+
+/// Appends the index of the agent's lane among `lanes`, which is its x in thousands, or a `-` where it has none.
+fn put_thousands(out: &mut Vec<u8>, lanes: &[Lane], agent: Option<u64>) -> Result<(), AllocError>
+    ensures { OnOk result (out.new.items ≡ out.old.items ++ agent_thousands lanes.now agent) }
+{
+    match agent {
+        Some(agent) => match lane_place(lanes, agent) {
+            Some(place) => put_number(out, place as u64),
+            None => out.extend_from_slice(b"-"),
+        },
+        None => out.extend_from_slice(b"-"),
+    }
+}
+
+/// Appends x and y of the middle of the agent's lane, on the line of a row that has `rows` above it: a lane is 1,000 wide
+/// and a line 100 high.
+#[tactic(auto, unfolding(crate::specs::Svg::place_text))]
+pub(crate) fn put_place(
+    out: &mut Vec<u8>,
+    lanes: &[Lane],
+    agent: Option<u64>,
+    rows: u64,
+) -> Result<(), AllocError>
+    ensures { OnOk result (out.new.items ≡ out.old.items ++ place_text lanes.now agent rows) }
+{
+    put_thousands(out, lanes, agent)?;
+    out.extend_from_slice(b"500 ")?;
+    put_number(out, line(rows))?;
+    out.extend_from_slice(b"50")
+}
+
+/// Appends the x at which all labels begin, right of `lanes`.
+#[tactic(auto, unfolding(crate::specs::Svg::between))]
+pub(crate) fn put_label_place(out: &mut Vec<u8>, lanes: &[Lane]) -> Result<(), AllocError>
+    ensures { OnOk result (out.new.items ≡ out.old.items ++ label_place lanes.now) }
+{
+    if lanes.is_empty() {
+        return out.extend_from_slice(b"-240");
+    }
+    put_number(out, (lanes.len() as u64).saturating_sub(1))?;
+    out.extend_from_slice(b"760")
+}
+
+/// Whether what an agent does is drawn left of all lanes: it has none among these, or there is no agent.
+fn is_outside(lanes: &[Lane], agent: Option<u64>) -> bool
+    ensures { result ≡ outside_of lanes.now agent }
+{
+    match agent {
+        Some(agent) => lane_place(lanes, agent).is_none(),
+        None => true,
+    }
+}
+
+/// Whether an arrow comes from outside of the lanes that are drawn.
+fn begins_outside(lanes: &[Lane], arrow: Arrow) -> bool
+    ensures { result ≡ arrow_begins_outside lanes.now arrow }
+{
+    match arrow {
+        Arrow::NoPacket => false,
+        Arrow::Unsent => true,
+        Arrow::From(sender) => is_outside(lanes, sender.agent),
+    }
+}
+
+/// Whether a row has something outside of the lanes that are drawn.
+fn row_is_outside(lanes: &[Lane], row: &Row) -> bool
+    ensures { result ≡ row_outside lanes.now row.now }
+{
+    is_outside(lanes, row.agent) || begins_outside(lanes, row.arrow)
+}
+
+/// Whether a row, or the begin of its arrow, is left of all lanes.
+fn has_outside(lanes: &[Lane], rows: &[Row]) -> bool
+    ensures { result ≡ any_outside lanes.now rows.now }
+{
+    rows.iter().any(|row| row_is_outside(lanes, row))
+}
 
 /// The class of a tone in the SVG.
 fn tone_word(tone: Tone) -> &'static [u8]
@@ -22,7 +124,7 @@ fn tone_word(tone: Tone) -> &'static [u8]
     }
 }
 
-/// Appends a lane's name on a line.
+/// Appends the name of `lane`, which has the index `place`, on line number `line`.
 #[tactic(auto, using(crate::proofs::FilledLemmas::name_filled), unfolding(crate::specs::Svg::name_text))]
 fn put_name(
     alloc: Global,
@@ -42,7 +144,7 @@ fn put_name(
     put_filled(out, b"<text class='h' x='~500' y='~65'>~</text>\n", &parts)
 }
 
-/// Appends the names of all lanes on a line.
+/// Appends the names of all `lanes` on line number `line`.
 fn put_names(alloc: Global, out: &mut Vec<u8>, line: u64, lanes: &[Lane]) -> Result<(), AllocError>
     ensures { OnOk result (out.new.items ≡ out.old.items ++ names_text line 0 lanes.now) }
 {
@@ -54,7 +156,7 @@ fn put_names(alloc: Global, out: &mut Vec<u8>, line: u64, lanes: &[Lane]) -> Res
     Ok(())
 }
 
-/// Appends the name of the place left of all lanes on a line, where something is there.
+/// Appends the name of the place left of all lanes, on line number `line`; nothing where `outside` says that it is empty.
 #[tactic(auto, unfolding(crate::specs::Svg::between))]
 fn put_outside(out: &mut Vec<u8>, outside: bool, line: u64) -> Result<(), AllocError>
     ensures { OnOk result (out.new.items ≡ out.old.items ++ outside_text outside line) }
@@ -70,7 +172,7 @@ fn put_outside(out: &mut Vec<u8>, outside: bool, line: u64) -> Result<(), AllocE
     )
 }
 
-/// Appends all names on a line.
+/// Appends all names on line number `line`.
 #[tactic(auto, unfolding(crate::specs::Svg::head_text))]
 fn put_head(
     alloc: Global,
@@ -85,7 +187,7 @@ fn put_head(
     put_names(alloc, out, line, lanes)
 }
 
-/// Appends the names above all of so many rows, and again between each 40 of them.
+/// Appends the names above all of `rows` rows, and again between each [`NAMED_ROWS`] of them.
 fn put_heads(
     alloc: Global,
     out: &mut Vec<u8>,
@@ -102,7 +204,7 @@ fn put_heads(
     Ok(())
 }
 
-/// Appends the upright line of a lane.
+/// Appends the upright line of the lane with the index `place`, down to line number `last`.
 #[tactic(auto, using(crate::proofs::FilledLemmas::lane_filled))]
 fn put_lane_line(out: &mut Vec<u8>, last: u64, place: u64) -> Result<(), AllocError>
     ensures { OnOk result (out.new.items ≡ out.old.items ++ lane_line last place) }
@@ -111,7 +213,7 @@ fn put_lane_line(out: &mut Vec<u8>, last: u64, place: u64) -> Result<(), AllocEr
     put_filled(out, b"<path class='l' d='M~500 90V~99'/>\n", &parts)
 }
 
-/// Appends the lanes' lines, down to the end of a line.
+/// Appends the upright lines of `lanes`, down to the end of line number `last`.
 fn put_lanes(out: &mut Vec<u8>, last: u64, lanes: &[Lane]) -> Result<(), AllocError>
     ensures { OnOk result (out.new.items ≡ out.old.items ++ lanes_text last 0 lanes.now) }
 {
@@ -123,7 +225,7 @@ fn put_lanes(out: &mut Vec<u8>, last: u64, lanes: &[Lane]) -> Result<(), AllocEr
     Ok(())
 }
 
-/// Appends a thin line from where a row's agent acts to the label.
+/// Appends a thin line from where the agent of `row` acts to the label of `row`.
 #[tactic(auto, unfolding(crate::specs::Svg::guide_text, crate::specs::Svg::placed_text))]
 fn put_guide(out: &mut Vec<u8>, lanes: &[Lane], row: &Row) -> Result<(), AllocError>
     ensures { OnOk result (out.new.items ≡ out.old.items ++ guide_text lanes.now row.now) }
@@ -135,7 +237,7 @@ fn put_guide(out: &mut Vec<u8>, lanes: &[Lane], row: &Row) -> Result<(), AllocEr
     put_filled(out, b"<path class='w' d='M~H~'/>\n", &parts)
 }
 
-/// Appends an arrow from an agent's lane, below so many rows, to where the row's agent acts.
+/// Appends an arrow from the lane of `agent`, on the line of the row with `rows` above it, to where the row's agent acts.
 #[tactic(auto, unfolding(crate::specs::Svg::arrow_line, crate::specs::Svg::class_text))]
 fn put_arrow_line(
     out: &mut Vec<u8>,
@@ -175,7 +277,7 @@ fn put_cross(out: &mut Vec<u8>, lanes: &[Lane], sender: Sender) -> Result<(), Al
     put_filled(out, CROSS, &parts)
 }
 
-/// What stands in a row's dot: it, and the lane's break where the agent was opened again.
+/// The SVG of a row's dot, with the lane's break where the agent was opened again, as `restarts` says.
 fn mark(restarts: bool) -> &'static [u8]
     ensures { result.now ≡ mark_text restarts }
 {
@@ -214,7 +316,7 @@ fn columns(lanes: &[Lane], rows: &[Row]) -> u64
     if columns > 3 { columns } else { 3 }
 }
 
-/// Appends how wide and how high what is shown is, of so many columns and lines.
+/// Appends how wide and how high the picture is, which has `columns` columns and `lines` lines.
 #[tactic(auto, using(crate::proofs::FilledLemmas::size_filled))]
 fn put_size(out: &mut Vec<u8>, columns: u64, lines: u64) -> Result<(), AllocError>
     ensures { OnOk result (out.new.items ≡ out.old.items
@@ -235,7 +337,7 @@ fn put_frame(out: &mut Vec<u8>, columns: u64, lines: u64) -> Result<(), AllocErr
     out.extend_from_slice(STYLE)
 }
 
-/// Appends what the signs mean, on a line of its own.
+/// Appends what the signs mean, on line number `line`, which has nothing else.
 #[tactic(auto, unfolding(crate::specs::Svg::between))]
 fn put_legend(out: &mut Vec<u8>, line: u64) -> Result<(), AllocError>
     ensures { OnOk result (out.new.items ≡ out.old.items ++ legend_text line) }

@@ -30,7 +30,7 @@ fn forget<R: Files>(rt: &R, path: &str) -> Result<()> {
     }
 }
 
-/// The agent of this name over the file at this path.
+/// The agent `name` over the file at `path`.
 fn open_over<'a, R: Files<File = File> + AllocGlobal>(
     rt: &'a R,
     name: &str,
@@ -41,7 +41,7 @@ fn open_over<'a, R: Files<File = File> + AllocGlobal>(
     Ok(Agent::open(rt.alloc(), config, &text, store).map_err(|refused| refused.fault)?)
 }
 
-/// The agent of this name, in its first life or in its next one, as its snapshot says. An error begins with the name.
+/// The agent `name`, in its first life or in its next one, as its snapshot at `path` says. An error begins with the name.
 fn open<'a, R: Files<File = File> + AllocGlobal>(
     rt: &'a R,
     name: &'static str,
@@ -96,27 +96,11 @@ fn deliver<R: Files<File = File> + Print + AllocGlobal>(
     tell(rt, name, packet, &outcome)
 }
 
-/// The snapshots of both agents are gone.
-fn begin<R: Files>(rt: &R) -> Result<()> {
-    forget(rt, "alpha.snapshot")?;
-    forget(rt, "beta.snapshot")
-}
-
-/// Gives an agent the same packet twice.
-fn deliver_twice<R: Files<File = File> + Print + AllocGlobal>(
-    rt: &R,
-    agent: &mut OnFile<'_, R>,
-    name: &str,
-    packet: &Bytes,
-) -> Result<()> {
-    deliver(rt, agent, name, packet)?;
-    deliver(rt, agent, name, packet)
-}
-
 /// The agent `beta` takes a packet twice, and stops as it would in a crash: with no call after it.
 fn first_life<R: Files<File = File> + Print + AllocGlobal>(rt: &R, packet: &Bytes) -> Result<()> {
     let mut beta = open(rt, "beta", "beta.snapshot")?;
-    deliver_twice(rt, &mut beta, "beta", packet)
+    deliver(rt, &mut beta, "beta", packet)?;
+    deliver(rt, &mut beta, "beta", packet)
 }
 
 /// A query of every node, which takes answers for 1,000 nanoseconds.
@@ -214,31 +198,16 @@ fn tidy<R: Files<File = File> + AllocGlobal>(rt: &R, agent: &mut OnFile<'_, R>) 
     Ok(())
 }
 
-/// The agent `beta`, back again, takes the packet once more, and answers what `alpha` asks.
-fn meet<R: Files<File = File> + Print + AllocGlobal>(
-    rt: &R,
-    alpha: &mut OnFile<'_, R>,
-    beta: &mut OnFile<'_, R>,
-    packet: &Bytes,
-) -> Result<()> {
-    deliver(rt, beta, "beta", packet)?;
-    talk(rt, alpha, beta)
-}
-
-/// The agent `beta` as it comes back from its crash.
-fn come_back<'a, R: Files<File = File> + Print + AllocGlobal>(rt: &'a R) -> Result<OnFile<'a, R>> {
-    println!(rt; "beta crashes and comes back")?;
-    open(rt, "beta", "beta.snapshot")
-}
-
-/// The agent `beta` comes back, and meets `alpha`.
+/// The agent `beta`, back from its crash, takes `packet` once more, and answers what `alpha` asks.
 fn second_life<R: Files<File = File> + Print + AllocGlobal>(
     rt: &R,
     alpha: &mut OnFile<'_, R>,
     packet: &Bytes,
 ) -> Result<()> {
-    let mut beta = come_back(rt)?;
-    meet(rt, alpha, &mut beta, packet)
+    println!(rt; "beta crashes and comes back")?;
+    let mut beta = open(rt, "beta", "beta.snapshot")?;
+    deliver(rt, &mut beta, "beta", packet)?;
+    talk(rt, alpha, &mut beta)
 }
 
 /// The agent `alpha` fires an event, and runs its own handler for it: the packet of the event.
@@ -265,7 +234,8 @@ fn live<R: Files<File = File> + Print + AllocGlobal>(
 
 fn main(rt: HostRuntime) -> Result<()> {
     over_a_file();
-    begin(&rt)?;
+    forget(&rt, "alpha.snapshot")?;
+    forget(&rt, "beta.snapshot")?;
     let mut alpha = open(&rt, "alpha", "alpha.snapshot")?;
     live(&rt, &mut alpha)
 }

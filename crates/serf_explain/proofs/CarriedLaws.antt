@@ -1,27 +1,5 @@
 -- What is told of events, one part of them after another.
-use Rattle.std.proofs.Common.{◌≡◌, ◌<◌, ℕ, codes, decimal, length, length-append, arith, List, [], ◌∷◌, ◌++◌, Option, Some, None, true, refl, sym, ap, subst, ◌∙◌, append_assoc, append-nil}
-use Rattle.serf_wire.specs.declared.texts.EventBody.{EventBody}
-use Rattle.serf_window.specs.Window.{TimedEntry}
-use Rattle.serf_agent.specs.Ideal.{IdealAgent}
-use Rattle.serf_agent.specs.States.{after_event}
-use Rattle.serf_agent.specs.View.{ConcreteState}
-use Rattle.serf_agent.specs.declared.config.Config.{Config}
-use Rattle.serf_explain.specs.declared.judge.Judge.{Judge}
-use Rattle.serf_explain.specs.declared.left.Takes.{Takes}
-use Rattle.serf_explain.specs.declared.merging.Merging.{Merging}
-use Rattle.std.specs.List.{flat_map}
-use Rattle.serf_agent.specs.declared.outcome.Reason.{Reason}
-use Rattle.serf_agent.specs.declared.outcome.Reason.TheVariants.{Seen}
-use Rattle.serf_agent.specs.Events.{admission}
-use Rattle.serf_model.specs.declared.action.Action.{Action}
-use Rattle.serf_model.specs.declared.line.Line.{Line}
-use Rattle.serf_model.specs.Cluster.{Cluster}
-use Rattle.serf_explain.specs.Because.{AddsSuch, because_line, byte_text}
-use Rattle.serf_explain.specs.Carried.{AreCarried, AreOfState, IsCarried, IsSeenIn, Known, Placed, TellsMerge, TellsMerged, after_events, carried_words, entered_since, placed, raised_least, raised_reasons}
-use Rattle.serf_explain.specs.HandOuts.{IsNamed, Note, handed_words, notes_from}
-use Rattle.serf_explain.specs.Judging.{AddsJudged, AddsLines, AddsState, HasJudged, IsHandedIn, IsJudging, IsMerging, TellsText, detail_words, judge_takes, judged_detail, merged_of}
-use Rattle.serf_explain.specs.Leaving.{left_words}
-use Rattle.serf_explain.specs.Left.{IsEventLeft, IsLeft, is_left, texts_told}
+use Rattle.serf_explain.proofs.Names.{List, None, Option, Some, [], ap, append-nil, append_assoc, arith, codes, decimal, length, length-append, refl, subst, sym, true, ℕ, ◌++◌, ◌<◌, ◌∙◌, ◌∷◌, ◌≡◌, flat_map, EventBody, TimedEntry, admission, IdealAgent, after_event, ConcreteState, Config, Reason, Seen, Cluster, Action, Line, AddsSuch, because_line, byte_text, AreCarried, AreOfState, IsCarried, IsSeenIn, Known, Placed, TellsMerge, TellsMerged, after_events, entered_since, placed, raised_least, raised_reasons, carried_words, IsNamed, Note, notes_from, handed_words, AddsJudged, AddsLines, AddsState, HasJudged, IsHandedIn, IsJudging, IsMerging, TellsText, detail_words, judge_takes, judged_detail, merged_of, left_words, IsEventLeft, IsLeft, is_left, texts_told, Judge, Takes, Merging}
 use Rattle.serf_explain.proofs.JudgeLaws.{same-config}
 use Rattle.serf_explain.proofs.LeftLaws.{left-is}
 use Rattle.serf_explain.proofs.NoteLaws.{is-seen-in}

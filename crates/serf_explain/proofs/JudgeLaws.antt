@@ -1,34 +1,8 @@
 -- The verdict on an event of a merge, from that before the merge and that on what entered in it.
-use Rattle.std.proofs.Common.{◌≡◌, ℕ, ◌+◌, ◌-◌, ◌<◌, ◌≤◌, ◌==◌, ◌&&◌, ◌||◌, inl, inr, nat_lt, nat_le, cond, Bool, true, false, List, [], ◌∷◌, ◌++◌, length, map, drop, Option, Some, None, refl, sym, ap, subst, ◌∙◌, append_assoc, arith, All}
-use Rattle.std.proofs.lemmas.Bool.{cases_Bool, eq-eqb, ltb-false, ne_eqb}
-use Rattle.std.proofs.lemmas.List.Elements.{All-cons, All-head, All-nil, All-push, All-tail, All-weaker}
-use Rattle.std.proofs.lemmas.List.{map-append}
-use Rattle.std.proofs.lemmas.List.Folds.{list_any-append}
-use Rattle.std.proofs.lemmas.Bool.Decides.{nat_tests}
-use Rattle.std.proofs.Math.Seq.{drop-append_seam}
-use Rattle.serf_lamport.specs.Clock.{observed}
-use Rattle.serf_wire.specs.declared.texts.EventBody.{EventBody}
-use Rattle.serf_window.specs.declared.verdict.Verdict.{Verdict}
+use Rattle.serf_explain.proofs.Names.{All, Bool, List, None, Option, Some, [], ap, append_assoc, arith, cond, drop, false, inl, inr, length, map, nat_le, nat_lt, refl, subst, sym, true, ℕ, ◌&&◌, ◌++◌, ◌+◌, ◌-◌, ◌<◌, ◌==◌, ◌||◌, ◌∙◌, ◌∷◌, ◌≡◌, ◌≤◌, drop-append_seam, cases_Bool, eq-eqb, ltb-false, ne_eqb, nat_tests, map-append, All-cons, All-head, All-nil, All-push, All-tail, All-weaker, list_any-append, observed, PushPull, EventBody, Kept, SlotLaws, same_texts, SlotOf, TimedEntry, TimesBelow, WindowOf, count_at, count_in, slots_of, verdict_of, was_entered, Verdict, ended, is_sound, admission, event_entered, event_observed, received_as, texts_len, told_event, IdealAgent, Past, Track, with_snapshot, after_event, heard_by, joined, told_least, noted_with, IsTrackSound, of_life, track_reason, was_ever_entered, Config, Reason, entered_since, heard, IsJudging, both_verdicts, is_seen, past, Judge}
 use Rattle.serf_window.specs.declared.verdict.Verdict.TheVariants as verdicts
-use Rattle.serf_window.specs.Laws.{SlotLaws}
-use Rattle.serf_window.specs.Texts.{same_texts}
-use Rattle.serf_window.specs.Window.{SlotOf, TimedEntry, TimesBelow, WindowOf, count_at, count_in, slots_of, verdict_of, was_entered}
-use Rattle.serf_agent.specs.declared.outcome.Reason.{Reason}
 use Rattle.serf_agent.specs.declared.outcome.Reason.TheVariants as reasons
-use Rattle.serf_agent.specs.declared.config.Config.{Config}
-use Rattle.serf_agent.specs.Config.{is_sound}
-use Rattle.serf_agent.specs.Calls.{ended}
-use Rattle.serf_agent.specs.Events.{admission, event_entered, event_observed, received_as, texts_len, told_event}
-use Rattle.serf_agent.specs.Ideal.{IdealAgent, Past, Track, with_snapshot}
-use Rattle.serf_agent.specs.States.{after_event, heard_by, joined, told_least}
-use Rattle.serf_wire.specs.Message.{PushPull}
-use Rattle.serf_snap.specs.Notes.{Kept}
-use Rattle.serf_agent.specs.Told.{noted_with}
 use Rattle.serf_snap.specs.declared.kind.ClockKind.TheVariants as kinds
-use Rattle.serf_agent.specs.Tracks.{IsTrackSound, of_life, track_reason, was_ever_entered}
-use Rattle.serf_explain.specs.Carried.{entered_since, heard}
-use Rattle.serf_explain.specs.declared.judge.Judge.{Judge}
-use Rattle.serf_explain.specs.Judging.{IsJudging, both_verdicts, is_seen, past}
 
 -- the tests of a reason, and of a verdict
 abbrev chain : Bool → Bool → Bool → Bool → Option Reason

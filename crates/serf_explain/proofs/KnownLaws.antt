@@ -1,28 +1,9 @@
 -- What is ignored as seen was handed to its agent by an action before.
-use Rattle.std.proofs.Common.{◌≡◌, inl, inr, arith, false, ℕ, zero, suc, List, [], ◌∷◌, ◌++◌, Option, Some, None, Result, Ok, Err, true, refl, sym, ap, subst, ◌∙◌}
-use Rattle.std.proofs.lemmas.Bool.{cases_Bool, eqb-true}
-use Rattle.std.specs.Prelude.{Contains, map, slice_get}
-use Rattle.std.specs.List.{list_any}
-use Rattle.std.specs.Option.{option_map}
-use Rattle.serf_wire.specs.declared.fault.WireFault.{WireFault}
-use Rattle.serf_wire.specs.declared.texts.EventBody.{EventBody}
-use Rattle.serf_wire.specs.Decoded.{decoded}
-use Rattle.serf_wire.specs.Message.{Message, UserEvent, foreign, push_pull, query, query_response, user_event}
-use Rattle.serf_window.specs.Texts.{event_of}
-use Rattle.serf_window.specs.Window.{TimedEntry}
-use Rattle.serf_agent.specs.declared.config.Config.{Config}
-use Rattle.serf_agent.specs.declared.outcome.Reason.TheVariants.{Seen}
+use Rattle.serf_explain.proofs.Names.{Err, List, None, Ok, Option, Result, Some, [], ap, arith, false, inl, inr, refl, subst, suc, sym, true, zero, ℕ, ◌++◌, ◌∙◌, ◌∷◌, ◌≡◌, cases_Bool, eqb-true, list_any, option_map, Contains, slice_get, decoded, Message, UserEvent, foreign, push_pull, query, query_response, user_event, WireFault, EventBody, event_of, TimedEntry, Config, Seen, Cluster, IdealNode, Run, after, delivers, on_agent, step, SeenWasHandedOrTailed, actor_keeps, keeps, tails_to, Turn, actor_of, given_by, is_agent, packet_given, Action, Line, KnowsSeen, Note, is_note, notes_from, event_delivered, event_given, event_read}
+use Rattle.std.specs.Prelude.{map}
 use Rattle.serf_model.specs.declared.action.Act.TheVariants as acts
-use Rattle.serf_model.specs.declared.action.Action.{Action}
 use Rattle.serf_model.specs.declared.action.Action.TheVariants as actions
 use Rattle.serf_model.specs.declared.line.Answer.TheVariants as answers
-use Rattle.serf_model.specs.declared.line.Line.{Line}
-use Rattle.serf_model.specs.Cluster.{Cluster, IdealNode, Run, after, delivers, on_agent, step}
-use Rattle.serf_model.specs.Promises.{SeenWasHandedOrTailed}
-use Rattle.serf_model.specs.Tails.{actor_keeps, keeps, tails_to}
-use Rattle.serf_model.specs.Trace.{Turn, actor_of, given_by, is_agent, packet_given}
-use Rattle.serf_explain.specs.HandOuts.{KnowsSeen, Note, is_note, notes_from}
-use Rattle.serf_explain.specs.Seen.{event_delivered, event_given, event_read}
 use Rattle.serf_explain.proofs.NoteLaws.{handed-noted}
 
 -- a turn is of the action that was done

@@ -1,28 +1,7 @@
 -- What is said of what an agent left.
-use Rattle.std.proofs.Common.{◌≡◌, ℕ, ◌+◌, ◌++◌, List, [], ◌∷◌, Some, None, Option, true, length, arith, refl, sym, ap, subst, ◌∙◌, append-nil, append_assoc}
-use Rattle.std.proofs.lemmas.List.{length-map, map-append}
-use Rattle.std.proofs.lemmas.Bool.{ne_eqb}
+use Rattle.serf_explain.proofs.Names.{List, None, Option, Some, [], ap, append-nil, append_assoc, arith, length, refl, subst, sym, true, ℕ, ◌++◌, ◌+◌, ◌∙◌, ◌∷◌, ◌≡◌, ne_eqb, length-map, map-append, EventBody, TimedEntry, held_count, ConcreteState, view_of, Reason, BelowMinimum, Oversize, Seen, TimeFull, TooOld, Cluster, Action, Line, IsViewed, WorldState, agent_at, AddsSome, AddsSuch, GrowsBy, because_line, IsIgnored, OfIgnored, TellsAll, NamesSeen, name_at, notes_in, HoldMarks, IsMark, ignored_words, left_words, mark_behind, numbers_of, takes_by, takes_events, buffers_words, IsLeft, events_least, is_left, mark_words, number_in, numbers_in, texts_told, below_words, since_words, delivered_as, event_as, OfLeftEvent, event_delivered, History, Mark, Delivered}
 use Rattle.std.specs.Prelude.{codes, decimal}
-use Rattle.serf_wire.specs.declared.texts.EventBody.{EventBody}
-use Rattle.serf_window.specs.Window.{TimedEntry, held_count}
-use Rattle.serf_agent.specs.declared.outcome.Reason.{Reason}
-use Rattle.serf_agent.specs.declared.outcome.Reason.TheVariants.{BelowMinimum, TooOld, Seen, TimeFull, Oversize}
-use Rattle.serf_agent.specs.View.{ConcreteState, view_of}
-use Rattle.serf_model.specs.declared.action.Action.{Action}
-use Rattle.serf_model.specs.Cluster.{Cluster}
-use Rattle.serf_world.specs.View.{IsViewed, WorldState, agent_at}
 use Rattle.serf_model.specs.declared.line.Answer.TheVariants as answers
-use Rattle.serf_model.specs.declared.line.Line.{Line}
-use Rattle.serf_explain.specs.declared.history.History.{History}
-use Rattle.serf_explain.specs.declared.marks.Mark.{Mark}
-use Rattle.serf_explain.specs.declared.seen.Delivered.{Delivered}
-use Rattle.serf_explain.specs.Because.{AddsSome, AddsSuch, GrowsBy, because_line}
-use Rattle.serf_explain.specs.Explained.{IsIgnored, OfIgnored, TellsAll}
-use Rattle.serf_explain.specs.HandOuts.{NamesSeen, name_at, notes_in}
-use Rattle.serf_explain.specs.Leaving.{HoldMarks, IsMark, buffers_words, ignored_words, left_words, mark_behind, numbers_of, takes_by, takes_events}
-use Rattle.serf_explain.specs.Left.{below_words, IsLeft, events_least, is_left, mark_words, number_in, numbers_in, since_words, texts_told}
-use Rattle.serf_explain.specs.Noted.{delivered_as, event_as}
-use Rattle.serf_explain.specs.Seen.{OfLeftEvent, event_delivered}
 use Rattle.serf_explain.proofs.MarkLaws.{mark_is}
 use Rattle.serf_explain.proofs.MergeLaws.{agent-is}
 

@@ -1,6 +1,8 @@
+pub mod Names
 pub mod ReasonLaws
 pub mod MergeLaws
 pub mod MarkLaws
+pub mod MemoryLaws
 pub mod LeftLaws
 pub mod CarriedLaws
 pub mod SlotLaws

@@ -1,24 +1,6 @@
 -- Since which action a number stands, as one action after another is done.
-use Rattle.std.proofs.Common.{◌≡◌, ◌⊎◌, inl, inr, ℕ, zero, suc, ◌+◌, ◌<◌, ◌++◌, ◌==◌, Bool, List, [], ◌∷◌, length, length-append, Option, Some, None, arith, refl, sym, ap, subst, ◌∙◌}
-use Rattle.std.proofs.lemmas.Bool.{cases_Bool, eq-eqb, eqb-true}
-use Rattle.std.proofs.lemmas.List.{length-map, map-append}
-use Rattle.std.proofs.lemmas.Option.{slice_get-map}
-use Rattle.std.specs.Option.{option_map}
-use Rattle.std.specs.Prelude.{if◌then◌else◌, nat_eq, slice_get, slice_set}
-use Rattle.indexmap.specs.IndexMap.{get}
-use Rattle.serf_agent.specs.Ideal.{IdealAgent}
-use Rattle.serf_agent.specs.View.{ConcreteState, view_of}
-use Rattle.serf_agent.specs.declared.config.Config.{Config}
-use Rattle.serf_model.specs.declared.action.Act.{Act}
+use Rattle.serf_explain.proofs.Names.{Bool, List, None, Option, Some, [], ap, arith, inl, inr, length, length-append, refl, subst, suc, sym, zero, ℕ, ◌++◌, ◌+◌, ◌<◌, ◌==◌, ◌∙◌, ◌∷◌, ◌≡◌, ◌⊎◌, cases_Bool, eq-eqb, eqb-true, length-map, map-append, slice_get-map, option_map, if◌then◌else◌, nat_eq, slice_get, slice_set, get, IdealAgent, ConcreteState, view_of, Config, Cluster, IdealNode, apply, first_node, on_agent, start, step, with_handed, Act, IsViewed, WorldState, agent_at, AreNumbers, HoldMarks, IsLooked, IsMark, IsMarkOf, first_numbers, mark_behind, marks_or_first, numbers_behind, numbers_of, IsSince, events_clock, events_least, number_in, number_or_one, numbers_in, queries_clock, queries_least, AllMarks, Mark, Marks, Numbers}
 use Rattle.serf_model.specs.declared.action.Action.TheVariants as actions
-use Rattle.serf_model.specs.Cluster.{Cluster, IdealNode, apply, first_node, on_agent, start, step, with_handed}
-use Rattle.serf_world.specs.View.{IsViewed, WorldState, agent_at}
-use Rattle.serf_explain.specs.declared.marks.AllMarks.{AllMarks}
-use Rattle.serf_explain.specs.declared.marks.Mark.{Mark}
-use Rattle.serf_explain.specs.declared.marks.Marks.{Marks}
-use Rattle.serf_explain.specs.declared.marks.Numbers.{Numbers}
-use Rattle.serf_explain.specs.Leaving.{AreNumbers, HoldMarks, IsLooked, IsMark, IsMarkOf, first_numbers, mark_behind, marks_or_first, numbers_behind, numbers_of}
-use Rattle.serf_explain.specs.Left.{IsSince, events_clock, events_least, number_in, number_or_one, numbers_in, queries_clock, queries_least}
 use Rattle.serf_explain.proofs.MergeLaws.{agent-is, node-of}
 
 -- what stands in a list with one more number

@@ -1,24 +1,7 @@
 -- An agent that a world stores is a sound one's view; and what is told of a merge into it, by what its packet says.
-use Rattle.std.proofs.Common.{◌≡◌, ℕ, zero, suc, Bool, List, [], ◌∷◌, Option, Some, None, Result, Ok, Err, refl, sym, ap, subst, ◌∙◌}
-use Rattle.std.specs.Prelude.{slice_get}
-use Rattle.std.specs.List.{AllByRecursion}
-use Rattle.std.specs.Option.{option_map}
-use Rattle.std.proofs.lemmas.Option.{slice_get-map}
-use Rattle.serf_wire.specs.Decoded.{decoded}
-use Rattle.serf_wire.specs.Message.{Message, PushPull, push_pull}
-use Rattle.serf_wire.specs.declared.fault.WireFault.{WireFault}
-use Rattle.serf_agent.specs.Sound.{IsSound}
-use Rattle.serf_agent.specs.View.{ConcreteState, view_of}
-use Rattle.serf_model.specs.declared.action.Act.{Act}
+use Rattle.serf_explain.proofs.Names.{Bool, Err, List, None, Ok, Option, Result, Some, [], ap, refl, subst, suc, sym, zero, ℕ, ◌∙◌, ◌∷◌, ◌≡◌, slice_get-map, AllByRecursion, option_map, slice_get, decoded, Message, PushPull, push_pull, WireFault, IsSound, ConcreteState, view_of, Cluster, IdealNode, AreRepresentable, IsRepresentable, Act, Action, Line, IsViewed, NodeState, WorldState, agent_at, node_of, IsFound, Known, known_of, placed_from, heard, AddsMerge, AddsState, TellsText}
 use Rattle.serf_model.specs.declared.action.Act.TheVariants as acts
-use Rattle.serf_model.specs.declared.action.Action.{Action}
 use Rattle.serf_model.specs.declared.action.Action.TheVariants as actions
-use Rattle.serf_model.specs.declared.line.Line.{Line}
-use Rattle.serf_model.specs.Cluster.{Cluster, IdealNode}
-use Rattle.serf_model.specs.Ready.{AreRepresentable, IsRepresentable}
-use Rattle.serf_world.specs.View.{IsViewed, NodeState, WorldState, agent_at, node_of}
-use Rattle.serf_explain.specs.Carried.{IsFound, Known, heard, known_of, placed_from}
-use Rattle.serf_explain.specs.Judging.{AddsMerge, AddsState, TellsText}
 
 mapped : (o : Option IdealNode) → option_map (λ s. s.concrete) (option_map node_of o) ≡ option_map (λ m. view_of m.agent) o
 mapped None = refl

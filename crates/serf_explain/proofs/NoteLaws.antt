@@ -1,34 +1,8 @@
 -- The events that were handed out, and the lines that did it.
-use Rattle.std.proofs.Common.{◌≡◌, ◌⊎◌, ℕ, zero, suc, ◌+◌, ◌<◌, ◌++◌, ◌==◌, ◌&&◌, ◌||◌, cond, inl, inr, List, [], ◌∷◌, Bool, true, false, length, map, Option, Some, None, arith, refl, sym, ap, ap₂, subst, eq-eqb, ◌∙◌, append_assoc, append-nil}
-use Rattle.std.proofs.lemmas.Bool.{cases_Bool}
-use Rattle.std.proofs.lemmas.List.Folds.{list_any-append}
-use Rattle.std.proofs.lemmas.Option.{slice_get-map}
-use Rattle.std.specs.List.{filter, find, flat_map, list_any}
-use Rattle.std.specs.Str.{bytes_eq}
-use Rattle.std.proofs.Math.Bool.{or-true}
-use Rattle.std.proofs.lemmas.Slice.Eq.{bytes_eq-Decides}
-use Rattle.std.specs.Option.{option_map}
-use Rattle.std.specs.Prelude.{Contains, codes, decimal, slice_get, slice_index_or}
-use Rattle.serf_wire.specs.declared.texts.EventBody.{EventBody}
-use Rattle.serf_window.specs.Texts.{event_of, same_texts}
-use Rattle.serf_window.specs.Window.{TimedEntry}
-use Rattle.serf_agent.specs.Ideal.{IdealAgent}
-use Rattle.serf_agent.specs.declared.config.Config.{Config}
-use Rattle.serf_agent.specs.declared.outcome.Reason.TheVariants.{Seen}
-use Rattle.serf_model.specs.declared.action.Action.{Action}
-use Rattle.serf_model.specs.declared.line.EventLine.{EventLine}
-use Rattle.serf_model.specs.declared.line.Line.{Line}
-use Rattle.serf_model.specs.Cluster.{Cluster, IdealNode}
-use Rattle.serf_model.specs.Tails.{keeps}
-use Rattle.serf_model.specs.Trace.{Turn, event_in, events_to}
-use Rattle.serf_world.specs.View.{IsViewed, NodeState, WorldState, node_of}
-use Rattle.serf_explain.specs.declared.hand_outs.HandOut.{HandOut}
-use Rattle.serf_explain.specs.declared.history.History.{History}
-use Rattle.serf_explain.specs.HandOuts.{IsKnown, IsNamed, IsNoted, Note, NotedAt, handed_words, is_note, name_at, name_stored, note_in, note_of, notes_from, notes_in}
-use Rattle.serf_explain.specs.Carried.{IsSeenIn, Known, entered_since}
-use Rattle.serf_explain.specs.Explained.{OfIgnored}
-use Rattle.serf_explain.specs.Seen.{HandsOut, IsHanded, IsSeen, OfSeen, hands_out, is_hand_out, name_in, name_or_empty, seen_words, tailed_words}
-use Rattle.serf_explain.specs.Words.{event_words, quoted}
+use Rattle.serf_explain.proofs.Names.{Bool, List, None, Option, Some, [], ap, append-nil, append_assoc, ap₂, arith, cond, false, inl, inr, length, map, refl, subst, suc, sym, true, zero, ℕ, ◌&&◌, ◌++◌, ◌+◌, ◌<◌, ◌==◌, ◌||◌, ◌∙◌, ◌∷◌, ◌≡◌, ◌⊎◌, or-true, cases_Bool, list_any-append, slice_get-map, bytes_eq-Decides, find, flat_map, list_any, option_map, Contains, slice_get, slice_index_or, bytes_eq, EventBody, event_of, same_texts, TimedEntry, IdealAgent, Config, Seen, Cluster, IdealNode, keeps, Turn, event_in, events_to, Action, EventLine, Line, IsViewed, NodeState, WorldState, node_of, IsSeenIn, Known, entered_since, OfIgnored, IsKnown, IsNamed, IsNoted, Note, NotedAt, is_note, is_noted, name_at, name_stored, note_in, note_of, notes_from, notes_in, stands_at, handed_words, HandsOut, IsHanded, IsSeen, OfSeen, hands_out, is_hand_out, name_in, name_or_empty, tailed_words, seen_words, quoted, event_words, HandOut, History}
+use Rattle.std.proofs.Common.{eq-eqb}
+use Rattle.std.specs.List.{filter}
+use Rattle.std.specs.Prelude.{codes, decimal}
 
 -- one more line
 pub lines-push : (n : ℕ) (lines : List Line) (line : Line) → notes_from n (lines ++ line ∷ []) ≡ notes_from n lines ++ map (note_of (n + length lines)) line.events
@@ -50,6 +24,10 @@ noted-at outs place a time what h at is = record {
   action_is = refl;
   hands = is;
 }
+
+-- and whether it is that of this event to this agent
+pub stands-out : (outs : List HandOut) (place a time : ℕ) (what : EventBody) (o : Option HandOut) → slice_get outs place ≡ o → stands_at (notes_in outs) place a time what ≡ is_noted a time what (option_map note_in o)
+stands-out outs place a time what o at = ap (is_noted a time what) (slice_get-map note_in outs place ∙ ap (λ (x : Option HandOut). option_map note_in x) at)
 
 module _ (a time : ℕ) (what : EventBody) where
   -- the first one, or none

@@ -1,9 +1,7 @@
 -- A text that grows by reasons.
-use Rattle.std.proofs.Common.{◌≡◌, ℕ, ◌<◌, List, [], ◌∷◌, ◌++◌, Option, Some, Result, Ok, Err, OnOk, codes, decimal, refl, sym, ap, ◌∙◌, append_assoc, length, arith}
-use Rattle.std.specs.List.{flat_map}
+use Rattle.serf_explain.proofs.Names.{Bool, Err, List, None, Ok, OnOk, Option, Result, Some, [], ap, append_assoc, arith, codes, cond, decimal, false, length, refl, sym, true, ℕ, ◌++◌, ◌<◌, ◌∙◌, ◌∷◌, ◌≡◌, flat_map, Message, PushPull, push_pull, ConcreteState, AddsReasons, AddsSome, because_line, raised_reasons, raised_words, clock_said, hears_nothing, unheard_least}
 use Rattle.std.proofs.lemmas.List.{append-nil}
-use Rattle.serf_explain.specs.Because.{AddsReasons, AddsSome, because_line}
-use Rattle.serf_explain.specs.Carried.{raised_reasons, raised_words}
+use Rattle.serf_model.specs.declared.action.Act.TheVariants as acts
 
 pub lines-append : (n : ℕ) (xs ys : List (List ℕ)) → flat_map (because_line n) (xs ++ ys) ≡ flat_map (because_line n) xs ++ flat_map (because_line n) ys
 lines-append n [] ys = refl
@@ -52,6 +50,12 @@ adds-behind n a b c h k = by h.reasons h.added
 -- what is told of a least time, and reasons behind it
 pub adds_raised : (n : ℕ) (raised : Option ℕ) (a b c : List ℕ) → b ≡ a ++ flat_map (because_line n) (raised_reasons raised) → AddsSome n b c → AddsSome n a c
 adds_raised n raised a b c is some = adds-behind n a b c (record { reasons = raised_reasons raised; added = is }) some
+
+-- what is said of a merge of which nothing was heard, or of any other
+pub unheard_is : (s : ConcreteState) (before packet : ℕ) (join b : Bool) (m : Option Message) → ((p : PushPull) → b ≡ hears_nothing s before join p) → cond b (clock_said m) None ≡ unheard_least s before (acts.Merge packet join) m
+unheard_is s before packet join b (Some (push_pull p)) h = ap (λ (x : Bool). cond x (Some p.event_clock) None) (h p)
+unheard_is s before packet join true _ h = refl
+unheard_is s before packet join false _ h = refl
 
 -- the line of a least time was added
 pub raised_is : (n least : ℕ) (none reason said old new : List ℕ) → none ≡ [] → reason ≡ none ++ codes "the join ignores old events: the least time rises to " ++ decimal least → said ≡ reason → new ≡ old ++ because_line n said

@@ -1,15 +1,5 @@
 -- How many entries of a time are in slots that are lent.
-use Rattle.std.proofs.Common.{◌≡◌, ℕ, zero, suc, ◌==◌, ◌%◌, inl, inr, cond, List, [], ◌∷◌, length, map, Option, Some, None, refl, sym, ap, ◌∙◌}
-use Rattle.std.proofs.lemmas.Bool.{cases_Bool}
-use Rattle.std.proofs.lemmas.List.{length-map}
-use Rattle.std.specs.Prelude.{slice_get, slice_index_or}
-use Rattle.std.specs.Option.{option_map}
-use Rattle.serf_wire.specs.Buffers.{lent_slot, slot_in_memory}
-use Rattle.serf_wire.specs.declared.lent_slots.LentSlot.{LentSlot}
-use Rattle.serf_wire.specs.declared.texts.EventBody.{EventBody}
-use Rattle.serf_wire.specs.declared.texts.TimeSlot.{TimeSlot}
-use Rattle.serf_window.specs.Slots.{slot_view}
-use Rattle.serf_window.specs.Window.{count_in, empty_slot, held_of}
+use Rattle.serf_explain.proofs.Names.{List, None, Option, Some, [], ap, cond, inl, inr, length, map, refl, suc, sym, zero, ℕ, ◌%◌, ◌==◌, ◌∙◌, ◌∷◌, ◌≡◌, cases_Bool, length-map, option_map, slice_get, slice_index_or, lent_slot, slot_in_memory, LentSlot, EventBody, TimeSlot, slot_view, count_in, empty_slot, held_of}
 
 abbrev pub found : ℕ → Option (ℕ × List EventBody) → ℕ
 found t None = 0

@@ -1,17 +1,5 @@
 -- The line of an event that was seen, whose bytes all stand as they are.
-use Rattle.std.proofs.Common.{◌≡◌, ℕ, ◌+◌, ◌%◌, ◌^◌, ◌<◌, ◌++◌, List, [], ◌∷◌, Some, codes, decimal, length, nat_le, true, refl, sym, ap, subst, ◌∙◌, append_assoc, arith}
-use Rattle.std.specs.List.{list_all}
-use Rattle.std.proofs.lemmas.Bool.Decides.{nat_tests}
-use Rattle.std.proofs.lemmas.Fmt.{decimal_by_steps}
-use Rattle.std.proofs.lemmas.List.Folds.{list_all-append}
-use Rattle.serf_window.specs.Texts.{event_of}
-use Rattle.serf_wire.specs.declared.texts.EventBody.{EventBody}
-use Rattle.serf_agent.specs.declared.outcome.Reason.TheVariants.{Seen}
-use Rattle.serf_explain.specs.Because.{because_line, is_printable}
-use Rattle.serf_explain.specs.Carried.{carried_words, slot_words}
-use Rattle.serf_explain.specs.HandOuts.{handed_words}
-use Rattle.serf_explain.specs.Judging.{seen_behind, seen_front}
-use Rattle.serf_explain.specs.Words.{event_words, is_plain, quoted, standing_texts, stands, whole_quoted}
+use Rattle.serf_explain.proofs.Names.{List, Some, [], ap, append_assoc, arith, codes, decimal, length, nat_le, refl, subst, sym, true, ℕ, ◌%◌, ◌++◌, ◌+◌, ◌<◌, ◌^◌, ◌∙◌, ◌∷◌, ◌≡◌, nat_tests, decimal_by_steps, list_all-append, list_all, EventBody, event_of, Seen, is_printable, because_line, carried_words, slot_words, handed_words, seen_behind, seen_front, is_plain, quoted, stands, event_words, standing_texts, whole_quoted}
 use Rattle.serf_explain.proofs.TextLaws.{and-left, and-right, plain-is_printable, plain-text, printable-text}
 
 abbrev printable : List ℕ → Type 0

@@ -1,21 +1,7 @@
 -- A schedule of which each line is explained as soon as it is read.
-use Rattle.std.proofs.Common.{◌≡◌, ◌++◌, ◌∙◌, ℕ, List, Option, ap, subst, length}
-use Rattle.serf_text.specs.declared.cause.Cause.{Cause}
-use Rattle.serf_text.specs.declared.stream_fault.StreamFault.{StreamFault}
+use Rattle.serf_explain.proofs.Names.{List, Option, ap, length, subst, ℕ, ◌++◌, ◌∙◌, ◌≡◌, lines_of, IsCauseBy, StopsAt, Cause, StreamFault, text_of, HasStreamed, is_refused_by, schedule_in, Explains, TellsRun, notes_in, all_actions, Reasoned, IsHalted, IsHaltedBy, Range, Reasoning}
 use Rattle.serf_text.specs.declared.stream_fault.StreamFault.TheVariants as faults
-use Rattle.serf_text.specs.Lines.{lines_of}
-use Rattle.serf_text.specs.Streams.{IsCauseBy, StopsAt}
-use Rattle.serf_schedule.specs.Output.{text_of}
-use Rattle.serf_schedule.specs.Running.{HasStreamed, is_refused_by}
-use Rattle.serf_schedule.specs.Schedule.{schedule_in}
 use Rattle.serf_schedule.specs.declared.run.Run.{Run}
-use Rattle.serf_explain.specs.declared.range.Range.{Range}
-use Rattle.serf_explain.specs.declared.reasoning.Reasoning.{Reasoning}
-use Rattle.serf_explain.specs.Explained.{Explains, TellsRun}
-use Rattle.serf_explain.specs.HandOuts.{notes_in}
-use Rattle.serf_explain.specs.Range.{all_actions}
-use Rattle.serf_explain.specs.Reasoned.{Reasoned}
-use Rattle.serf_explain.specs.Streamed.{IsHalted, IsHaltedBy}
 use Rattle.serf_explain.proofs.TellLaws.{told-whole}
 
 -- all actions are told of the lines that were done

@@ -1,41 +1,14 @@
 -- The text of a run's turns with their reasons, as one action after another is done.
-use Rattle.std.proofs.Common.{◌≡◌, ℕ, suc, ◌+◌, List, [], ◌∷◌, ◌++◌, Bool, Option, Some, None, Result, Ok, Err, true, false, refl, subst, sym, ap, ◌∙◌, length, length-append, append_assoc, arith}
-use Rattle.std.specs.Prelude.{OnOk, codes, slice_get, map, if◌then◌else◌}
-use Rattle.std.specs.List.{flat_map, fold}
-use Rattle.std.proofs.lemmas.List.Sums.{fold-append}
-use Rattle.std.specs.Option.{option_map}
-use Rattle.std.proofs.lemmas.List.{append-nil, length-map, map-append}
+use Rattle.serf_explain.proofs.Names.{Bool, Err, List, None, Ok, Option, Result, Some, [], ap, append_assoc, arith, false, length, length-append, refl, subst, suc, sym, true, ℕ, ◌++◌, ◌+◌, ◌∙◌, ◌∷◌, ◌≡◌, length-map, map-append, fold-append, flat_map, fold, option_map, if◌then◌else◌, slice_get, EventBody, TimedEntry, Config, Reason, Seen, Cluster, Run, after, run_of, start, step, keeps, Turn, actor_of, Action, Line, IsViewed, TakesStep, WorldState, action_text, AddsSuch, because_line, AreMerged, OfMerge, TellsMerge, TellsMerged, known_of, placed_from, heard, AddsTurn, AreReasoned, Explained, HasTold, IsReasoned, IsTold, TellsAll, TellsRun, cluster_behind, clusters_before, clusters_from, clusters_to, lines_text, lines_told, shows, turn_text, turns_text, IsKnown, KnowsSeen, Note, note_of, notes_from, notes_in, HoldMarks, IsEventLeft, events_least, first_words, is_left, numbers_in, is_shown, IsSeen, OfLeftEvent, OfSeen, event_delivered, event_given, name_in, event_words, History, AllMarks, Range}
+use Rattle.std.specs.Prelude.{OnOk, codes, map}
+use Rattle.std.proofs.lemmas.List.{append-nil}
 use Rattle.serf_model.specs.declared.action.Act.TheVariants as acts
-use Rattle.serf_model.specs.declared.action.Action.{Action}
-use Rattle.serf_model.specs.declared.line.Line.{Line}
-use Rattle.serf_agent.specs.declared.config.Config.{Config}
-use Rattle.serf_model.specs.Cluster.{Cluster, Run, after, run_of, start, step}
-use Rattle.serf_model.specs.Trace.{Turn, actor_of}
-use Rattle.serf_world.specs.View.{IsViewed, TakesStep, WorldState}
-use Rattle.serf_schedule.specs.Show.{action_text}
-use Rattle.serf_explain.specs.declared.range.Range.{Range}
-use Rattle.serf_explain.specs.Range.{is_shown}
-use Rattle.serf_agent.specs.declared.outcome.Reason.{Reason}
-use Rattle.serf_agent.specs.declared.outcome.Reason.TheVariants.{Seen}
-use Rattle.serf_model.specs.Tails.{keeps}
 use Rattle.serf_model.specs.declared.action.Action.TheVariants as actions
 use Rattle.serf_model.specs.declared.line.Answer.TheVariants as answers
-use Rattle.serf_explain.specs.declared.history.History.{History}
-use Rattle.serf_explain.specs.declared.marks.AllMarks.{AllMarks}
-use Rattle.serf_explain.specs.Because.{AddsSuch, because_line}
-use Rattle.serf_explain.specs.Carried.{AreMerged, OfMerge, TellsMerge, TellsMerged, heard, known_of, placed_from}
-use Rattle.serf_explain.specs.Left.{IsEventLeft, events_least, first_words, is_left, numbers_in}
-use Rattle.serf_explain.specs.Leaving.{HoldMarks}
-use Rattle.serf_explain.specs.Seen.{IsSeen, OfLeftEvent, OfSeen, event_delivered, event_given, name_in}
-use Rattle.serf_explain.specs.Words.{event_words}
-use Rattle.serf_explain.specs.HandOuts.{IsKnown, KnowsSeen, Note, note_of, notes_from, notes_in}
 use Rattle.serf_explain.proofs.LeftLaws.{of-left}
 use Rattle.serf_explain.proofs.KnownLaws.{still-sent, turn-action}
 use Rattle.serf_explain.proofs.NoteLaws.{lines-push, of-seen}
-use Rattle.serf_wire.specs.declared.texts.EventBody.{EventBody}
-use Rattle.serf_window.specs.Window.{TimedEntry}
 use Rattle.serf_explain.proofs.CarriedLaws.{some-merged, told-merged, whole_of}
-use Rattle.serf_explain.specs.Explained.{AddsTurn, AreReasoned, Explained, HasTold, IsReasoned, IsTold, TellsAll, TellsRun, cluster_behind, clusters_before, clusters_from, clusters_to, lines_text, lines_told, shows, turn_text, turns_text}
 
 turns-push : (range : Range) (sent : List (List ℕ)) (n : ℕ) (es : List Explained) (e : Explained)
     → turns_text range sent n (es ++ e ∷ []) ≡ turns_text range sent n es ++ turn_text range sent (n + length es) e.turn.action e.turn.line e.reasons

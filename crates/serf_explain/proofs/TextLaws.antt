@@ -1,8 +1,5 @@
 -- Texts whose bytes all stand as they are.
-use Rattle.std.proofs.Common.{◌≡◌, ℕ, ◌==◌, ◌++◌, ◌&&◌, ◌||◌, not, List, [], ◌∷◌, Bool, true, false, refl, ap₂}
-use Rattle.std.specs.List.{flat_map, list_all}
-use Rattle.serf_explain.specs.Because.{byte_text, is_printable}
-use Rattle.serf_explain.specs.Words.{is_plain, quoted_byte}
+use Rattle.serf_explain.proofs.Names.{Bool, List, [], ap₂, false, not, refl, true, ℕ, ◌&&◌, ◌++◌, ◌==◌, ◌||◌, ◌∷◌, ◌≡◌, flat_map, list_all, is_printable, byte_text, is_plain, quoted_byte}
 
 pub and-left : (x y : Bool) → (x && y) ≡ true → x ≡ true
 and-left true y h = refl

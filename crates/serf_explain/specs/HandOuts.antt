@@ -51,6 +51,14 @@ pub record NotedAt (notes : List Note) (n a time : ℕ) (what : EventBody) : Typ
   pub action_is : note.action ≡ n
   pub hands : is_note a time what note ≡ true
 
+-- whether the hand-out at this place is that one
+abbrev pub is_noted : ℕ → ℕ → EventBody → Option Note → Bool
+is_noted a time what None = false
+is_noted a time what (Some note) = is_note a time what note
+
+abbrev pub stands_at : List Note → ℕ → ℕ → ℕ → EventBody → Bool
+stands_at notes place a time what = is_noted a time what (slice_get notes place)
+
 -- the number of an action that did it, if there is one
 pub record IsNoted (notes : List Note) (a time : ℕ) (what : EventBody) (number : Option ℕ) : Type 0 where
   pub right : IfSome number (λ n. NotedAt notes n a time what)

@@ -1,5 +1,5 @@
 -- What is kept while the events of a merge are judged: private to the crate.
-use Rattle.std.specs.Prelude.{◌≡◌, ℕ, ◌+◌, ◌<◌, ◌≤◌, ◌++◌, Bool, true, false, if◌then◌else◌, List, [], ◌∷◌, length, map, Option, Some, None, Result, Ok, All, codes, decimal}
+use Rattle.std.specs.Prelude.{◌≡◌, ℕ, ◌+◌, ◌-◌, ◌^◌, ◌<◌, ◌≤◌, ◌++◌, Bool, true, false, if◌then◌else◌, List, [], ◌∷◌, length, map, Option, Some, None, Result, Ok, All, codes, decimal, min}
 use Rattle.std.specs.List.{flat_map}
 use Rattle.serf_wire.specs.declared.fault.WireFault.{WireFault}
 use Rattle.serf_wire.specs.declared.texts.EventBody.{EventBody}
@@ -14,6 +14,7 @@ use Rattle.serf_agent.specs.Sound.{IsSound}
 use Rattle.serf_agent.specs.View.{view_of}
 use Rattle.serf_explain.specs.declared.judge.Judge.{Judge}
 use Rattle.serf_explain.specs.declared.left.Takes.{Takes}
+use Rattle.serf_explain.specs.declared.merges.Near.{Near}
 use Rattle.serf_explain.specs.declared.merging.Merging.{Merging}
 use Rattle.serf_model.specs.declared.action.Action.{Action}
 use Rattle.serf_model.specs.declared.line.Line.{Line}
@@ -126,6 +127,11 @@ seen_front front slot words = front ++ decimal slot ++ codes " brings " ++ words
 
 unfoldable pub seen_behind : List ℕ → List ℕ → ℕ → List ℕ
 seen_behind named words action = codes ": seen: " ++ named ++ words ++ codes " at action " ++ decimal action ++ codes "\n"
+
+-- Behind the hand-out at this place the next one is looked for as far on as this one is behind that which was named before it: the
+-- events of a state were mostly handed out one after another.
+abbrev pub near_behind : Near → ℕ → Near
+near_behind near place = record { named = place; next = min (place + (place - near.named)) (2 ^ 64 - 1) }
 
 -- whether a verdict is that the same entered before
 abbrev pub is_seen : Verdict → Bool

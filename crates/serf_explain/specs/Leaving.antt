@@ -1,17 +1,21 @@
 -- What is remembered of the agents, why one left what came to it, and what is said of queries, as the code has it: private to the crate.
-use Rattle.std.specs.Prelude.{◌≡◌, ℕ, ◌+◌, ◌==◌, Bool, if◌then◌else◌, nat_eq, false, List, [], ◌∷◌, ◌++◌, Option, Some, None, length, codes, true, decimal}
+use Rattle.std.specs.Prelude.{◌≡◌, ℕ, ◌+◌, ◌==◌, ◌&&◌, Bool, if◌then◌else◌, is_some, nat_eq, false, List, [], ◌∷◌, ◌++◌, Option, Some, None, length, codes, true, decimal, unwrap_or}
 use Rattle.indexmap.specs.IndexMap.{get}
 use Rattle.serf_agent.specs.View.{ConcreteState}
 use Rattle.serf_model.specs.Cluster.{Cluster}
 use Rattle.serf_agent.specs.Ideal.{IdealAgent}
+use Rattle.serf_agent.specs.States.{told_least}
 use Rattle.serf_explain.specs.declared.marks.AllMarks.{AllMarks}
 use Rattle.serf_explain.specs.declared.marks.Mark.{Mark}
 use Rattle.serf_explain.specs.declared.marks.Marks.{Marks}
 use Rattle.serf_explain.specs.declared.marks.Numbers.{Numbers}
 use Rattle.serf_wire.specs.declared.texts.EventBody.{EventBody}
+use Rattle.serf_wire.specs.Message.{Message, PushPull, push_pull}
 use Rattle.serf_window.specs.Window.{TimedEntry, held_count}
 use Rattle.serf_agent.specs.declared.outcome.Reason.{Reason}
 use Rattle.serf_agent.specs.declared.outcome.Reason.TheVariants.{BelowMinimum, TooOld, TimeFull, Oversize, OtherId, Closed, AckNotAsked, AckTwice}
+use Rattle.serf_model.specs.declared.action.Act.{Act}
+use Rattle.serf_model.specs.declared.action.Act.TheVariants as acts
 use Rattle.serf_model.specs.declared.action.Action.{Action}
 use Rattle.serf_world.specs.View.{WorldState, agent_at}
 use Rattle.serf_explain.specs.declared.left.Takes.{Takes}
@@ -92,6 +96,28 @@ left_words takes name time bytes _ = []
 -- so of an event that was delivered
 abbrev pub ignored_words : Takes → ℕ → EventBody → Reason → List ℕ
 ignored_words takes time what r = event_words time what ++ codes ": " ++ first_words r ++ left_words takes (codes "event") time (texts_told what) r
+
+-- ---- a state of which nothing was heard
+
+-- how many bytes a disk keeps
+abbrev pub bytes_kept : ConcreteState → ℕ
+bytes_kept s = length (unwrap_or s.snapshot.durable [])
+
+-- whether an agent that stores this wrote nothing in a merge whose first line is that of the least time: its disk kept so many bytes
+-- before
+abbrev pub hears_nothing : ConcreteState → ℕ → Bool → PushPull → Bool
+hears_nothing s before join p = is_some (told_least s.config p join) && bytes_kept s == before
+
+-- the event clock of a state, where a packet says one
+abbrev pub clock_said : Option Message → Option ℕ
+clock_said (Some (push_pull p)) = Some p.event_clock
+clock_said _ = None
+
+-- The least time whose line failed at a disk, before anything of a state was heard of: the state's event clock, where that is the
+-- line that comes first.
+abbrev pub unheard_least : ConcreteState → ℕ → Act → Option Message → Option ℕ
+unheard_least s before (acts.Merge packet join) (Some (push_pull p)) = if hears_nothing s before join p then Some p.event_clock else None
+unheard_least s before _ _ = None
 
 -- ---- queries, and what a restart found
 

@@ -9,5 +9,6 @@ pub mod Leaving
 pub mod Judging
 pub mod Explained
 pub mod Noted
+pub mod Remembered
 pub mod Reasoned
 pub mod Streamed

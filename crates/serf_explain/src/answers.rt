@@ -5,85 +5,52 @@ ghost use Rattle.serf_explain.specs.Leaving.{buffers_words};
 
 use crate::hand_outs::Event;
 use crate::ignored::put_ignored;
-use crate::marks::Mark;
+use crate::memory::Asked;
 use crate::quoted::{Part, put_said, say};
 use crate::refusals::put_refusal;
 use crate::told::{Actor, Told, actor_at, message_of, moment_of, named, number_in};
 use serf_agent::Agent;
 use serf_model::{Act, Action, Answer, SinkCall};
 use serf_snap::MemSink;
-use serf_wire::{Message, Query, QueryResponse, Texts, passes};
+use serf_wire::{Message, Query, QueryResponse, passes};
 use std::alloc::AllocError;
-
-/// Appends at which clock an event or a query was fired.
-fn put_fired<'a>(
-    out: &mut Vec<u8>,
-    actor: &Actor<'a>,
-    clock: &'a [u8],
-    mark: Mark,
-) -> Result<(), AllocError> {
-    let parts = [named(actor.agent), Part::Text(clock), Part::Mark(mark)];
-    put_said(out, b"% fired it at its % clock %", &parts)
-}
 
 /// Appends why an event that was delivered is new.
 fn put_new<'a>(out: &mut Vec<u8>, actor: &Actor<'a>, event: Event<'a>) -> Result<(), AllocError> {
+    let least = Part::Number(actor.agent.event_minimum());
+    let clock = Part::Number(actor.before.numbers.event_clock.value);
     put_said(
         out,
         b"%: % takes events from time % on, its event clock was %, and it had not been handed this one",
-        &[
-            Part::Event(event),
-            named(actor.agent),
-            Part::Number(actor.agent.event_minimum()),
-            Part::Number(actor.before.numbers.event_clock.value),
-        ],
+        &[Part::Event(event), named(actor.agent), least, clock],
     )
 }
 
-/// The number of the first filter that excludes a node, counted from 0, and the filter.
-fn excluding<'a>(filters: Texts<'a>, node: &[u8]) -> Option<(u64, &'a [u8])> {
-    let mut number: u64 = 0;
-    for filter in filters {
-        if !passes(filter, node) {
-            return Some((number, filter));
-        }
-        number = number.saturating_add(1);
-    }
-    None
-}
-
-/// Appends whether a query is handed out, or which filter keeps it from that.
-fn put_filtered(out: &mut Vec<u8>, actor: &Actor, filters: Texts) -> Result<(), AllocError> {
-    match excluding(filters, actor.agent.config().name.as_slice()) {
-        None => out.extend_from_slice(b", and each of its filters lets this node pass"),
-        Some((number, filter)) => put_said(
-            out,
-            b", and is not handed out: filter % % excludes this node",
-            &[Part::Number(number), Part::Quoted(filter)],
-        ),
-    }
-}
-
-/// Appends why a query that was delivered is new, and why it is handed out or isn't.
+/// Appends why a query that was delivered is new, and which filter, counted from 0, keeps it from being handed out, if one does.
 fn put_new_query<'a>(
     out: &mut Vec<u8>,
     actor: &Actor<'a>,
     query: &Query<'a>,
 ) -> Result<(), AllocError> {
+    let key = Part::Query(query.time.get(), query.id);
+    let (name, payload) = (Part::Quoted(query.name), Part::Quoted(query.payload));
     put_said(
         out,
         b"% % % is new to %",
-        &[
-            Part::Query(query.time.get(), query.id),
-            Part::Quoted(query.name),
-            Part::Quoted(query.payload),
-            named(actor.agent),
-        ],
+        &[key, name, payload, named(actor.agent)],
     )?;
-    put_filtered(out, actor, query.filters)
+    let mut number: u64 = 0;
+    for filter in query.filters {
+        if !passes(filter, actor.agent.config().name.as_slice()) {
+            let words = b", and is not handed out: filter % % excludes this node";
+            return put_said(out, words, &[Part::Number(number), Part::Quoted(filter)]);
+        }
+        number = number.saturating_add(1);
+    }
+    out.extend_from_slice(b", and each of its filters lets this node pass")
 }
 
-/// Appends which query an answer was counted at, and which action fired that.
+/// Appends of which query `answer` was counted, and which action fired the query.
 fn put_counted(
     out: &mut Vec<u8>,
     told: &Told,
@@ -94,18 +61,20 @@ fn put_counted(
         Answer::Ack => b"ack",
         _ => b"response",
     };
-    let query = Part::Query(answer.time, answer.id);
+    let (from, query) = (
+        Part::Quoted(answer.from),
+        Part::Query(answer.time, answer.id),
+    );
     put_said(
         out,
         b"the first % of % to %",
-        &[Part::Text(what), Part::Quoted(answer.from), query],
+        &[Part::Text(what), from, query],
     )?;
     match told.past.memory.asked_at(actor.number, answer.time) {
-        Some(asked) => put_said(
-            out,
-            b", which % asked at action %",
-            &[named(actor.agent), Part::Number(asked.action)],
-        ),
+        Some(Asked { action, .. }) => {
+            let asked = [named(actor.agent), Part::Number(action)];
+            put_said(out, b", which % asked at action %", &asked)
+        }
         None => Ok(()),
     }
 }
@@ -123,38 +92,23 @@ fn put_buffers(out: &mut Vec<u8>, agent: &Agent<MemSink>) -> Result<(), AllocErr
     say(out, b", query clock ", agent.query_time())
 }
 
-/// Appends from which times an agent takes events and queries.
-fn put_least_times(out: &mut Vec<u8>, agent: &Agent<MemSink>) -> Result<(), AllocError> {
-    say(out, b": it takes events from ", agent.event_minimum())?;
-    say(out, b" and queries from ", agent.query_minimum())?;
-    out.extend_from_slice(b" on")
-}
-
 /// Appends what a restart found.
 fn put_restarted(out: &mut Vec<u8>, agent: &Agent<MemSink>) -> Result<(), AllocError> {
-    say(
-        out,
-        b"its snapshot keeps clock ",
-        agent.member_time().saturating_sub(1),
-    )?;
+    let (events, queries) = (agent.event_minimum(), agent.query_minimum());
+    let clock = agent.member_time().saturating_sub(1);
+    say(out, b"its snapshot keeps clock ", clock)?;
     if agent.config().keep_events {
         put_buffers(out, agent)?;
     } else {
-        say(
-            out,
-            b", event-clock ",
-            agent.event_minimum().saturating_sub(1),
-        )?;
-        say(
-            out,
-            b", query-clock ",
-            agent.query_minimum().saturating_sub(1),
-        )?;
+        say(out, b", event-clock ", events.saturating_sub(1))?;
+        say(out, b", query-clock ", queries.saturating_sub(1))?;
     }
-    put_least_times(out, agent)
+    say(out, b": it takes events from ", events)?;
+    say(out, b" and queries from ", queries)?;
+    out.extend_from_slice(b" on")
 }
 
-/// A call of a disk, in words.
+/// The words for `call`, a call of a disk.
 fn call_words(call: SinkCall) -> &'static [u8] {
     match call {
         SinkCall::Append => b"append",
@@ -164,97 +118,60 @@ fn call_words(call: SinkCall) -> &'static [u8] {
     }
 }
 
-/// Appends which call is to fail.
-fn put_broken(out: &mut Vec<u8>, actor: &Actor) -> Result<(), AllocError> {
-    let Act::Break { call, count } = actor.act else {
-        return Ok(());
-    };
-    put_said(
-        out,
-        b"of the calls from now on, % number % of the disk of % fails",
-        &[
-            Part::Text(call_words(*call)),
-            Part::Number(*count),
-            named(actor.agent),
-        ],
-    )
-}
-
-/// Appends what a state that was sent has.
-fn put_state(out: &mut Vec<u8>, actor: &Actor) -> Result<(), AllocError> {
-    put_said(
-        out,
-        b"% sends its clock %, its event clock %, its query clock % and the events that its buffer has",
-        &[
-            named(actor.agent),
-            Part::Number(actor.agent.member_time()),
-            Part::Number(actor.agent.event_time()),
-            Part::Number(actor.agent.query_time()),
-        ],
-    )
-}
-
-/// Appends which query was answered.
-fn put_replied(out: &mut Vec<u8>, actor: &Actor) -> Result<(), AllocError> {
-    put_said(
-        out,
-        b"% had query number % of this life open, and its deadline is not past",
-        &[named(actor.agent), Part::Number(number_in(actor.act))],
-    )
-}
-
-/// Appends how many queries were closed.
-fn put_closed(out: &mut Vec<u8>, actor: &Actor, count: u64) -> Result<(), AllocError> {
-    let now = Part::Number(moment_of(actor.act));
-    put_said(
-        out,
-        b"% of the open queries of % had a deadline before %",
-        &[Part::Number(count), named(actor.agent), now],
-    )
-}
-
-/// Appends what a compaction left.
-fn put_compacted(out: &mut Vec<u8>, actor: &Actor) -> Result<(), AllocError> {
-    if actor.agent.config().keep_events {
-        return out.extend_from_slice(
-            b"its snapshot has the last line of each kind, the least times, and the lines of what its buffers hold",
-        );
-    }
-    out.extend_from_slice(b"its snapshot has the last line of each kind alone")
-}
-
 /// Appends why what an agent did by itself was answered so.
 fn put_own(out: &mut Vec<u8>, told: &Told, actor: &Actor) -> Result<(), AllocError> {
-    let before = actor.before.numbers;
+    let (agent, before) = (actor.agent, actor.before.numbers);
     match told.line.answer {
-        Answer::Fired(_) => put_fired(out, actor, b"event", before.event_clock),
-        Answer::Queried(_) => put_fired(out, actor, b"query", before.query_clock),
-        Answer::State => put_state(out, actor),
-        Answer::Replied => put_replied(out, actor),
-        Answer::Broken => put_broken(out, actor),
+        Answer::Fired(_) => put_said(
+            out,
+            b"% fired it at its event clock %",
+            &[named(agent), Part::Mark(before.event_clock)],
+        ),
+        Answer::Queried(_) => put_said(
+            out,
+            b"% fired it at its query clock %",
+            &[named(agent), Part::Mark(before.query_clock)],
+        ),
+        Answer::State => put_said(
+            out,
+            b"% sends its clock %, its event clock %, its query clock % and the events that its buffer has",
+            &[
+                named(agent),
+                Part::Number(agent.member_time()),
+                Part::Number(agent.event_time()),
+                Part::Number(agent.query_time()),
+            ],
+        ),
+        Answer::Replied => put_said(
+            out,
+            b"% had query number % of this life open, and its deadline is not past",
+            &[named(agent), Part::Number(number_in(actor.act))],
+        ),
+        Answer::Broken => match actor.act {
+            Act::Break { call, count } => {
+                let (call, count) = (Part::Text(call_words(*call)), Part::Number(*count));
+                let words = b"of the calls from now on, % number % of the disk of % fails";
+                put_said(out, words, &[call, count, named(agent)])
+            }
+            _ => Ok(()),
+        },
         Answer::Saved => {
-            let kept = actor.agent.member_time().saturating_sub(1);
+            let kept = agent.member_time().saturating_sub(1);
             say(out, b"its snapshot has clock ", kept)
         }
-        Answer::Compacted => put_compacted(out, actor),
-        Answer::Restarted { .. } => put_restarted(out, actor.agent),
-        Answer::Closed(count) => put_closed(out, actor, count),
+        Answer::Compacted if agent.config().keep_events => out.extend_from_slice(
+            b"its snapshot has the last line of each kind, the least times, and the lines of what its buffers hold",
+        ),
+        Answer::Compacted => {
+            out.extend_from_slice(b"its snapshot has the last line of each kind alone")
+        }
+        Answer::Restarted { .. } => put_restarted(out, agent),
+        Answer::Closed(count) => {
+            let now = Part::Number(moment_of(actor.act));
+            let words = b"% of the open queries of % had a deadline before %";
+            put_said(out, words, &[Part::Number(count), named(agent), now])
+        }
         Answer::Refused(refusal) => put_refusal(out, told, actor, refusal),
-        _ => Ok(()),
-    }
-}
-
-/// Appends why a message was taken; nothing where its answer is that of another kind.
-fn put_taken(
-    out: &mut Vec<u8>,
-    told: &Told,
-    actor: &Actor,
-    message: &Message,
-) -> Result<(), AllocError> {
-    match message {
-        Message::UserEvent(event) => put_new(out, actor, Event::of(event)),
-        Message::Query(query) => put_new_query(out, actor, query),
-        Message::QueryResponse(answer) => put_counted(out, told, actor, answer),
         _ => Ok(()),
     }
 }
@@ -267,9 +184,12 @@ fn put_given(
     message: &Message,
 ) -> Result<(), AllocError> {
     match told.line.answer {
-        Answer::New | Answer::Query | Answer::Ack | Answer::Response => {
-            put_taken(out, told, actor, message)
-        }
+        Answer::New | Answer::Query | Answer::Ack | Answer::Response => match message {
+            Message::UserEvent(event) => put_new(out, actor, Event::of(event)),
+            Message::Query(query) => put_new_query(out, actor, query),
+            Message::QueryResponse(answer) => put_counted(out, told, actor, answer),
+            _ => Ok(()),
+        },
         Answer::Ignored(reason) => put_ignored(out, told, actor, message, reason),
         Answer::Foreign(kind) => put_said(
             out,
@@ -283,14 +203,6 @@ fn put_given(
     }
 }
 
-/// Appends why an agent's action was answered so.
-fn put_actor_reason(out: &mut Vec<u8>, told: &Told, actor: &Actor) -> Result<(), AllocError> {
-    match message_of(told) {
-        Some(message) => put_given(out, told, actor, &message),
-        None => put_own(out, told, actor),
-    }
-}
-
 /// Appends why an action was answered so.
 pub(crate) fn put_reason(out: &mut Vec<u8>, told: &Told) -> Result<(), AllocError> {
     match told.action {
@@ -300,7 +212,10 @@ pub(crate) fn put_reason(out: &mut Vec<u8>, told: &Told) -> Result<(), AllocErro
             &[Part::Number(bytes.as_slice().len() as u64)],
         ),
         Action::Of { agent, act } => match actor_at(told, *agent, act) {
-            Some(actor) => put_actor_reason(out, told, &actor),
+            Some(actor) => match message_of(told) {
+                Some(message) => put_given(out, told, &actor, &message),
+                None => put_own(out, told, &actor),
+            },
             None => put_said(
                 out,
                 b"no agent has the number %: agents count from 0",

@@ -1,10 +1,10 @@
 //! The events that a run handed out so far.
 
-ghost use Rattle.std.specs.Prelude.{◌≡◌, ◌++◌, ◌∷◌, [], drop, map, take, IfOk, IfSome, OnOk};
+ghost use Rattle.std.specs.Prelude.{◌≡◌, ◌++◌, ◌∷◌, [], Some, drop, map, take, true, IfOk, IfSome, OnOk};
 ghost use Rattle.std.specs.List.{find};
-ghost use Rattle.std.specs.Option.{option_copied};
+ghost use Rattle.std.specs.Option.{option_copied, option_map};
 ghost use Rattle.serf_window.specs.Texts.{event_of};
-ghost use Rattle.serf_explain.specs.HandOuts.{IsNoted, NotedAt, is_note, note_in, note_of, notes_in};
+ghost use Rattle.serf_explain.specs.HandOuts.{IsNoted, NotedAt, is_note, note_in, note_of, notes_in, stands_at};
 ghost use Rattle.serf_explain.specs.Left.{texts_told};
 
 use indexmap::IndexMap;
@@ -12,7 +12,7 @@ use serf_model::{EventLine, Line};
 use serf_wire::UserEvent;
 use std::alloc::{AllocError, Global};
 
-/// An event, as it lies in its packet.
+/// The time, the name and the payload of an event, lent from its packet.
 #[derive(Clone, Copy)]
 pub(crate) struct Event<'a> {
     pub(crate) time: u64,
@@ -21,7 +21,7 @@ pub(crate) struct Event<'a> {
 }
 
 impl<'a> Event<'a> {
-    /// The event of a message.
+    /// The event that a message is, decoded to `event`.
     pub(crate) fn of(event: &UserEvent<'a>) -> Event<'a>
         ensures time { result.time ≡ event.now.time }
         ensures name { result.name.now ≡ event.now.name.now }
@@ -34,7 +34,7 @@ impl<'a> Event<'a> {
         }
     }
 
-    /// How many bytes its texts have; the number stops at 2^64 - 1.
+    /// How many bytes the name and the payload have together, at most 2^64 - 1.
     pub(crate) fn bytes(&self) -> u64
         ensures { result ≡ texts_told (event_of self.now.name.now self.now.payload.now) }
     {
@@ -42,14 +42,14 @@ impl<'a> Event<'a> {
     }
 }
 
-/// A time of an agent's events, or of its own queries.
+/// A Lamport time, of the events or of the own queries of the agent number `agent`. (No moment in nanoseconds.)
 #[derive(Clone, Copy, PartialEq, Eq, Hash)]
 pub(crate) struct Moment {
     pub(crate) agent: u64,
     pub(crate) time: u64,
 }
 
-/// An event that was handed to an agent.
+/// An event that was handed to the agent number `agent`.
 #[derive(Drop)]
 pub(crate) struct HandOut {
     /// The number of the action that did it, counted from 1.
@@ -60,12 +60,12 @@ pub(crate) struct HandOut {
     pub(crate) texts: Vec<u8>,
     /// How many bytes the name has.
     pub(crate) name: usize,
-    /// The place of the hand-out before it to the same agent at the same time.
+    /// The index in `HandOuts::outs` of the last hand-out before it to this agent of an event of this time.
     before: Option<usize>,
 }
 
 impl HandOut {
-    /// The event of an event line of this action.
+    /// The hand-out that `event`, a line of the trace, shows of action number `action`.
     fn of(
         alloc: Global,
         action: u64,
@@ -100,7 +100,7 @@ impl HandOut {
         }
     }
 
-    /// Whether this event was handed to this agent.
+    /// Whether this is a hand-out of `event` to agent number `agent`.
     fn hands(&self, agent: u64, event: &Event) -> bool
         ensures { result ≡ is_note agent event.now.time
             (event_of event.now.name.now event.now.payload.now) (note_in self.now) }
@@ -113,22 +113,22 @@ impl HandOut {
     }
 }
 
-/// Where a hand-out stands, and the action that did it.
+/// The index of a hand-out in `HandOuts::outs`, and the number of the action that did it.
 #[derive(Clone, Copy)]
 pub(crate) struct Found {
     pub(crate) place: usize,
     pub(crate) action: u64,
 }
 
-/// All of them, in their order.
+/// All hand-outs of a run so far, in order.
 #[derive(Drop)]
 pub(crate) struct HandOuts {
     pub(crate) outs: Vec<HandOut>,
-    /// The place of the last one to an agent at a time.
+    /// The index in `outs` of the last hand-out to an agent of an event of a time.
     last: IndexMap<Moment, usize>,
 }
 
-/// The first that hands this event to this agent.
+/// The first hand-out of `outs` that is one of `event` to agent number `agent`.
 fn first_in<'a>(outs: &'a [HandOut], agent: u64, event: &Event) -> Option<&'a HandOut>
     ensures { option_copied result ≡ find (λ h. is_note agent event.now.time
         (event_of event.now.name.now event.now.payload.now) (note_in h)) outs.now }
@@ -137,7 +137,7 @@ fn first_in<'a>(outs: &'a [HandOut], agent: u64, event: &Event) -> Option<&'a Ha
 }
 
 impl HandOuts {
-    /// None so far.
+    /// The hand-outs of a run that handed out nothing so far.
     pub(crate) fn new(alloc: Global) -> HandOuts
         ensures { notes_in result.outs.items ≡ [] }
     {
@@ -147,7 +147,7 @@ impl HandOuts {
         }
     }
 
-    /// Remembers an event that an action handed out.
+    /// Remembers that action number `action` handed out `event`, as its line of the trace shows.
     fn note(&mut self, alloc: Global, action: u64, event: &EventLine) -> Result<(), AllocError>
         ensures { OnOk result (notes_in self.new.outs.items ≡ notes_in self.old.outs.items
             ++ note_of action event.now ∷ []) }
@@ -163,7 +163,7 @@ impl HandOuts {
         Ok(())
     }
 
-    /// Remembers all that an action handed out.
+    /// Remembers all events that action number `action` handed out, as `line` shows them.
     pub(crate) fn note_all(
         &mut self,
         alloc: Global,
@@ -179,10 +179,13 @@ impl HandOuts {
         Ok(())
     }
 
-    /// The hand-out at this place, if it is that of this event to this agent.
+    /// The hand-out with the index `place`, if it is one of `event` to agent number `agent`.
     fn found_at(&self, place: usize, agent: u64, event: &Event) -> Option<Found>
-        ensures { IfSome result (λ found. NotedAt (notes_in self.now.outs.items) found.action agent
-            event.now.time (event_of event.now.name.now event.now.payload.now)) }
+        ensures place { stands_at (notes_in self.now.outs.items) place agent event.now.time
+            (event_of event.now.name.now event.now.payload.now) ≡ true
+            → option_map (λ found. found.place) result ≡ Some place }
+        ensures noted { IfSome result (λ found. NotedAt (notes_in self.now.outs.items) found.action
+            agent event.now.time (event_of event.now.name.now event.now.payload.now)) }
     {
         let out = self.outs.get(place)?;
         if !out.hands(agent, event) {
@@ -194,7 +197,7 @@ impl HandOuts {
         })
     }
 
-    /// The last action that handed this event to this agent, found by its time.
+    /// The last hand-out of `event` to agent number `agent`, found among those of its time from the last one back.
     fn last_of(&self, agent: u64, event: &Event) -> Option<Found>
         ensures { IfSome result (λ found. NotedAt (notes_in self.now.outs.items) found.action agent
             event.now.time (event_of event.now.name.now event.now.payload.now)) }
@@ -215,10 +218,13 @@ impl HandOuts {
         None
     }
 
-    /// The hand-out of this event to this agent: the one at this place, if it is that, or else the last one.
+    /// A hand-out of `event` to agent number `agent`: the one with the index `place`, if it is one, or else the last one.
     pub(crate) fn found_near(&self, place: usize, agent: u64, event: &Event) -> Option<Found>
-        ensures { IfSome result (λ found. NotedAt (notes_in self.now.outs.items) found.action agent
-            event.now.time (event_of event.now.name.now event.now.payload.now)) }
+        ensures place { stands_at (notes_in self.now.outs.items) place agent event.now.time
+            (event_of event.now.name.now event.now.payload.now) ≡ true
+            → option_map (λ found. found.place) result ≡ Some place }
+        ensures noted { IfSome result (λ found. NotedAt (notes_in self.now.outs.items) found.action
+            agent event.now.time (event_of event.now.name.now event.now.payload.now)) }
     {
         match self.found_at(place, agent, event) {
             Some(found) => Some(found),
@@ -226,7 +232,7 @@ impl HandOuts {
         }
     }
 
-    /// The first action that handed this event to this agent, found in the list of all.
+    /// The number of the first action that handed `event` to agent number `agent`, found in the list of all hand-outs.
     fn first_of(&self, agent: u64, event: &Event) -> Option<u64>
         ensures { IsNoted (notes_in self.now.outs.items)
             agent event.now.time (event_of event.now.name.now event.now.payload.now) result }
@@ -237,7 +243,7 @@ impl HandOuts {
         }
     }
 
-    /// An action that handed this event to this agent, if one did.
+    /// The number of an action that handed `event` to agent number `agent`, if one did.
     pub(crate) fn action_of(&self, agent: u64, event: &Event) -> Option<u64>
         ensures { IsNoted (notes_in self.now.outs.items)
             agent event.now.time (event_of event.now.name.now event.now.payload.now) result }

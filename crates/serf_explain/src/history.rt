@@ -1,10 +1,11 @@
-//! A run so far.
+//! What is remembered of a run so far.
 
 ghost use Rattle.std.specs.Prelude.{◌≡◌, ◌++◌, ◌+◌, ◌∷◌, [], List, ℕ, length, map, OnOk};
 ghost use Rattle.serf_model.specs.Cluster.{Cluster, step};
 ghost use Rattle.serf_world.specs.View.{IsViewed};
 ghost use Rattle.serf_explain.specs.HandOuts.{note_of, notes_in};
 ghost use Rattle.serf_explain.specs.Leaving.{HoldMarks, first_numbers, numbers_of};
+ghost use Rattle.serf_explain.specs.Remembered.{Remembers, RemembersNothing};
 
 use crate::hand_outs::HandOuts;
 use crate::marks::AllMarks;
@@ -23,10 +24,11 @@ pub(crate) struct History {
 }
 
 impl History {
-    /// A run of no action. Takes no memory.
+    /// What is remembered of a run of no action. Takes no memory.
     pub(crate) fn new(alloc: Global) -> History
         ensures notes { notes_in result.hand_outs.outs.items ≡ [] }
         ensures marks { (a : ℕ) → numbers_of result.marks a ≡ first_numbers }
+        ensures memory { RemembersNothing result.memory }
     {
         History {
             hand_outs: HandOuts::new(alloc),
@@ -35,7 +37,7 @@ impl History {
         }
     }
 
-    /// Remembers what came of an action.
+    /// Remembers `action`, of the number `number`, with its `line` of the trace; `world` is the cluster after it.
     pub(crate) fn note(
         &mut self,
         alloc: Global,
@@ -50,6 +52,8 @@ impl History {
             → IsViewed (step c action.now).cluster world.now → number ≡ length before + 1
             → OnOk result
             (HoldMarks (before ++ c ∷ []) (step c action.now).cluster self.new.marks) }
+        ensures memory { OnOk result (Remembers world.now number action.now line.now.answer
+            self.old.memory self.new.memory) }
     {
         self.memory.note(alloc, world, number, action, line)?;
         self.marks.note(world, number, action)?;

@@ -4,17 +4,16 @@ ghost use Rattle.std.specs.Prelude.{◌≡◌, ◌++◌, OnOk};
 ghost use Rattle.serf_explain.specs.Leaving.{took_words, uncounted_words};
 
 use crate::left::{Takes, first_words, put_left};
-use crate::memory::{Asked, Ended};
+use crate::memory::{Ended, open_query};
 use crate::quoted::{Part, put_quoted, put_said, say};
 use crate::told::{Actor, Told, moment_of};
 use serf_agent::Reason;
-use serf_lamport::Time;
 use serf_text::put_number;
 use serf_wire::{Message, Query, QueryResponse};
 use std::alloc::AllocError;
 
-/// Appends at which action a query entered an agent of this name before, if that is known; or that the agent, which keeps its events
-/// then, was opened on a text with its line.
+/// Appends that a query entered the agent `name` before, at action number `entered` if that is known; or else, where the
+/// agent `keeps` events, that it was opened on a text with the query's line.
 #[tactic(auto, unfolding(crate::specs::Leaving::took_words))]
 fn put_took(
     out: &mut Vec<u8>,
@@ -38,7 +37,7 @@ fn put_took(
     }
 }
 
-/// Appends why a query that was delivered is ignored.
+/// Appends `reason`, why `query`, which was delivered, is ignored.
 fn put_query_ignored(
     out: &mut Vec<u8>,
     told: &Told,
@@ -59,8 +58,17 @@ fn put_query_ignored(
     put_left(out, &takes, b"query", time, 0, reason)
 }
 
-/// Appends which query an agent asked at a time, and how that ended.
-fn put_ended(out: &mut Vec<u8>, asked: &Asked, time: u64) -> Result<(), AllocError> {
+/// Appends why no query of an agent's own takes answers at a time: it asked none, or how that ended.
+fn put_not_open(
+    out: &mut Vec<u8>,
+    told: &Told,
+    actor: &Actor,
+    time: u64,
+) -> Result<(), AllocError> {
+    put_quoted(out, actor.agent.config().name.as_slice())?;
+    let Some(asked) = told.past.memory.asked_at(actor.number, time) else {
+        return say(out, b" never asked a query of time ", time);
+    };
     say(out, b" asked query ", time)?;
     say(out, b" at action ", asked.action)?;
     match asked.ended {
@@ -70,21 +78,7 @@ fn put_ended(out: &mut Vec<u8>, asked: &Asked, time: u64) -> Result<(), AllocErr
     }
 }
 
-/// Appends why no query of an agent's own takes answers at a time.
-fn put_not_open(
-    out: &mut Vec<u8>,
-    told: &Told,
-    actor: &Actor,
-    time: u64,
-) -> Result<(), AllocError> {
-    put_quoted(out, actor.agent.config().name.as_slice())?;
-    match told.past.memory.asked_at(actor.number, time) {
-        None => say(out, b" never asked a query of time ", time),
-        Some(asked) => put_ended(out, &asked, time),
-    }
-}
-
-/// What is said of an open query where an answer to it is ignored, before a number or a name.
+/// The words of `reason`, why an answer to an open query is ignored, before a number or a name.
 fn uncounted_words(reason: Reason) -> &'static [u8]
     ensures { result.now ≡ uncounted_words reason }
 {
@@ -97,18 +91,14 @@ fn uncounted_words(reason: Reason) -> &'static [u8]
     }
 }
 
-/// Appends why an answer to a query that is open is ignored.
+/// Appends `reason`, why `answer`, to a query that is open, is ignored.
 fn put_answer_reason(
     out: &mut Vec<u8>,
     actor: &Actor,
     answer: &QueryResponse,
     reason: Reason,
 ) -> Result<(), AllocError> {
-    let open = match Time::new(answer.time) {
-        Some(time) => actor.agent.open_query(time),
-        None => None,
-    };
-    let Some(open) = open else {
+    let Some(open) = open_query(actor.agent, answer.time) else {
         return out.extend_from_slice(b"no query of its time is open");
     };
     say(out, b"query ", answer.time)?;

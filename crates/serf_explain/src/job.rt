@@ -1,19 +1,25 @@
-//! The whole job: a schedule in, its trace with its reasons out.
+//! The whole job: a schedule in, its trace with its reasons out; at once, or line by line.
 
 ghost use Rattle.std.specs.Prelude.{◌≡◌, ◌<◌, ◌≤◌, ◌+◌, List, ℕ, Err, length, IfOk, IfErr, IfSome, IsErrOf};
-ghost use Rattle.std.specs.Io.KnownBytes.{Appends, Consumes};
+ghost use Rattle.std.specs.Io.KnownBytes.{Appends, Consumes, IsAtEnd};
 ghost use Rattle.serf_text.specs.Io.{AppendsFront};
 ghost use Rattle.serf_schedule.specs.Output.{output_of};
 ghost use Rattle.serf_explain.specs.Explained.{Explains};
+ghost use Rattle.serf_explain.specs.Range.{all_actions};
+ghost use Rattle.serf_explain.specs.Streamed.{IsHalted};
 
 use crate::range::Range;
 use crate::reasoning::Reasoning;
-use serf_schedule::{ReplayFault, ScheduleFault, Watch, Watched, parse_schedule, tell_schedule};
-use serf_text::{Cause, InputFault, MAX_SCHEDULE_BYTES, read_input, write_output};
+use serf_schedule::{
+    ReplayFault, Run, ScheduleFault, Watch, Watched, parse_schedule, tell_schedule,
+};
+use serf_text::{
+    Cause, InputFault, MAX_SCHEDULE_BYTES, StreamFault, read_input, tell_lines, write_output,
+};
 use std::alloc::Global;
 use std::io::{Read, Write};
 
-/// The text of a schedule's run with its reasons, and how many actions the schedule has.
+/// The trace of the schedule that `input` spells, with the reasons of the actions in `range`, and how many actions it has.
 fn output_text<T: Watch>(
     alloc: Global,
     input: Vec<u8>,
@@ -85,5 +91,42 @@ pub fn explain<R: Read, W: Write, T: Watch>(
     match write_output(writer, &text) {
         Ok(()) => Ok(count),
         Err(_) => Err(ReplayFault::WriteFault),
+    }
+}
+
+/// All actions are explained.
+const ALL: Range = Range {
+    agent: None,
+    from: 1,
+    to: u64::MAX,
+};
+
+/// Reads a schedule line by line, and writes the trace of its cluster with its reasons: each line is read, done, written
+/// and dropped. The answer is how many actions the schedule has.
+///
+/// What is written is just what [`explain`] writes of all actions, and a line that is refused there is refused
+/// here, after the text of the lines before it. There is no limit on the whole; a line may have 16,777,216 bytes. What is
+/// told of the lines that are over is written before more is read. What is kept is the line that is read, the cluster,
+/// with all packets that were sent, and what reasons name: a few numbers for each agent, each event that was handed out,
+/// and each query that entered an agent or was asked. So memory grows with these, and not with the actions.
+pub fn explain_lines<R: Read, W: Write>(
+    alloc: Global,
+    reader: &mut R,
+    writer: &mut W,
+) -> Result<u64, StreamFault<Cause>>
+    // Just the text of the whole was written.
+    ensures done { IfOk result (λ count. (bytes text : List ℕ)
+        × Consumes (R.remaining reader.old) (R.remaining reader.new) bytes
+        × IsAtEnd (R.remaining reader.new) × Explains all_actions bytes text count
+        × Appends (W.contents writer.old) (W.contents writer.new) text) }
+    // Of the lines that were read some were done, and the text of these was written; a prefix of it where a write failed.
+    ensures stopped { IfErr result (λ fault. (bytes : List ℕ)
+        × Consumes (R.remaining reader.old) (R.remaining reader.new) bytes
+        × IsHalted fault bytes (W.contents writer.old) (W.contents writer.new)) }
+{
+    let mut run = Run::new(alloc, Reasoning::new(alloc, ALL));
+    match tell_lines(alloc, reader, writer, &mut run) {
+        Ok(()) => Ok(run.turns()),
+        Err(fault) => Err(fault),
     }
 }

@@ -25,7 +25,7 @@ use serf_window::{EventWindow, Verdict, Window, slot_laws};
 use serf_wire::{EventView, LentEventSlots, LentSlot};
 use std::alloc::{AllocError, Global};
 
-/// What becomes of an agent in a merge: its event clock, the least time that it takes, and what entered it in the merge.
+/// What an agent is like in a merge that is judged: its event clock, its minimum of events, and what entered it so far.
 #[derive(Drop)]
 pub(crate) struct Judge {
     pub(crate) clock: u64,
@@ -33,7 +33,7 @@ pub(crate) struct Judge {
     entered: EventWindow,
 }
 
-/// How many events of a time these slots hold.
+/// How many events of `time` the `slots` of a buffer hold.
 fn count_of(slots: LentEventSlots, time: u64) -> usize
     ensures { result ≡ count_in (map slot_view (slots_lent slots.entry)) time }
 {
@@ -53,14 +53,14 @@ fn count_of(slots: LentEventSlots, time: u64) -> usize
     }
 }
 
-/// The least time that a state asks for: its event clock, where who joins ignores old events.
+/// The minimum that a merged state asks for: `clock`, its event clock, in a join that ignores old events, and else 0.
 fn least(is_join: bool, ignore_old: bool, clock: u64) -> u64
     ensures { result ≡ if is_join && ignore_old then clock else 0 }
 {
     if is_join && ignore_old { clock } else { 0 }
 }
 
-/// The time of this number, where it is below a clock.
+/// The number `time` as a time: it is one where it is below `clock`, since 2^64 - 1 alone is none.
 fn time_below(time: u64, clock: u64) -> Option<Time>
     ensures { time < clock → result ≡ Some time }
 {
@@ -70,7 +70,7 @@ fn time_below(time: u64, clock: u64) -> Option<Time>
     }
 }
 
-/// Whether a verdict is that the same entered before.
+/// Whether `verdict` says that the event entered before.
 fn is_seen(verdict: Verdict) -> bool
     ensures { result ≡ is_seen verdict }
 {
@@ -81,7 +81,7 @@ fn is_seen(verdict: Verdict) -> bool
 }
 
 impl Judge {
-    /// What becomes of an agent that hears of another's event clock.
+    /// The judge of a merge into `agent`, before its first event: `clock` is the event clock of the state.
     pub(crate) fn new(
         alloc: Global,
         agent: &Agent<MemSink>,
@@ -104,7 +104,7 @@ impl Judge {
         })
     }
 
-    /// The least time of events that the agent takes behind the merge, where that is above what it takes before it.
+    /// The minimum of events after the merge, where it is above that of `agent`, which is as it was before the merge.
     pub(crate) fn raised(&self, agent: &Agent<MemSink>) -> Option<u64>
         ensures { (i j : IdealAgent) → agent.now.concrete ≡ view_of i → IsJudging i j self.now
             → result ≡ raised_least i j }
@@ -117,7 +117,7 @@ impl Judge {
         }
     }
 
-    /// Whether as many events of a time as are taken entered before the merge and in it.
+    /// Whether as many events of `time` as are taken of one time entered: before the merge, and in it, together.
     fn is_full(&self, agent: &Agent<MemSink>, time: u64) -> bool
         ensures { result ≡ nat_le
             (agent.now.concrete.config.per_time - count_in agent.now.concrete.events.slots time)
@@ -128,8 +128,8 @@ impl Judge {
         left <= count_of(self.entered.slots(), time) as u64
     }
 
-    /// The verdict on an event of this time, made of three: that by what entered before the merge, that by what entered in
-    /// it, and whether both together are as many of its time as are taken.
+    /// The verdict on an event of `time`, made of three: `before`, that by what entered before the merge; `entered`, that
+    /// by what entered in it; and whether both together are as many of its time as are taken.
     fn both(
         &self,
         agent: &Agent<MemSink>,
@@ -170,6 +170,7 @@ impl Judge {
         ensures not_full { result ≡ None
             → count_in self.now.entered.slots time < self.now.entered.per_time }
     {
+        // for the prover: what the slots of a window hold
         slot_laws();
         let texts = event.name.len().saturating_add(event.payload.len());
         if texts > LONGEST_TEXTS {
@@ -195,6 +196,7 @@ impl Judge {
             × IsJudging i (after_event j (record { time = time; key = event_of_view event.now }))
             self.new) }
     {
+        // for the prover: what the slots of a window hold
         slot_laws();
         match self.reason(agent, time, event) {
             Some(reason) => {
@@ -208,12 +210,13 @@ impl Judge {
         }
     }
 
-    /// Whether an event that was seen entered in the merge, and not before it.
+    /// Whether `event`, which was seen, entered in the merge, and not before it.
     pub(crate) fn took(&self, event: &Event) -> bool
         ensures { (i j : IdealAgent) → IsJudging i (after_event j (event_as event.now)) self.now
             → admission j event.now.time (event_as event.now).key ≡ Some Reason.Seen
             → result ≡ entered_since (length i.events.history) j (event_as event.now) }
     {
+        // for the prover: what the slots of a window hold
         slot_laws();
         match time_below(event.time, self.clock) {
             Some(time) => {
@@ -227,6 +230,7 @@ impl Judge {
         }
     }
 
+    /// Makes the clock later than `time`.
     fn observe(&mut self, time: Time)
         ensures clock { self.new.clock ≡ observed self.old.clock time }
         ensures minimum { self.new.minimum ≡ self.old.minimum }

@@ -1,4 +1,4 @@
-//! What is said of an event, or of a query, that an agent left: beside its first words.
+//! Why an agent ignored an event, or a query: what is said of its minimum, its clock and its buffer.
 
 ghost use Rattle.std.specs.Prelude.{◌≡◌, ◌++◌, OnOk};
 ghost use Rattle.serf_explain.specs.Left.{below_words, first_words, full_words, mark_words, oversize_words, since_words, too_old_words};
@@ -11,20 +11,20 @@ use serf_snap::MemSink;
 use serf_text::put_number;
 use std::alloc::AllocError;
 
-/// What an agent takes as something comes to it: of events, or of queries.
+/// By what an agent decides whether it takes an event, or a query, as it comes.
 #[derive(Clone, Copy)]
 pub(crate) struct Takes {
-    /// The least time, and since when it is that.
+    /// The minimum, and since which action it is that.
     pub(crate) least: Mark,
     pub(crate) clock: u64,
-    /// How many times the buffer has.
+    /// How many slots the buffer has, each for one time.
     pub(crate) slots: u64,
-    /// How many are taken of one time.
+    /// How many events, or queries, are taken of one time.
     pub(crate) per_time: u64,
 }
 
 impl Takes {
-    /// Of events, behind the action of this number; before it the least time was this.
+    /// What `agent` takes of events after action number `action`; `before` is the mark of its minimum before it.
     pub(crate) fn events(agent: &Agent<MemSink>, before: &Mark, action: u64) -> Takes
         ensures { result ≡ takes_events before.now agent.now.concrete action }
     {
@@ -37,7 +37,7 @@ impl Takes {
         }
     }
 
-    /// Of queries.
+    /// What `agent` takes of queries after action number `action`; `before` is the mark of its minimum before it.
     pub(crate) fn queries(agent: &Agent<MemSink>, before: &Mark, action: u64) -> Takes
         ensures { result ≡ takes_queries before.now agent.now.concrete action }
     {
@@ -51,7 +51,7 @@ impl Takes {
     }
 }
 
-/// Appends how many bytes an event has, and that these are too many.
+/// Appends that an event's name and payload have `bytes` bytes together, and that these are too many.
 #[tactic(auto, unfolding(crate::specs::Left::oversize_words))]
 fn put_oversize(out: &mut Vec<u8>, bytes: u64) -> Result<(), AllocError>
     ensures { OnOk result (out.new.items ≡ out.old.items ++ oversize_words bytes) }
@@ -60,7 +60,7 @@ fn put_oversize(out: &mut Vec<u8>, bytes: u64) -> Result<(), AllocError>
     out.extend_from_slice(b" bytes together, more than 9216")
 }
 
-/// Appends since which action something stands.
+/// Appends that a value stands since action number `since`, or where that is 0 since the start.
 #[tactic(auto, unfolding(crate::specs::Left::since_words))]
 fn put_since(out: &mut Vec<u8>, since: u64) -> Result<(), AllocError>
     ensures { OnOk result (out.new.items ≡ out.old.items ++ since_words since) }
@@ -72,7 +72,7 @@ fn put_since(out: &mut Vec<u8>, since: u64) -> Result<(), AllocError>
     }
 }
 
-/// Appends a number, and since which action it stands.
+/// Appends the value of `mark`, and since which action it stands.
 #[tactic(auto, unfolding(crate::specs::Left::mark_words))]
 pub(crate) fn put_mark(out: &mut Vec<u8>, mark: &Mark) -> Result<(), AllocError>
     ensures { OnOk result (out.new.items
@@ -92,7 +92,7 @@ fn put_below(out: &mut Vec<u8>, time: u64, slots: u64) -> Result<(), AllocError>
     Ok(())
 }
 
-/// Appends why a time is below the window.
+/// Appends that `time` is too old: more than `slots` times below `clock`, the `name` clock (`event` or `query`).
 #[tactic(auto, unfolding(crate::specs::Left::too_old_words))]
 fn put_too_old(
     out: &mut Vec<u8>,
@@ -109,7 +109,7 @@ fn put_too_old(
     say(out, b" clock ", clock)
 }
 
-/// Appends that a time has as many as are taken.
+/// Appends that `per_time` events, or queries, of `time` were taken, as many as are taken of one time.
 #[tactic(auto, unfolding(crate::specs::Left::full_words))]
 fn put_full(out: &mut Vec<u8>, per_time: u64, time: u64) -> Result<(), AllocError>
     ensures { OnOk result (out.new.items ≡ out.old.items ++ full_words per_time time) }
@@ -122,7 +122,7 @@ fn put_full(out: &mut Vec<u8>, per_time: u64, time: u64) -> Result<(), AllocErro
     )
 }
 
-/// What is said first of something that was delivered and left.
+/// The first words of `reason`, why an event or a query that was delivered is ignored.
 pub(crate) fn first_words(reason: Reason) -> &'static [u8]
     ensures { result.now ≡ first_words reason }
 {
@@ -132,8 +132,8 @@ pub(crate) fn first_words(reason: Reason) -> &'static [u8]
     }
 }
 
-/// Appends why something of this time, whose texts have so many bytes, is left, by what its agent takes: an event, or a
-/// query, as `name` says.
+/// Appends the words of `reason` after its first ones: why an event, or a query, as `name` says, is ignored. Its time is
+/// `time`, its texts have `bytes` bytes, and its agent takes `takes`.
 pub(crate) fn put_left(
     out: &mut Vec<u8>,
     takes: &Takes,

@@ -3,7 +3,6 @@
 #![tactic(auto)]
 
 mod answers;
-mod because;
 mod hand_outs;
 mod history;
 mod ignored;
@@ -20,9 +19,7 @@ mod reasoning;
 mod reasons;
 mod refusals;
 mod seen;
-mod streaming;
 mod told;
 
-pub use job::explain;
+pub use job::{explain, explain_lines};
 pub use range::Range;
-pub use streaming::explain_lines;

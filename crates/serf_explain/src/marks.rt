@@ -1,12 +1,12 @@
-//! Since which action each agent's clocks and least times are what they are, and what its disk has.
+//! Marks: what each agent's clocks and minimums are, and since which action; and what is known of its disk.
 
-ghost use Rattle.std.specs.Prelude.{◌≡◌, ◌++◌, ◌+◌, ◌∷◌, [], List, ℕ, OnOk, Some, length, nat_eq, if◌then◌else◌};
+ghost use Rattle.std.specs.Prelude.{◌≡◌, ◌++◌, ◌+◌, ◌∷◌, [], List, ℕ, OnOk, length};
 ghost use Rattle.std.specs.Option.{option_copied};
-ghost use Rattle.indexmap.specs.IndexMap.{get};
 ghost use Rattle.serf_model.specs.Cluster.{Cluster, step};
 ghost use Rattle.serf_world.specs.View.{IsViewed};
-ghost use Rattle.serf_explain.specs.Leaving.{HoldMarks, IsLooked, first_mark, first_numbers, mark_behind, marks_or_first, numbers_behind, numbers_of};
+ghost use Rattle.serf_explain.specs.Leaving.{HoldMarks, IsLooked, bytes_kept, first_mark, first_numbers, mark_behind, marks_or_first, numbers_behind, numbers_of};
 
+use crate::memory::set;
 use indexmap::IndexMap;
 use serf_agent::Agent;
 use serf_model::{Act, Action, SinkCall};
@@ -14,7 +14,7 @@ use serf_snap::MemSink;
 use serf_world::World;
 use std::alloc::{AllocError, Global};
 
-/// A number, and the action since which it has this value; action 0 is the start.
+/// The value of a clock or a minimum, and the number of the action since which it has it; 0 is the start of the run.
 #[derive(Clone, Copy)]
 pub(crate) struct Mark {
     pub(crate) value: u64,
@@ -22,14 +22,14 @@ pub(crate) struct Mark {
 }
 
 impl Mark {
-    /// That of a clock, and of a least time, with which the first life of each agent begins.
+    /// The mark of each clock and each minimum as an agent's first life begins: 1, since the start.
     fn first() -> Mark
         ensures { result ≡ first_mark }
     {
         Mark { value: 1, since: 0 }
     }
 
-    /// The mark once the number is this, behind the action of this number.
+    /// The mark after action number `action`, where the value is `value` then.
     pub(crate) fn behind(&self, value: u64, action: u64) -> Mark
         ensures { result ≡ mark_behind self.now value action }
     {
@@ -44,7 +44,7 @@ impl Mark {
     }
 }
 
-/// An agent's clocks and least times after the last action, and since when they stand.
+/// An agent's clocks and minimums after the last action, and since which action each has its value.
 #[derive(Clone, Copy)]
 pub(crate) struct Numbers {
     pub(crate) event_clock: Mark,
@@ -54,7 +54,7 @@ pub(crate) struct Numbers {
 }
 
 impl Numbers {
-    /// The numbers of an agent that has done nothing.
+    /// The clocks and minimums of an agent that has done nothing.
     fn first() -> Numbers
         ensures { result ≡ first_numbers }
     {
@@ -67,7 +67,7 @@ impl Numbers {
         }
     }
 
-    /// The numbers of this agent, behind the action of this number.
+    /// The clocks and minimums of `agent` after its action number `action`.
     fn behind(&self, agent: &Agent<MemSink>, action: u64) -> Numbers
         ensures { result ≡ numbers_behind self.now agent.now.concrete action }
     {
@@ -80,13 +80,15 @@ impl Numbers {
     }
 }
 
-/// A planned failure: the number of the call, counted from 1 at the action that planned it; 0 where none was planned.
+/// A planned failure: `count` is the number of the disk call that fails, from 1 on since action number `action`, which
+/// planned it; 0 where none was planned.
 #[derive(Clone, Copy)]
 pub(crate) struct Plan {
     pub(crate) count: u64,
     pub(crate) action: u64,
 }
 
+/// No failure is planned.
 const NO_PLAN: Plan = Plan {
     count: 0,
     action: 0,
@@ -98,11 +100,19 @@ pub(crate) struct Marks {
     pub(crate) numbers: Numbers,
     /// How many bytes its disk keeps.
     pub(crate) durable: usize,
-    /// The action at which it was stopped, while it is; 0 where it runs.
+    /// The number of the action at which it was stopped, while it is; 0 where it runs.
     pub(crate) stopped: u64,
+    /// The failure that is planned of each kind of disk call.
     pub(crate) append: Plan,
     pub(crate) flush: Plan,
     pub(crate) replace: Plan,
+}
+
+/// How many bytes an agent's disk keeps.
+pub(crate) fn bytes_kept(agent: &Agent<MemSink>) -> usize
+    ensures { result ≡ bytes_kept agent.now.concrete }
+{
+    agent.sink().durable().len()
 }
 
 impl Marks {
@@ -120,7 +130,7 @@ impl Marks {
         }
     }
 
-    /// Since which action the agent is stopped; 0 where it runs.
+    /// The number of the action since which `agent` is stopped, after its action number `action`; 0 where it runs.
     fn stopped_behind(&self, agent: &Agent<MemSink>, action: u64) -> u64 {
         if !agent.is_stopped() {
             0
@@ -131,13 +141,13 @@ impl Marks {
         }
     }
 
-    /// What this agent is like, behind the action of this number.
+    /// The marks of `agent` after its action number `action`.
     fn behind(&self, agent: &Agent<MemSink>, action: u64) -> Marks
         ensures { result.numbers ≡ numbers_behind self.now.numbers agent.now.concrete action }
     {
         Marks {
             numbers: self.numbers.behind(agent, action),
-            durable: agent.sink().durable().len(),
+            durable: bytes_kept(agent),
             stopped: self.stopped_behind(agent, action),
             append: self.append,
             flush: self.flush,
@@ -145,7 +155,7 @@ impl Marks {
         }
     }
 
-    /// Remembers the failures that were planned, or that a restart took back, at the action of this number.
+    /// Remembers the failure that `act`, action number `number`, planned; a restart takes all back.
     fn plan(&mut self, act: &Act, number: u64)
         ensures { self.new.numbers ≡ self.old.numbers }
     {
@@ -171,7 +181,7 @@ impl Marks {
     }
 }
 
-/// What is found of an agent, or that it has done nothing.
+/// The marks that were found of an agent, or else those of one that has done nothing.
 fn found_or_first(found: Option<&Marks>) -> Marks
     ensures { result.numbers ≡ marks_or_first (option_copied found.entry) }
 {
@@ -181,14 +191,14 @@ fn found_or_first(found: Option<&Marks>) -> Marks
     }
 }
 
-/// What each agent was like after the last action; none that has done nothing.
+/// The marks of each agent after the last action, by its number; none of an agent that has done nothing.
 #[derive(Drop)]
 pub(crate) struct AllMarks {
     agents: IndexMap<u64, Marks>,
 }
 
 impl AllMarks {
-    /// No agent has done anything. Takes no memory.
+    /// The marks of a run in which no agent has done anything. Takes no memory.
     pub(crate) fn new(alloc: Global) -> AllMarks
         ensures { (a : ℕ) → numbers_of result a ≡ first_numbers }
     {
@@ -197,22 +207,11 @@ impl AllMarks {
         }
     }
 
-    /// What the agent of this number was like.
+    /// The marks of agent number `agent`.
     pub(crate) fn of(&self, agent: u64) -> Marks
         ensures { result.numbers ≡ numbers_of self.now agent }
     {
         found_or_first(self.agents.get(&agent))
-    }
-
-    /// Sets the marks of an agent.
-    fn set(&mut self, agent: u64, marks: Marks) -> Result<(), AllocError>
-        ensures { OnOk result ((a : ℕ) → get nat_eq self.new.agents a
-            ≡ if nat_eq agent a then Some marks else get nat_eq self.old.agents a) }
-    {
-        match self.agents.insert(agent, marks) {
-            Ok(_) => Ok(()),
-            Err(_) => Err(AllocError),
-        }
     }
 
     /// Looks at this agent, behind its action of this number.
@@ -228,10 +227,10 @@ impl AllMarks {
     {
         let mut marks = self.of(actor).behind(agent, number);
         marks.plan(act, number);
-        self.set(actor, marks)
+        set(&mut self.agents, actor, marks)
     }
 
-    /// Looks at the agent of an action again, which was done in this world.
+    /// Remembers the marks of the agent that did `action`, of the number `number`; `world` is the cluster after it.
     pub(crate) fn note(
         &mut self,
         world: &World,

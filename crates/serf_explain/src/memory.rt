@@ -1,15 +1,27 @@
 //! What is remembered of queries, so that later reasons can name earlier actions.
 
+ghost use Rattle.std.specs.Prelude.{◌≡◌, ◌++◌, ◌∷◌, [], OnOk, Some, filter, if◌then◌else◌};
+ghost use Rattle.std.specs.Option.{option_copied};
+ghost use Rattle.indexmap.specs.IndexMap.{get};
+ghost use Rattle.serf_wire.specs.Message.{message_of};
+ghost use Rattle.serf_model.specs.Trace.{packet_given};
+ghost use Rattle.serf_explain.specs.Noted.{message_given};
+ghost use Rattle.serf_explain.specs.Remembered.{Remembers, RemembersNothing, asked_behind, ended_among, entered_behind, open_at, pending_with, query_new, query_of, query_read, same_moment, same_query, stays_open};
+
 use crate::hand_outs::Moment;
+use crate::told::message_given;
 use indexmap::IndexMap;
+use serf_agent::{Agent, OpenQuery};
 use serf_lamport::Time;
 use serf_model::{Act, Action, Answer, Line};
-use serf_wire::{Message, decode};
+use serf_snap::MemSink;
+use serf_wire::Message;
 use serf_world::World;
 use std::alloc::{AllocError, Global};
+use std::hash::Hash;
 use std::mem;
 
-/// A query that entered an agent.
+/// A query that entered the agent number `agent`: its time and its ID.
 #[derive(Clone, Copy, PartialEq, Eq, Hash)]
 pub(crate) struct QueryKey {
     pub(crate) agent: u64,
@@ -20,71 +32,165 @@ pub(crate) struct QueryKey {
 /// How an agent's own query ended.
 #[derive(Clone, Copy)]
 pub(crate) enum Ended {
+    /// It is open.
     Not,
-    /// It was closed at this action.
+    /// It was closed, at the action of this number.
     Closed(u64),
-    /// The agent was opened again at this action.
+    /// It was lost as its agent was opened again, at the action of this number.
     Lost(u64),
 }
 
-/// A query that an agent fired at an action.
+/// The number of the action at which an agent fired a query, and how the query ended.
 #[derive(Clone, Copy)]
 pub(crate) struct Asked {
     pub(crate) action: u64,
     pub(crate) ended: Ended,
 }
 
-/// The queries of a run.
+/// What is remembered of the queries of a run.
 #[derive(Drop)]
 pub(crate) struct Memory {
-    /// The actions at which queries entered.
+    /// The number of the last action at which each query entered its agent.
     queries: IndexMap<QueryKey, u64>,
-    /// The queries that agents fired.
+    /// The query that each agent fired at each time.
     asked: IndexMap<Moment, Asked>,
     /// Those of them that are open.
-    open: Vec<Moment>,
+    pending: Vec<Moment>,
+}
+
+/// Sets what a map has at a key.
+pub(crate) fn set<K: Eq + Hash + Drop, V: Drop>(
+    map: &mut IndexMap<K, V>,
+    key: K,
+    value: V,
+) -> Result<(), AllocError>
+    ensures { OnOk result ((k : K) → get K.eq map.new k
+        ≡ if K.eq key k then Some value else get K.eq map.old k) }
+{
+    match map.insert(key, value) {
+        Ok(_) => Ok(()),
+        Err(_) => Err(AllocError),
+    }
+}
+
+/// The query that a message brings to this agent.
+fn query_read(agent: u64, message: &Message) -> Option<QueryKey>
+    ensures { result ≡ query_read agent (Some (message_of message.now)) }
+{
+    match message {
+        Message::Query(query) => Some(QueryKey {
+            agent,
+            time: query.time.get(),
+            id: query.id,
+        }),
+        Message::UserEvent(_)
+        | Message::QueryResponse(_)
+        | Message::PushPull(_)
+        | Message::Foreign(_) => None,
+    }
+}
+
+/// The query that an action brings to its agent, where the answer is that it was new.
+fn query_new(world: &World, action: &Action, agent: u64, answer: Answer) -> Option<QueryKey>
+    ensures { result ≡ query_new agent answer
+        (message_given (packet_given world.now.sent action.now)) }
+{
+    let Answer::Query = answer else {
+        return None;
+    };
+    match message_given(action, world.sent()) {
+        Some(message) => query_read(agent, &message),
+        None => None,
+    }
+}
+
+/// An agent's own query of this time, while it is open.
+pub(crate) fn open_query(agent: &Agent<MemSink>, time: u64) -> Option<&OpenQuery>
+    ensures { option_copied result ≡ open_at time agent.now.concrete.asked }
+{
+    agent.open_query(Time::new(time)?)
+}
+
+/// Whether a query that was open is open behind an action of this agent.
+fn stays_open(world: &World, agent: u64, moment: Moment) -> bool
+    ensures { result ≡ stays_open world.now agent moment }
+{
+    if moment.agent != agent {
+        return true;
+    }
+    match world.agent(moment.agent) {
+        Some(agent) => open_query(agent, moment.time).is_some(),
+        None => false,
+    }
 }
 
 impl Memory {
     /// Remembers nothing. Takes no memory.
-    pub(crate) fn new(alloc: Global) -> Memory {
+    pub(crate) fn new(alloc: Global) -> Memory
+        ensures { RemembersNothing result }
+    {
         Memory {
             queries: IndexMap::new(alloc),
             asked: IndexMap::new(alloc),
-            open: Vec::new(alloc),
+            pending: Vec::new(alloc),
         }
     }
 
     /// The action at which a query entered an agent.
-    pub(crate) fn entered_at(&self, agent: u64, time: u64, id: u32) -> Option<u64> {
+    pub(crate) fn entered_at(&self, agent: u64, time: u64, id: u32) -> Option<u64>
+        ensures { result ≡ get same_query self.now.queries
+            (record { agent = agent; time = time; id = id }) }
+    {
         self.queries.get(&QueryKey { agent, time, id }).copied()
     }
 
     /// The query that an agent fired at a time.
-    pub(crate) fn asked_at(&self, agent: u64, time: u64) -> Option<Asked> {
+    pub(crate) fn asked_at(&self, agent: u64, time: u64) -> Option<Asked>
+        ensures { result ≡ get same_moment self.now.asked (record { agent = agent; time = time }) }
+    {
         self.asked.get(&Moment { agent, time }).copied()
     }
 
-    /// Remembers a query that entered an agent.
-    fn enter(&mut self, agent: u64, time: u64, id: u32, action: u64) -> Result<(), AllocError> {
-        match self.queries.insert(QueryKey { agent, time, id }, action) {
-            Ok(_) => Ok(()),
-            Err(_) => Err(AllocError),
-        }
+    /// Remembers a query that its agent fired.
+    fn ask(&mut self, agent: u64, time: u64, id: u32, action: u64) -> Result<(), AllocError>
+        ensures entered { OnOk result ((q : QueryKey) → get same_query self.new.queries q
+            ≡ entered_behind action (Some (query_of agent time id)) q
+            (get same_query self.old.queries q)) }
+        ensures asked { OnOk result ((m : Moment) → get same_moment self.new.asked m
+            ≡ asked_behind action (Some (query_of agent time id)) m
+            (get same_moment self.old.asked m)) }
+        ensures pending { OnOk result (self.new.pending.items
+            ≡ pending_with (Some (query_of agent time id)) self.old.pending.items) }
+    {
+        let (moment, ended) = (Moment { agent, time }, Ended::Not);
+        set(&mut self.queries, QueryKey { agent, time, id }, action)?;
+        set(&mut self.asked, moment, Asked { action, ended })?;
+        self.pending.push(moment)?;
+        Ok(())
     }
 
-    /// Remembers a query that an agent fired.
-    fn ask(&mut self, agent: u64, time: u64, action: u64) -> Result<(), AllocError> {
-        let asked = Asked {
-            action,
-            ended: Ended::Not,
-        };
-        let moment = Moment { agent, time };
-        if self.asked.insert(moment, asked).is_err() {
-            return Err(AllocError);
+    /// Remembers that a query which was open still is, or how it ended.
+    fn end_or_keep(
+        &mut self,
+        world: &World,
+        agent: u64,
+        ended: Ended,
+        moment: Moment,
+    ) -> Result<(), AllocError>
+        ensures entered { OnOk result (self.new.queries ≡ self.old.queries) }
+        ensures asked { OnOk result ((m : Moment) → get same_moment self.new.asked m ≡ ended_among
+            world.now agent ended (moment ∷ []) m (get same_moment self.old.asked m)) }
+        ensures pending { OnOk result (self.new.pending.items
+            ≡ self.old.pending.items ++ filter (stays_open world.now agent) (moment ∷ [])) }
+    {
+        if stays_open(world, agent, moment) {
+            self.pending.push(moment)?;
+            return Ok(());
         }
-        self.open.push(moment)?;
-        Ok(())
+        match self.asked.get(&moment).copied() {
+            Some(Asked { action, .. }) => set(&mut self.asked, moment, Asked { action, ended }),
+            None => Ok(()),
+        }
     }
 
     /// Remembers which of an agent's own queries are open no more.
@@ -94,43 +200,23 @@ impl Memory {
         world: &World,
         agent: u64,
         ended: Ended,
-    ) -> Result<(), AllocError> {
-        let open = mem::replace(&mut self.open, Vec::new(alloc));
-        for moment in open {
-            if moment.agent != agent || is_open(world, moment) {
-                self.open.push(moment)?;
-            } else if let Some(asked) = self.asked.get_mut(&moment) {
-                asked.ended = ended;
-            }
+    ) -> Result<(), AllocError>
+        ensures entered { OnOk result (self.new.queries ≡ self.old.queries) }
+        ensures asked { OnOk result ((m : Moment) → get same_moment self.new.asked m ≡ ended_among
+            world.now agent ended self.old.pending.items m (get same_moment self.old.asked m)) }
+        ensures pending { OnOk result (self.new.pending.items
+            ≡ filter (stays_open world.now agent) self.old.pending.items) }
+    {
+        let before = mem::replace(&mut self.pending, Vec::new(alloc));
+        let moments = before.as_slice();
+        for moment in moments {
+            self.end_or_keep(world, agent, ended, *moment)?;
         }
         Ok(())
     }
 
-    /// Remembers a query that a packet brought.
-    fn note_delivery(
-        &mut self,
-        world: &World,
-        number: u64,
-        to: u64,
-        packet: u64,
-        line: &Line,
-    ) -> Result<(), AllocError> {
-        if line.answer != Answer::Query {
-            return Ok(());
-        }
-        let Some(bytes) = world.sent().get(packet as usize) else {
-            return Ok(());
-        };
-        match decode(bytes.as_slice()) {
-            Ok(message) => match query_in(&message) {
-                Some((time, id)) => self.enter(to, time, id, number),
-                None => Ok(()),
-            },
-            Err(_) => Ok(()),
-        }
-    }
-
     /// Remembers what an agent did to queries.
+    #[tactic(auto, using(crate::proofs::MemoryLaws::injected_is, crate::proofs::MemoryLaws::brought_is, crate::proofs::MemoryLaws::nothing_brought, crate::proofs::MemoryLaws::fired_is, crate::proofs::MemoryLaws::nothing_fired, crate::proofs::MemoryLaws::closed_is, crate::proofs::MemoryLaws::lost_is))]
     pub(crate) fn note(
         &mut self,
         alloc: Global,
@@ -138,38 +224,25 @@ impl Memory {
         number: u64,
         action: &Action,
         line: &Line,
-    ) -> Result<(), AllocError> {
+    ) -> Result<(), AllocError>
+        ensures { OnOk result
+            (Remembers world.now number action.now line.now.answer self.old self.new) }
+    {
         let Action::Of { agent, act } = action else {
             return Ok(());
         };
         match act {
-            Act::Deliver { packet, .. } => self.note_delivery(world, number, *agent, *packet, line),
+            Act::Deliver { .. } => match query_new(world, action, *agent, line.answer) {
+                Some(query) => set(&mut self.queries, query, number),
+                None => Ok(()),
+            },
             Act::Query(query) => match line.answer {
-                Answer::Queried(time) => {
-                    self.enter(*agent, time.get(), query.get().id, number)?;
-                    self.ask(*agent, time.get(), number)
-                }
+                Answer::Queried(time) => self.ask(*agent, time.get(), query.get().id, number),
                 _ => Ok(()),
             },
             Act::Close { .. } => self.end_queries(alloc, world, *agent, Ended::Closed(number)),
             Act::Restart { .. } => self.end_queries(alloc, world, *agent, Ended::Lost(number)),
             _ => Ok(()),
         }
-    }
-}
-
-/// Whether a query is open that its agent fired.
-fn is_open(world: &World, moment: Moment) -> bool {
-    match (world.agent(moment.agent), Time::new(moment.time)) {
-        (Some(agent), Some(time)) => agent.open_query(time).is_some(),
-        _ => false,
-    }
-}
-
-/// The time and the ID of a message, where it is a query.
-fn query_in(message: &Message) -> Option<(u64, u32)> {
-    match message {
-        Message::Query(query) => Some((query.time.get(), query.id)),
-        _ => None,
     }
 }

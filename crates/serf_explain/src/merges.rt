@@ -1,4 +1,4 @@
-//! What becomes of each event that a state carries, said before the state is merged.
+//! The line of each event that a state carries, with the verdict on it: made before the state is merged.
 
 ghost use Rattle.std.specs.Prelude.{◌≡◌, ◌++◌, ◌∷◌, [], true, OnOk};
 ghost use Rattle.serf_wire.specs.Lists.{event_of_view, events_left, slot_of_view, slots_left};
@@ -8,16 +8,16 @@ ghost use Rattle.serf_agent.specs.Events.{admission};
 ghost use Rattle.serf_agent.specs.Ideal.{IdealAgent};
 ghost use Rattle.serf_agent.specs.States.{after_event, at_time, events_of_slot};
 ghost use Rattle.serf_explain.specs.Carried.{Known, carried_words, heard, placed, placed_from, slot_words, verdict_words};
-ghost use Rattle.serf_explain.specs.Judging.{AddsJudged, AddsLines, AddsState, HasJudged, IsHandedIn, IsJudging, IsMerging, judge_takes, judged_detail, judged_line, seen_behind, seen_front};
+ghost use Rattle.serf_explain.specs.Judging.{AddsJudged, AddsLines, AddsState, HasJudged, IsHandedIn, IsJudging, IsMerging, judge_takes, judged_detail, judged_line, near_behind, seen_behind, seen_front};
+ghost use Rattle.serf_explain.specs.HandOuts.{notes_in, stands_at};
 ghost use Rattle.serf_explain.specs.Noted.{event_as};
 ghost use Rattle.serf_explain.specs.Words.{stands};
 
-use crate::because::put_because;
 use crate::hand_outs::Event;
 use crate::judge::Judge;
 use crate::left::{Takes, put_left};
 use crate::merging::Merging;
-use crate::quoted::{put_event, put_standing_event, say, stands};
+use crate::quoted::{put_because, put_event, put_standing_event, say, stands};
 use crate::seen::put_handed;
 use serf_agent::{Agent, Reason};
 use serf_lamport::Time;
@@ -26,9 +26,9 @@ use serf_text::put_number;
 use serf_wire::{EventView, EventViews, SlotView, SlotViews};
 use std::alloc::{AllocError, Global};
 
-/// The hand-out that was named last, and where the next one is looked for first.
+/// The index of the hand-out that was named last, and the index where the next one is looked for first.
 #[derive(Clone, Copy)]
-struct Near {
+pub(crate) struct Near {
     named: usize,
     next: usize,
 }
@@ -37,18 +37,19 @@ struct Near {
 #[derive(Drop)]
 pub(crate) struct MergeLines {
     pub(crate) text: Vec<u8>,
-    /// The least time of events behind the merge, where the merge raises it.
+    /// The minimum of events after the merge, where the merge raises it.
     pub(crate) raised: Option<u64>,
-    /// An event's words.
+    /// Room for an event's words: its time, its name and its payload.
     words: Vec<u8>,
-    /// What is said of a verdict beside its first words.
+    /// Room for the words of a verdict after its first ones.
     detail: Vec<u8>,
+    /// Room for a whole reason.
     reason: Vec<u8>,
     near: Near,
 }
 
 impl MergeLines {
-    /// No line. Takes no memory.
+    /// The lines of no merge. Takes no memory.
     pub(crate) fn new(alloc: Global) -> MergeLines {
         MergeLines {
             text: Vec::new(alloc),
@@ -61,7 +62,7 @@ impl MergeLines {
     }
 }
 
-/// The word for what becomes of an event.
+/// The first words of `verdict`: why an event is ignored, or that it is new where it is `None`.
 fn verdict_word(verdict: Option<Reason>) -> &'static [u8]
     ensures { result.now ≡ verdict_words verdict }
 {
@@ -76,7 +77,7 @@ fn verdict_word(verdict: Option<Reason>) -> &'static [u8]
     }
 }
 
-/// Appends the words that name a slot.
+/// Appends that slot number `slot` of a state brings what comes next.
 #[tactic(auto, unfolding(crate::specs::Carried::slot_words))]
 fn put_slot_words(out: &mut Vec<u8>, slot: u64) -> Result<(), AllocError>
     ensures { OnOk result (out.new.items ≡ out.old.items ++ slot_words slot) }
@@ -85,7 +86,7 @@ fn put_slot_words(out: &mut Vec<u8>, slot: u64) -> Result<(), AllocError>
     out.extend_from_slice(b" brings ")
 }
 
-/// Appends what became of an event.
+/// Appends the reason of `event`, which slot number `slot` brings: the first words of `verdict`, and `detail` after them.
 #[tactic(auto, unfolding(crate::specs::Carried::carried_words))]
 fn put_carried(
     out: &mut Vec<u8>,
@@ -105,7 +106,7 @@ fn put_carried(
     out.extend_from_slice(detail)
 }
 
-/// What the agent takes of events, once this was judged.
+/// What the agent takes of events at this place of the merge, by what `judge` knows.
 fn takes_of(merging: &Merging, judge: &Judge) -> Takes
     ensures { result ≡ judge_takes merging.now judge.now }
 {
@@ -118,17 +119,20 @@ fn takes_of(merging: &Merging, judge: &Judge) -> Takes
     }
 }
 
-/// The action that handed the agent an event that was seen: one before, or this one. None did where the agent was opened
-/// on a text with the event's line.
+/// The number of the action that handed the agent `event`, which was seen: an earlier one, or the merge itself. None did
+/// where the agent was opened on a text with the event's line.
 fn handed_at(merging: &Merging, judge: &Judge, near: &mut Near, event: &Event) -> Option<u64>
-    ensures { (i j : IdealAgent) → IsJudging i (after_event j (event_as event.now)) judge.now
+    ensures handed { (i j : IdealAgent) → IsJudging i (after_event j (event_as event.now)) judge.now
         → admission j event.now.time (event_as event.now).key ≡ Some Reason.Seen
         → IsHandedIn i j merging.now (event_as event.now) result }
+    // One that stands where it is looked for first is found there, and the next one is looked for behind it.
+    ensures near { stands_at (notes_in merging.now.history.now.hand_outs.outs.items) near.old.next
+        merging.now.agent_number event.now.time (event_as event.now).key ≡ true
+        → near.new ≡ near_behind near.old near.old.next }
 {
     let outs = &merging.history.hand_outs;
     match outs.found_near(near.next, merging.agent_number, event) {
         Some(found) => {
-            // the events of a state were mostly handed out one after another
             let step = found.place.saturating_sub(near.named);
             *near = Near {
                 named: found.place,
@@ -146,7 +150,7 @@ fn handed_at(merging: &Merging, judge: &Judge, near: &mut Near, event: &Event) -
     }
 }
 
-/// Appends what is said of a verdict on an event beside its first words.
+/// Appends the words of `verdict` on `event` after its first ones; `handed` is the action that handed it out, if one did.
 fn put_detail(
     out: &mut Vec<u8>,
     merging: &Merging,
@@ -173,7 +177,7 @@ fn put_detail(
     }
 }
 
-/// Adds the line of an event. The action that handed it to the agent is named where it was seen.
+/// Adds the line of `event`, with the `verdict` on it; `handed` is the action that handed it out, where it was seen.
 fn add_carried(
     merging: &Merging,
     judge: &Judge,
@@ -194,7 +198,7 @@ fn add_carried(
     put_because(&mut lines.text, merging.number, &lines.reason)
 }
 
-/// Appends the line of an event that was seen, up to its words.
+/// Appends the line of an event that was seen, up to `words`, those of the event; `front` is its beginning.
 #[tactic(auto, unfolding(crate::specs::Judging::seen_front))]
 fn put_seen_front(
     out: &mut Vec<u8>,
@@ -211,7 +215,7 @@ fn put_seen_front(
     out.extend_from_slice(words)
 }
 
-/// Appends the rest of that line.
+/// Appends the rest of the line of an event that was seen: that it (`words`) was handed to its agent at `action`.
 #[tactic(auto, unfolding(crate::specs::Judging::seen_behind))]
 fn put_seen_behind(
     out: &mut Vec<u8>,
@@ -254,7 +258,7 @@ fn add_standing(
     put_seen_behind(&mut lines.text, named, words, action)
 }
 
-/// Adds the line of an event that was seen.
+/// Adds the line of `event`, which was seen; `handed` is the action that handed it out, if one did.
 fn add_seen(
     merging: &Merging,
     judge: &Judge,
@@ -283,7 +287,7 @@ fn add_seen(
     }
 }
 
-/// Adds the line of an event on which this is the verdict.
+/// Adds the line of `event`, which slot number `slot` brings: `verdict` is why it is ignored, or `None` where it is new.
 fn add_line(
     merging: &Merging,
     judge: &Judge,
@@ -309,7 +313,7 @@ fn add_line(
     }
 }
 
-/// Adds the line of the next event.
+/// Judges `event`, the next one of the state, and adds its line: slot number `slot` brings it, and `time` is its time.
 fn add_event(
     alloc: Global,
     merging: &Merging,
@@ -338,7 +342,7 @@ fn add_event(
     add_line(merging, judge, lines, slot, &lying, verdict)
 }
 
-/// Adds a line for each event of a slot.
+/// Adds a line for each of `events`, which slot number `slot` brings and whose time is `time`.
 fn add_events(
     alloc: Global,
     merging: &Merging,
@@ -360,7 +364,7 @@ fn add_events(
     Ok(())
 }
 
-/// Adds a line for each event of a slot, if it has any.
+/// Adds a line for each event of slot number `slot`, whose content is `content`.
 fn add_slot(
     alloc: Global,
     merging: &Merging,
@@ -387,7 +391,7 @@ fn add_slot(
     }
 }
 
-/// Adds a line for each event of these slots.
+/// Adds a line for each event of `slots`, whose numbers count from 0.
 fn add_slots(
     alloc: Global,
     merging: &Merging,

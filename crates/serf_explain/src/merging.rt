@@ -26,14 +26,14 @@ pub(crate) struct Merging<'a> {
     pub(crate) front: Vec<u8>,
     /// What is said of the agent where it has seen an event: `"b" was handed `.
     pub(crate) named: Vec<u8>,
-    /// Whether each byte of that stands as it is.
+    /// Whether the agent's name is shown as it is: all of it, and no byte of it escaped.
     pub(crate) is_plain: bool,
     ghost front_is: { front.items ≡ decimal number ++ codes " because slot " },
     ghost named_is: { named.items ≡ quoted agent.now.concrete.config.name ++ codes " was handed " },
     ghost plain_is: { is_plain ≡ stands agent.now.concrete.config.name },
 }
 
-/// Appends the front of each line of this action.
+/// Appends the words with which each line of the merge begins, which is action number `number`.
 fn put_front(out: &mut Vec<u8>, number: u64) -> Result<(), AllocError>
     ensures { OnOk result
         (out.new.items ≡ out.old.items ++ (decimal number ++ codes " because slot ")) }
@@ -42,7 +42,7 @@ fn put_front(out: &mut Vec<u8>, number: u64) -> Result<(), AllocError>
     out.extend_from_slice(b" because slot ")
 }
 
-/// Appends that an agent of this name was handed what comes next.
+/// Appends that the agent `name` was handed what comes next.
 fn put_named(out: &mut Vec<u8>, name: &[u8]) -> Result<(), AllocError>
     ensures { OnOk result
         (out.new.items ≡ out.old.items ++ (quoted name.now ++ codes " was handed ")) }
@@ -52,7 +52,7 @@ fn put_named(out: &mut Vec<u8>, name: &[u8]) -> Result<(), AllocError>
 }
 
 impl<'a> Merging<'a> {
-    /// That of this action, which merges a state into this agent.
+    /// What the lines of action number `number` have in common, which merges a state into `agent`, number `agent_number`.
     pub(crate) fn new(
         alloc: Global,
         history: &'a History,

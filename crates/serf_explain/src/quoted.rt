@@ -1,11 +1,11 @@
-//! Texts between quotes, and what is said of events and queries.
+//! The line of a reason, texts between quotes, and what is said of events and queries.
 
 ghost use Rattle.std.specs.Prelude.{◌≡◌, ◌<◌, ◌++◌, codes, decimal, length, true, OnOk};
 ghost use Rattle.std.specs.List.{flat_map, list_all};
 ghost use Rattle.serf_window.specs.Texts.{event_of};
+ghost use Rattle.serf_explain.specs.Because.{because_line, byte_text, is_printable};
 ghost use Rattle.serf_explain.specs.Words.{event_words, front_quoted, is_plain, quoted, quoted_byte, standing_texts, stands, whole_quoted};
 
-use crate::because::{is_printable, put_byte};
 use crate::hand_outs::Event;
 use crate::left::put_mark;
 use crate::marks::Mark;
@@ -17,6 +17,57 @@ const WHOLE: usize = 64;
 
 /// How many bytes of a longer text are shown.
 const FRONT: usize = 32;
+
+/// Whether a byte is printable ASCII.
+fn is_printable(byte: u8) -> bool
+    ensures { result ≡ is_printable byte }
+{
+    32 <= byte && byte <= 126
+}
+
+/// Appends a byte where it is printable, else its hex digits after `\x`.
+#[tactic(auto, unfolding(crate::specs::Because::byte_text))]
+fn put_byte(out: &mut Vec<u8>, byte: u8) -> Result<(), AllocError>
+    ensures { OnOk result (out.new.items ≡ out.old.items ++ byte_text byte) }
+{
+    if is_printable(byte) {
+        return out.extend_from_slice(&[byte]);
+    }
+    out.extend_from_slice(b"\\x")?;
+    put_hex(out, &[byte])
+}
+
+/// Whether all bytes are printable.
+fn are_printable(bytes: &[u8]) -> bool
+    ensures { result ≡ list_all is_printable bytes.now }
+{
+    bytes.iter().all(|byte| is_printable(*byte))
+}
+
+/// Appends bytes, each of them printable; at once where they all are.
+fn put_printable(out: &mut Vec<u8>, text: &[u8]) -> Result<(), AllocError>
+    ensures { OnOk result (out.new.items ≡ out.old.items ++ flat_map byte_text text.now) }
+{
+    if are_printable(text) {
+        return out.extend_from_slice(text);
+    }
+    for byte in text {
+        put_byte(out, *byte)?;
+    }
+    Ok(())
+}
+
+/// Appends the line of a reason of the action of this number. No byte of it is a control byte but the newline at its
+/// end.
+#[tactic(auto, unfolding(crate::specs::Because::because_line))]
+pub(crate) fn put_because(out: &mut Vec<u8>, number: u64, reason: &[u8]) -> Result<(), AllocError>
+    ensures { OnOk result (out.new.items ≡ out.old.items ++ because_line number reason.now) }
+{
+    put_number(out, number)?;
+    out.extend_from_slice(b" because ")?;
+    put_printable(out, reason)?;
+    out.extend_from_slice(b"\n")
+}
 
 /// Appends a text and a number.
 pub(crate) fn say(out: &mut Vec<u8>, text: &[u8], number: u64) -> Result<(), AllocError>
@@ -46,7 +97,7 @@ fn is_plain(byte: u8) -> bool
     is_printable(byte) && byte != b'"' && byte != b'\\'
 }
 
-/// Whether bytes are printed as they are: letters, digits and some signs.
+/// Whether each of `bytes` stands as it is in a quoted text: printable, and no quote and no backslash.
 fn are_plain(bytes: &[u8]) -> bool
     ensures { result ≡ list_all is_plain bytes.now }
 {
@@ -66,7 +117,7 @@ fn put_quoted_bytes(out: &mut Vec<u8>, bytes: &[u8]) -> Result<(), AllocError>
     Ok(())
 }
 
-/// Appends a text as a whole.
+/// Appends the whole of `text` between quotes.
 #[tactic(auto, unfolding(crate::specs::Words::whole_quoted))]
 fn put_whole(out: &mut Vec<u8>, text: &[u8]) -> Result<(), AllocError>
     ensures { OnOk result (out.new.items ≡ out.old.items ++ whole_quoted text.now) }
@@ -76,7 +127,7 @@ fn put_whole(out: &mut Vec<u8>, text: &[u8]) -> Result<(), AllocError>
     out.extend_from_slice(b"\"")
 }
 
-/// Appends the front of a text that is too long to be printed.
+/// Appends the first bytes of `text` between quotes, and how many bytes it has: it is too long to be shown whole.
 #[tactic(auto, unfolding(crate::specs::Words::front_quoted))]
 fn put_front(out: &mut Vec<u8>, text: &[u8]) -> Result<(), AllocError>
     requires { 64 < length text.now }
@@ -118,14 +169,14 @@ pub(crate) fn put_event(
     put_quoted(out, payload)
 }
 
-/// Whether a quoted text is the text itself.
+/// Whether `text` is shown whole between quotes, and each of its bytes as it is.
 pub(crate) fn stands(text: &[u8]) -> bool
     ensures { result ≡ stands text.now }
 {
     text.len() <= WHOLE && are_plain(text)
 }
 
-/// Appends the name and the payload of an event that stands in the buffer.
+/// Appends `name` and `payload` between quotes, each byte as it is.
 #[tactic(auto, unfolding(crate::specs::Words::standing_texts))]
 fn put_standing_texts(out: &mut Vec<u8>, name: &[u8], payload: &[u8]) -> Result<(), AllocError>
     ensures { OnOk result (out.new.items ≡ out.old.items ++ standing_texts name.now payload.now) }
@@ -153,11 +204,13 @@ pub(crate) fn put_standing_event(
     put_standing_texts(out, name, payload)
 }
 
-/// A part of what is said.
+/// What stands in a sentence in the place of a `%`.
 #[derive(Clone, Copy)]
 pub(crate) enum Part<'a> {
+    /// These bytes, as they are.
     Text(&'a [u8]),
     Number(u64),
+    /// A text between quotes.
     Quoted(&'a [u8]),
     /// `event 3 "deploy" "v2"`.
     Event(Event<'a>),
@@ -167,23 +220,21 @@ pub(crate) enum Part<'a> {
     Mark(Mark),
 }
 
-fn put_query(out: &mut Vec<u8>, time: u64, id: u32) -> Result<(), AllocError> {
-    say(out, b"query ", time)?;
-    say(out, b" with ID ", u64::from(id))
-}
-
 fn put_part(out: &mut Vec<u8>, part: &Part) -> Result<(), AllocError> {
     match *part {
         Part::Text(text) => out.extend_from_slice(text),
         Part::Number(number) => put_number(out, number),
         Part::Quoted(text) => put_quoted(out, text),
         Part::Event(event) => put_event(out, event.time, event.name, event.payload),
-        Part::Query(time, id) => put_query(out, time, id),
+        Part::Query(time, id) => {
+            say(out, b"query ", time)?;
+            say(out, b" with ID ", u64::from(id))
+        }
         Part::Mark(mark) => put_mark(out, &mark),
     }
 }
 
-/// Appends a text, in which each `%` stands for the next of these parts.
+/// Appends `text`, in which each `%` stands for the next of `parts`.
 pub(crate) fn put_said(out: &mut Vec<u8>, text: &[u8], parts: &[Part]) -> Result<(), AllocError> {
     let mut rest = text;
     for part in parts {

@@ -16,7 +16,7 @@ pub struct Range {
 impl Range {
     ghost use Rattle.serf_explain.specs.Range.{is_shown, is_wanted};
 
-    /// Whether the actions of this actor are wanted.
+    /// Whether actions of agent number `actor` are explained, or injections where that is `None`.
     fn wants(&self, actor: Option<u64>) -> bool
         ensures { result ≡ is_wanted self.now.agent actor }
     {
@@ -27,7 +27,7 @@ impl Range {
         }
     }
 
-    /// Whether the action of this number, and of this actor, is explained.
+    /// Whether action number `number` is explained, of agent number `actor`, or an injection where that is `None`.
     pub(crate) fn shows(&self, number: u64, actor: Option<u64>) -> bool
         ensures { result ≡ is_shown self.now number actor }
     {

@@ -17,7 +17,7 @@ use serf_schedule::{lines_stay, put_action};
 use serf_world::{Turns, World};
 use std::alloc::{AllocError, Global};
 
-/// Appends what is shown of an action: its lines and those of its reasons, or nothing.
+/// Appends an action's lines of the trace and those of its reasons where `is_shown`, else nothing.
 fn put_turn(alloc: Global, out: &mut Vec<u8>, is_shown: bool, told: &Told) -> Result<(), AllocError>
     ensures { (carried : List (List ℕ))
         → told.now.carried.now ≡ flat_map (because_line told.now.number) carried
@@ -39,14 +39,14 @@ fn put_turn(alloc: Global, out: &mut Vec<u8>, is_shown: bool, told: &Told) -> Re
 #[derive(Drop)]
 pub(crate) struct Reasoning {
     history: History,
-    /// Room for the lines of a merge.
+    /// The reasons of a merge, which are made before it is done, and room for those of the next one.
     lines: MergeLines,
-    /// Which actions are told.
+    /// Which actions are shown and explained.
     range: Range,
 }
 
 impl Reasoning {
-    /// Of a run of no action. Takes no memory.
+    /// The reasoning of a run of no action, which explains the actions in `range`. Takes no memory.
     pub(crate) fn new(alloc: Global, range: Range) -> Reasoning
         ensures { (configs : List Config) → Reasoned range result configs [] [] }
     {
@@ -99,6 +99,7 @@ impl Turns for Reasoning {
         _seen: (),
         out: &mut Vec<u8>,
     ) -> Result<(), AllocError> {
+        // for the prover: a line stays as it is while more is sent, and every run keeps its promises
         lines_stay();
         run_promises();
         let told = Told {

@@ -1,29 +1,31 @@
-//! The reasons of an action.
+//! The lines of an action's reasons: one, or of a merge one for each event of its state.
 
-ghost use Rattle.std.specs.Prelude.{◌≡◌, ◌+◌, ◌++◌, ◌∷◌, [], true, Ok, OnOk, List, ℕ, length};
+ghost use Rattle.std.specs.Prelude.{◌≡◌, ◌+◌, ◌++◌, ◌∷◌, [], true, Ok, OnOk, List, ℕ, Some, length};
 ghost use Rattle.std.specs.List.{flat_map};
 ghost use Rattle.serf_wire.specs.Decoded.{decoded};
-ghost use Rattle.serf_wire.specs.Message.{message_of};
+ghost use Rattle.serf_wire.specs.Message.{PushPull, message_of};
 ghost use Rattle.serf_agent.specs.Sound.{IsSound};
 ghost use Rattle.serf_agent.specs.View.{view_of};
 ghost use Rattle.serf_agent.specs.Ideal.{IdealAgent};
 ghost use Rattle.serf_model.specs.Cluster.{Cluster};
 ghost use Rattle.serf_model.specs.declared.line.Line.{Line};
 ghost use Rattle.serf_model.specs.Ready.{AreRepresentable};
+ghost use Rattle.serf_model.specs.Trace.{packet_given};
 ghost use Rattle.serf_world.specs.View.{IsViewed};
 ghost use Rattle.serf_explain.specs.Because.{AddsReasons, AddsSome, AddsSuch, because_line};
 ghost use Rattle.serf_explain.specs.Carried.{Known, TellsMerged, raised_reasons};
 ghost use Rattle.serf_explain.specs.Explained.{TellsAll};
 ghost use Rattle.serf_explain.specs.HandOuts.{notes_from, notes_in};
 ghost use Rattle.serf_explain.specs.Judging.{AddsMerge, IsMerging, TellsText, merged_of};
-ghost use Rattle.serf_explain.specs.Leaving.{HoldMarks, IsMark, numbers_of};
+ghost use Rattle.serf_explain.specs.Leaving.{HoldMarks, IsMark, clock_said, hears_nothing, numbers_of, unheard_least};
+ghost use Rattle.serf_explain.specs.Noted.{message_given};
 
 use crate::answers::put_reason;
-use crate::because::put_because;
 use crate::history::History;
+use crate::marks::bytes_kept;
 use crate::merges::{MergeLines, add_carried_lines};
 use crate::merging::Merging;
-use crate::quoted::say;
+use crate::quoted::{put_because, say};
 use crate::refusals::put_sink_fault;
 use crate::seen::put_delivery_ignored;
 use crate::told::{Actor, Told, actor_at, message_of};
@@ -38,10 +40,10 @@ use std::alloc::{AllocError, Global};
 /// How many bytes most reasons have, at most.
 pub(crate) const USUAL_BYTES: usize = 160;
 
-/// The words for a new event, with which its reason ends, and no other.
+/// The words with which the reason of a new event of a merge ends, and no other reason.
 const NEW_WORDS: &[u8] = b"new, and handed out";
 
-/// Adds a line for each event of a message that is to be merged.
+/// Adds to `lines` a line for each event of `message`, a state that is to be merged; nothing of another message.
 fn add_message(
     alloc: Global,
     merging: &Merging,
@@ -66,7 +68,7 @@ fn add_message(
     }
 }
 
-/// Adds a line for each event of a packet that is to be merged.
+/// Adds to `lines` a line for each event of the state in `packet`, which is to be merged; nothing of another packet.
 fn add_packet(
     alloc: Global,
     merging: &Merging,
@@ -85,7 +87,8 @@ fn add_packet(
     }
 }
 
-/// Adds a line for each event of a packet that this agent, which has this number, is to merge.
+/// Adds to `lines` a line for each event of the state in `packet`, which `agent`, of the number `agent_number`, is to
+/// merge by action number `number`.
 fn add_merge(
     alloc: Global,
     history: &History,
@@ -113,7 +116,7 @@ fn add_merge(
     add_packet(alloc, &merging, packet, is_join, lines)
 }
 
-/// Adds a line for each event of the state in a packet that an agent is to merge.
+/// Adds to `lines` a line for each event of the state in packet number `packet`, which agent number `agent` is to merge.
 fn add_merge_at(
     alloc: Global,
     world: &World,
@@ -141,7 +144,7 @@ fn add_merge_at(
     }
 }
 
-/// Makes the lines of what is said of each event of a state that is to be merged; none of any other action.
+/// Makes `lines` those of the events of the state that `action` is to merge; none of any other action.
 #[tactic(auto, using(crate::proofs::MergeLaws::told_of))]
 pub(crate) fn lines_before(
     alloc: Global,
@@ -171,7 +174,7 @@ pub(crate) fn lines_before(
     }
 }
 
-/// Appends the line of a reason.
+/// Appends the line of `reason`, of action number `number`.
 fn put_one(out: &mut Vec<u8>, number: u64, reason: &[u8]) -> Result<(), AllocError>
     ensures { OnOk result (AddsSome number out.old.items out.new.items) }
 {
@@ -187,7 +190,7 @@ pub(crate) fn put_lone(alloc: Global, out: &mut Vec<u8>, told: &Told) -> Result<
     put_one(out, told.number, reason.as_slice())
 }
 
-/// Appends the line that says to what a join raises the least time of events, where it does.
+/// Appends the line that a join raises the least time of events to `raised`; nothing where it doesn't.
 fn put_raised(
     alloc: Global,
     out: &mut Vec<u8>,
@@ -209,7 +212,7 @@ fn put_raised(
     put_because(out, number, &reason)
 }
 
-/// Appends the lines of what is said of the events that a merged state carries; a line that says so where it carries none.
+/// Appends `lines`, those of the events of a merged state; where it carries no event, the line that it carries none.
 fn put_events(out: &mut Vec<u8>, number: u64, lines: &[u8]) -> Result<(), AllocError>
     ensures { (carried : List (List ℕ)) → lines.now ≡ flat_map (because_line number) carried
         → OnOk result (out.new.items
@@ -222,7 +225,7 @@ fn put_events(out: &mut Vec<u8>, number: u64, lines: &[u8]) -> Result<(), AllocE
     Ok(())
 }
 
-/// Appends the lines of a state that was merged: that of the least time, where it is raised, and those of its events.
+/// Appends the lines of a merge that was done: of the least time, where it is `raised`, and `lines`, those of its events.
 #[tactic(auto, using(crate::proofs::CarriedLaws::adds_merged))]
 fn put_merged(
     alloc: Global,
@@ -238,7 +241,7 @@ fn put_merged(
     put_events(out, number, lines)
 }
 
-/// The reason that a line says: what stands behind its number and `because`.
+/// The reason in `line`: what stands after its number and `because`.
 fn reason_in(line: &[u8]) -> &[u8] {
     let (_number, rest) = cut(line, b' ');
     match rest {
@@ -250,7 +253,7 @@ fn reason_in(line: &[u8]) -> &[u8] {
     }
 }
 
-/// Appends the line of a reason once more; nothing where there is none, as behind the last line.
+/// Appends the line of `reason`; nothing where it is empty, as after the last line of a merge.
 fn put_again(out: &mut Vec<u8>, number: u64, reason: &[u8]) -> Result<(), AllocError>
     ensures { OnOk result (AddsReasons number out.old.items out.new.items) }
 {
@@ -260,7 +263,7 @@ fn put_again(out: &mut Vec<u8>, number: u64, reason: &[u8]) -> Result<(), AllocE
     put_one(out, number, reason)
 }
 
-/// What is said of the event at which the disk failed.
+/// The reason of the event at which the disk failed; `new` is its reason where the disk works, that it is new.
 fn failed_reason(alloc: Global, actor: &Actor, new: &[u8]) -> Result<Vec<u8>, AllocError> {
     let mut reason = Vec::new(alloc);
     reason.extend_from_slice(new)?;
@@ -294,26 +297,47 @@ fn put_failed_merge(
     put_lone(alloc, out, told)
 }
 
-/// The least time whose line failed, before anything of a state was heard of: that of a join which writes its line, where nothing
-/// was written.
-fn unheard_least(told: &Told, actor: &Actor) -> Option<u64> {
-    let Act::Merge { join: true, .. } = actor.act else {
-        return None;
-    };
-    let config = actor.agent.config();
-    if !config.keep_events || !config.ignore_old {
-        return None;
-    }
-    if actor.agent.sink().durable().len() != actor.before.durable {
-        return None;
-    }
-    match message_of(told) {
-        Some(Message::PushPull(state)) => Some(state.event_clock),
-        _ => None,
+/// Whether an agent wrote nothing in a merge whose first line is that of the least time.
+fn hears_nothing(actor: &Actor, is_join: bool) -> bool
+    ensures { (p : PushPull) → result ≡ hears_nothing actor.now.agent.now.concrete
+        actor.now.before.durable is_join p }
+{
+    let (config, before) = (actor.agent.config(), actor.before.durable);
+    config.keep_events && is_join && config.ignore_old && bytes_kept(actor.agent) == before
+}
+
+/// The event clock of the state that a message is.
+fn clock_said(message: &Message) -> Option<u64>
+    ensures { result ≡ clock_said (Some (message_of message.now)) }
+{
+    match message {
+        Message::PushPull(state) => Some(state.event_clock),
+        Message::UserEvent(_)
+        | Message::Query(_)
+        | Message::QueryResponse(_)
+        | Message::Foreign(_) => None,
     }
 }
 
-/// What is said where nothing of a state was heard of, since the line of this least time failed.
+/// The least time whose line failed, before anything of a state was heard of.
+fn unheard_least(told: &Told, actor: &Actor) -> Option<u64>
+    ensures { result ≡ unheard_least actor.now.agent.now.concrete actor.now.before.durable
+        actor.now.act.now (message_given
+        (packet_given told.now.world.now.sent told.now.action.now)) }
+{
+    let Act::Merge { join, .. } = actor.act else {
+        return None;
+    };
+    if !hears_nothing(actor, *join) {
+        return None;
+    }
+    match message_of(told) {
+        Some(message) => clock_said(&message),
+        None => None,
+    }
+}
+
+/// The reason where nothing of a state was heard of: the disk failed at the line of the least time, which is `least`.
 fn unheard_reason(alloc: Global, actor: &Actor, least: u64) -> Result<Vec<u8>, AllocError> {
     let mut reason = Vec::with_capacity(alloc, USUAL_BYTES)?;
     say(
@@ -326,8 +350,8 @@ fn unheard_reason(alloc: Global, actor: &Actor, least: u64) -> Result<Vec<u8>, A
     Ok(reason)
 }
 
-/// Appends a line for each reason of a merge at which the disk failed: where the state was heard of, that of the least time is the
-/// first, if it is raised.
+/// Appends the reasons of a merge at which the disk failed: that nothing of the state was heard of; or else that the
+/// least time rose, where it did, and those of its events.
 #[tactic(auto, using(crate::proofs::ReasonLaws::adds_raised))]
 fn put_broken_merge(
     alloc: Global,
@@ -349,7 +373,7 @@ fn put_broken_merge(
     }
 }
 
-/// The agent that merged a state up to where its disk failed.
+/// The agent that merged a state up to where its disk failed; `None` of any other action.
 fn failed_actor<'a>(told: &Told<'a>) -> Option<Actor<'a>> {
     let Action::Of { agent, act } = told.action else {
         return None;

@@ -1,4 +1,4 @@
-//! What is said of an event that was delivered, and ignored.
+//! The reason why an event that was delivered is ignored.
 
 ghost use Rattle.std.specs.Prelude.{◌≡◌, ◌++◌, ◌∷◌, [], ℕ, List, Ok, OnOk};
 ghost use Rattle.std.specs.Option.{option_map};
@@ -12,10 +12,9 @@ ghost use Rattle.serf_explain.specs.Leaving.{ignored_words, numbers_of, takes_ev
 ghost use Rattle.serf_explain.specs.Noted.{delivered_as, event_as};
 ghost use Rattle.serf_explain.specs.Seen.{event_delivered, event_read};
 
-use crate::because::put_because;
 use crate::hand_outs::Event;
 use crate::left::{Takes, first_words, put_left};
-use crate::quoted::{put_event, put_quoted, say};
+use crate::quoted::{put_because, put_event, put_quoted, say};
 use crate::reasons::{USUAL_BYTES, put_lone};
 use crate::told::Told;
 use serf_agent::{Agent, Reason};
@@ -24,7 +23,7 @@ use serf_snap::MemSink;
 use serf_wire::{Message, decode};
 use std::alloc::{AllocError, Global};
 
-/// An event that is delivered to the agent of this number.
+/// An event that is delivered to the agent of the number `to`.
 #[derive(Clone, Copy)]
 pub(crate) struct Delivered<'a> {
     pub(crate) to: u64,
@@ -70,7 +69,8 @@ fn seen_event<'a>(told: &Told<'a>) -> Option<Delivered<'a>>
     Some(Delivered { to: *agent, event })
 }
 
-/// Appends which action handed an event to an agent of this name; or that the agent was opened on a text with its line.
+/// Appends that action number `handed` handed `event` to the agent `name`; or, where none did, that the agent was opened
+/// on a text with the event's line.
 #[tactic(auto, unfolding(crate::specs::HandOuts::handed_words, crate::specs::Seen::tailed_words))]
 pub(crate) fn put_handed(
     out: &mut Vec<u8>,
@@ -95,7 +95,7 @@ pub(crate) fn put_handed(
     }
 }
 
-/// The name of the agent of this number.
+/// The name of agent number `agent`; empty where there is none.
 fn name_of<'a>(told: &Told<'a>, agent: u64) -> &'a [u8]
     ensures { result.now ≡ name_at told.now.world.now agent }
 {
@@ -105,7 +105,7 @@ fn name_of<'a>(told: &Told<'a>, agent: u64) -> &'a [u8]
     }
 }
 
-/// Appends which action handed this event to its agent before; or, where none did, that the agent was opened on a text with its line.
+/// Appends which action handed the delivered event to its agent before, or that the agent was opened on its line.
 fn put_seen(out: &mut Vec<u8>, told: &Told, of: &Delivered) -> Result<(), AllocError>
     ensures { OnOk result (GrowsBy (λ text. NamesSeen
         (notes_in told.now.past.now.hand_outs.outs.items) (name_at told.now.world.now of.now.to)
@@ -115,7 +115,7 @@ fn put_seen(out: &mut Vec<u8>, told: &Told, of: &Delivered) -> Result<(), AllocE
     put_handed(out, name_of(told, of.to), &of.event, handed)
 }
 
-/// Appends why an event that comes to this agent is left.
+/// Appends `reason`, why `agent` ignores the event that is delivered to it: by its minimum, its clock or its limits.
 fn put_left_event(
     out: &mut Vec<u8>,
     told: &Told,
@@ -136,7 +136,7 @@ fn put_left_event(
     put_left(out, &takes, b"event", event.time, event.bytes(), reason)
 }
 
-/// Appends why an event that comes to an agent is ignored.
+/// Appends `reason`, why a delivered event is ignored: by the action that handed it out before, or by what is taken.
 #[tactic(auto, using(crate::proofs::LeftLaws::ignored_seen, crate::proofs::LeftLaws::ignored_left, crate::proofs::LeftLaws::ignored_nobody))]
 fn put_ignored_event(
     out: &mut Vec<u8>,
@@ -156,7 +156,7 @@ fn put_ignored_event(
     }
 }
 
-/// Appends the line that says so.
+/// Appends the line of `reason`, why a delivered event is ignored.
 fn put_delivered(
     alloc: Global,
     out: &mut Vec<u8>,
@@ -173,7 +173,7 @@ fn put_delivered(
     put_because(out, told.number, &text)
 }
 
-/// Appends the line of a delivery that was ignored for this reason.
+/// Appends the line of `reason`, why what the action delivered is ignored: an event, or a query or an answer.
 pub(crate) fn put_delivery_ignored(
     alloc: Global,
     out: &mut Vec<u8>,

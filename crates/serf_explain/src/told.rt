@@ -1,4 +1,10 @@
-//! An action that was done, with what is known around it.
+//! An action that was done, its line of the trace, and what its reasons may name.
+
+ghost use Rattle.std.specs.Prelude.{◌≡◌};
+ghost use Rattle.std.specs.Option.{option_map};
+ghost use Rattle.serf_model.specs.Trace.{packet_given};
+ghost use Rattle.serf_wire.specs.Message.{message_of};
+ghost use Rattle.serf_explain.specs.Noted.{message_given};
 
 use crate::history::History;
 use crate::marks::Marks;
@@ -6,10 +12,10 @@ use crate::quoted::Part;
 use serf_agent::Agent;
 use serf_model::{Act, Action, Line};
 use serf_snap::MemSink;
-use serf_wire::{Message, decode};
+use serf_wire::{Bytes, Message, decode};
 use serf_world::World;
 
-/// An action and what came of it, the cluster after it, and what is remembered of the actions before it.
+/// A turn to be explained: an action and its line, the cluster after it, and what is remembered of those before it.
 #[derive(Clone, Copy)]
 pub(crate) struct Told<'a> {
     /// The action's number, counted from 1.
@@ -18,39 +24,44 @@ pub(crate) struct Told<'a> {
     pub(crate) past: &'a History,
     pub(crate) action: &'a Action,
     pub(crate) line: &'a Line,
-    /// The least time of events behind a merge that raises it.
+    /// The minimum of events after a merge that raises it; `None` of any other action.
     pub(crate) raised: Option<u64>,
-    /// A line of what is said of each event, where a state is merged on a disk that works.
+    /// A line for each event of a state that is merged, as it is where the disk works; empty of any other action.
     pub(crate) carried: &'a [u8],
 }
 
-/// The name of an agent between quotes.
+/// The name of `agent`, which is shown between quotes.
 pub(crate) fn named(agent: &Agent<MemSink>) -> Part<'_> {
     Part::Quoted(agent.config().name.as_slice())
 }
 
-/// The packet that an action gives to its agent.
-fn packet_of<'a>(told: &Told<'a>) -> Option<&'a [u8]> {
-    told.action.given(told.world.sent())
-}
-
-/// What the packet says that an action gives to its agent.
-pub(crate) fn message_of<'a>(told: &Told<'a>) -> Option<Message<'a>> {
-    match decode(packet_of(told)?) {
+/// What the packet says that an action gives to its agent, where these were sent.
+pub(crate) fn message_given<'a>(action: &Action, sent: &'a [Bytes]) -> Option<Message<'a>>
+    ensures { option_map message_of result ≡ message_given (packet_given sent.now action.now) }
+{
+    match decode(action.given(sent)?) {
         Ok(message) => Some(message),
         Err(_) => None,
     }
 }
 
+/// The same of the action that is told.
+pub(crate) fn message_of<'a>(told: &Told<'a>) -> Option<Message<'a>>
+    ensures { option_map message_of result ≡ message_given
+        (packet_given told.now.world.now.sent told.now.action.now) }
+{
+    message_given(told.action, told.world.sent())
+}
+
 /// How many bytes the packet has that an action gives to its agent.
 pub(crate) fn packet_len(told: &Told) -> u64 {
-    match packet_of(told) {
+    match told.action.given(told.world.sent()) {
         Some(bytes) => bytes.len() as u64,
         None => 0,
     }
 }
 
-/// The agent that acts: what it does, what it is after that, and what it was like before.
+/// The agent that acts, of the number `number`: what it does, what it is after that, and its marks before it.
 #[derive(Clone, Copy)]
 pub(crate) struct Actor<'a> {
     pub(crate) number: u64,
@@ -59,7 +70,7 @@ pub(crate) struct Actor<'a> {
     pub(crate) before: Marks,
 }
 
-/// The agent of this number, which does this.
+/// The agent of the number `number`, which does `act`; `None` where no agent has this number.
 pub(crate) fn actor_at<'a>(told: &Told<'a>, number: u64, act: &'a Act) -> Option<Actor<'a>> {
     Some(Actor {
         number,
@@ -69,7 +80,7 @@ pub(crate) fn actor_at<'a>(told: &Told<'a>, number: u64, act: &'a Act) -> Option
     })
 }
 
-/// The moment at which an act is done; 0 where it names none.
+/// The moment at which `act` is done, in nanoseconds; 0 where it names none.
 pub(crate) fn moment_of(act: &Act) -> u64 {
     match act {
         Act::Deliver { now, .. } | Act::Respond { now, .. } | Act::Close { now } => *now,
@@ -77,7 +88,7 @@ pub(crate) fn moment_of(act: &Act) -> u64 {
     }
 }
 
-/// The number of the packet, or of the query, that an act takes; 0 where it takes none.
+/// The number of the packet that `act` gives, or of the query that it answers; 0 where it names none.
 pub(crate) fn number_in(act: &Act) -> u64 {
     match act {
         Act::Deliver { packet, .. } | Act::Merge { packet, .. } => *packet,

@@ -1,14 +1,5 @@
 -- Schedules of seeds, one after another.
-use Rattle.std.proofs.Common.{◌≡◌, ◌+◌, ◌-◌, ◌<◌, ◌++◌, ◌∙◌, ℕ, zero, suc, Bool, List, Option, Some, None, refl, sym, ap, subst, arith}
-use Rattle.std.specs.Prelude.{IfOk, IfSome, Result, Ok, Err}
-use Rattle.std.proofs.KnownBytes.{Appends-trans}
-use Rattle.serf_schedule.specs.Line.{Parsed}
-use Rattle.serf_conform.specs.declared.verdict.ConformFault.{ConformFault}
-use Rattle.serf_hunt.specs.declared.counts.Counts.{Counts}
-use Rattle.serf_hunt.specs.declared.held.Held.{Held}
-use Rattle.serf_hunt.specs.declared.held.Other.{Other}
-use Rattle.serf_hunt.specs.Sweep.{IsLeftBehind, Sweep, Sweeps, sum_of, sweep}
-use Rattle.serf_hunt.specs.Hunt.{AfterSweep, HoldsSeed, Hunt, Hunts, IsHunt, IsHunting}
+use Rattle.serf_hunt.proofs.Names.{Bool, List, None, Option, Some, ap, arith, refl, subst, suc, sym, zero, ℕ, ◌++◌, ◌+◌, ◌-◌, ◌<◌, ◌∙◌, ◌≡◌, Appends-trans, Err, IfOk, IfSome, Ok, Result, Parsed, ConformFault, AfterSweep, HoldsSeed, Hunt, Hunts, IsHunt, IsHunting, IsLeftBehind, Sweep, Sweeps, sum_of, sweep, Counts, Held, Other}
 
 -- a seed whose agents agree
 hunt_on : (makes : ℕ → Parsed → Type 0) (serf : Bool) (old now new from mid to : Option (List ℕ)) (Whole : List ℕ → Hunt → Type 0) (n seed : ℕ) (counts : Counts) (held : Held)

@@ -1,3 +1,4 @@
+pub mod Names
 pub mod HuntLemmas
 pub mod SublistLemmas
 pub mod SweepLemmas

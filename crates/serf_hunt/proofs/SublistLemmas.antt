@@ -1,7 +1,5 @@
 -- Sublists.
-use Rattle.std.proofs.Common.{◌≡◌, ◌≤◌, ◌-◌, ◌++◌, ◌∙◌, ℕ, zero, suc, inl, inr, List, [], ◌∷◌, refl, arith, length, take, drop}
-use Rattle.std.proofs.lemmas.List.{length-drop}
-use Rattle.serf_hunt.specs.Sublist.{IsSublist}
+use Rattle.serf_hunt.proofs.Names.{List, [], arith, drop, inl, inr, length, refl, suc, take, zero, ℕ, ◌++◌, ◌-◌, ◌∙◌, ◌∷◌, ◌≡◌, ◌≤◌, length-drop, IsSublist}
 
 pub sublist-refl : {A : Type 0} (xs : List A) → IsSublist xs xs
 sublist-refl [] = tt

@@ -1,16 +1,6 @@
 -- Agents, held one after another.
-use Rattle.std.proofs.Common.{◌≡◌, ◌≤◌, ◌+◌, ◌++◌, ◌∙◌, ℕ, Bool, true, false, List, [], ◌∷◌, Option, Some, None, refl, sym, ap, subst, arith, length, drop, get_or}
-use Rattle.std.specs.Prelude.{IfSome}
-use Rattle.std.proofs.KnownBytes.{Appends-trans}
-use Rattle.serf_agent.specs.declared.config.Config.{Config}
-use Rattle.serf_model.specs.Trace.{Turn}
-use Rattle.serf_conform.specs.declared.verdict.End.{End}
+use Rattle.serf_hunt.proofs.Names.{Bool, List, None, Option, Some, [], ap, arith, drop, false, get_or, length, refl, subst, sym, true, ℕ, ◌++◌, ◌+◌, ◌∙◌, ◌∷◌, ◌≡◌, ◌≤◌, Appends-trans, IfSome, Config, Turn, Concludes, IsLeft, Session, session, End, Verdict, IsSweeping, Sweep, Sweeps, after_session, is_other, sweep_from, with_verdict, Counts, Held}
 use Rattle.serf_conform.specs.declared.verdict.End.TheVariants as ends
-use Rattle.serf_conform.specs.declared.verdict.Verdict.{Verdict}
-use Rattle.serf_conform.specs.Session.{Concludes, IsLeft, Session, session}
-use Rattle.serf_hunt.specs.declared.counts.Counts.{Counts}
-use Rattle.serf_hunt.specs.declared.held.Held.{Held}
-use Rattle.serf_hunt.specs.Sweep.{IsSweeping, Sweep, Sweeps, after_session, is_other, sweep_from, with_verdict}
 
 -- where an agent does not otherwise, the reader has the rest left
 left_goes : (e : End) (new : Option (List ℕ)) (rest : List ℕ) → is_other e ≡ false → IsLeft e new rest → new ≡ Some rest

@@ -1,21 +1,6 @@
 -- Lists of calls, tried one after another.
-use Rattle.std.proofs.Common.{◌≡◌, ◌≤◌, arith, map, take, drop, length, ◌+◌, ◌++◌, ◌∙◌, ℕ, Bool, List, [], ◌∷◌, Option, Some, None, sym, ap, subst, append_assoc}
-use Rattle.std.specs.Prelude.{IfSome}
-use Rattle.std.specs.Io.KnownBytes.{Appends}
-use Rattle.std.proofs.KnownBytes.{Appends-trans}
-use Rattle.std.proofs.lemmas.List.{append-nil}
-use Rattle.std.proofs.lemmas.List.Sums.{fold-append}
-use Rattle.std.proofs.lemmas.List.FromFn.{map-range_with_len_more}
-use Rattle.std.specs.List.{range_with_len}
-use Rattle.serf_agent.specs.declared.config.Config.{Config}
-use Rattle.serf_conform.specs.Session.{Session}
-use Rattle.serf_hunt.specs.declared.call.Call.{Call}
-use Rattle.serf_hunt.specs.declared.trying.Outcome.{Outcome}
+use Rattle.serf_hunt.proofs.Names.{Bool, List, None, Option, Some, [], ap, append_assoc, arith, drop, length, map, subst, sym, take, ℕ, ◌++◌, ◌+◌, ◌∙◌, ◌∷◌, ◌≡◌, ◌≤◌, Appends-trans, append-nil, map-range_with_len_more, fold-append, Appends, range_with_len, IfSome, Config, Session, IsSublist, deletions, IsAlong, IsLeftBy, IsReached, IsShrunk, IsTried, NarrowsTo, ShrinksTo, Trials, after_trial, failed_by, trial, trials, Call, Narrowed, Shrunk, Outcome}
 use Rattle.serf_hunt.specs.declared.trying.Outcome.TheVariants as outcomes
-use Rattle.serf_hunt.specs.declared.narrowing.Narrowed.{Narrowed}
-use Rattle.serf_hunt.specs.declared.shrinking.Shrunk.{Shrunk}
-use Rattle.serf_hunt.specs.Sublist.{IsSublist, deletions}
-use Rattle.serf_hunt.specs.Trials.{IsAlong, IsLeftBy, IsReached, IsShrunk, ShrinksTo, IsTried, NarrowsTo, Trials, after_trial, failed_by, trial, trials}
 use Rattle.serf_hunt.proofs.SublistLemmas.{cut-sublist, sublist-refl, sublist-trans}
 
 -- one list more

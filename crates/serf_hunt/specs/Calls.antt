@@ -9,7 +9,7 @@ use Rattle.serf_model.specs.declared.action.Action.TheVariants as actions
 use Rattle.serf_model.specs.Trace.{Turn}
 use Rattle.serf_schedule.specs.Line.{Parsed}
 use Rattle.serf_conform.specs.Session.{given_for}
-use Rattle.serf_hunt.specs.declared.call.Call.{Call}
+use Rattle.serf_hunt.specs.declared.alone.Call.{Call}
 
 -- The calls of an agent: its turns that `conform` makes calls of.
 

@@ -3,7 +3,7 @@ use Rattle.std.specs.Prelude.{◌≡◌, List}
 use Rattle.serf_model.specs.Cluster.{run_of, trace_of}
 use Rattle.serf_model.specs.Trace.{Turn, outcome_of, turns_of}
 use Rattle.serf_schedule.specs.Line.{Parsed}
-use Rattle.serf_hunt.specs.declared.case.Case.{Case}
+use Rattle.serf_hunt.specs.declared.held.Case.{Case}
 
 -- the turns of a schedule's run
 abbrev pub turns_in : Parsed → List Turn

@@ -2,7 +2,7 @@
 use Rattle.std.specs.Prelude.{◌≡◌, ℕ, ◌+◌, ◌++◌, Bool, zero, suc, List, Option, Some, None}
 use Rattle.std.specs.Io.KnownBytes.{Appends}
 use Rattle.serf_schedule.specs.Line.{Parsed}
-use Rattle.serf_hunt.specs.declared.counts.Counts.{Counts}
+use Rattle.serf_hunt.specs.declared.held.Counts.{Counts}
 use Rattle.serf_hunt.specs.declared.held.Held.{Held}
 use Rattle.serf_hunt.specs.declared.held.Other.{Other}
 use Rattle.serf_hunt.specs.declared.seeds.Hunted.{Hunted}

@@ -8,7 +8,7 @@ use Rattle.serf_conform.specs.declared.verdict.End.{End}
 use Rattle.serf_conform.specs.declared.verdict.End.TheVariants as ends
 use Rattle.serf_conform.specs.Session.{IsLeft, Session, session}
 use Rattle.serf_conform.specs.declared.verdict.Verdict.{Verdict}
-use Rattle.serf_hunt.specs.declared.counts.Counts.{Counts}
+use Rattle.serf_hunt.specs.declared.held.Counts.{Counts}
 use Rattle.serf_hunt.specs.declared.held.Held.{Held}
 use Rattle.serf_hunt.specs.declared.held.Other.{Other}
 use Rattle.serf_hunt.specs.Case.{turns_in}

@@ -7,12 +7,12 @@ use Rattle.serf_conform.specs.declared.verdict.End.{End}
 use Rattle.serf_conform.specs.declared.verdict.End.TheVariants as ends
 use Rattle.serf_conform.specs.Session.{Session, session}
 use Rattle.serf_hunt.specs.Case.{turns_in}
-use Rattle.serf_hunt.specs.declared.call.Call.{Call}
+use Rattle.serf_hunt.specs.declared.alone.Call.{Call}
 use Rattle.serf_hunt.specs.declared.trying.Outcome.{Outcome}
 use Rattle.serf_hunt.specs.declared.trying.Outcome.TheVariants as outcomes
 use Rattle.serf_hunt.specs.declared.shrinking.Shrunk.{Shrunk}
-use Rattle.serf_hunt.specs.declared.narrowing.Narrowed.{Narrowed}
-use Rattle.serf_hunt.specs.declared.narrowing.Narrowed.TheVariants as narrows
+use Rattle.serf_hunt.specs.declared.shrinking.Narrowed.{Narrowed}
+use Rattle.serf_hunt.specs.declared.shrinking.Narrowed.TheVariants as narrows
 use Rattle.serf_hunt.specs.Calls.{alone}
 use Rattle.serf_hunt.specs.Sublist.{IsSublist, deletions}
 

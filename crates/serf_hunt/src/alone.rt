@@ -1,4 +1,4 @@
-//! The calls of one agent, and the schedule of these alone.
+//! The calls that one agent got in a run, and the schedule of these calls alone.
 
 ghost use Rattle.std.specs.Prelude.{◌≡◌, ◌≤◌, ◌++◌, ◌∷◌, [], ℕ, List, length, IfOk, OnOk};
 ghost use Rattle.std.specs.List.{flat_map};
@@ -7,10 +7,9 @@ ghost use Rattle.serf_schedule.specs.Line.{Parsed};
 ghost use Rattle.serf_schedule.specs.Schedule.{parsed_of};
 ghost use Rattle.serf_conform.specs.Session.{turn_at};
 ghost use Rattle.serf_hunt.specs.Case.{IsRunOf, turns_in};
-ghost use Rattle.serf_hunt.specs.Calls.{alone, calls_by, injections_of, packets_in, placed_from};
+ghost use Rattle.serf_hunt.specs.Calls.{alone, calls_by, injections_of, packets_in, placed, placed_from};
 
-use crate::call::{Call, copy_placed};
-use crate::case::Case;
+use crate::held::Case;
 use serf_agent::Config;
 use serf_conform::{ConformFault, given_packet, is_of, lone_roster};
 use serf_model::{Act, Action, Line};
@@ -18,7 +17,33 @@ use serf_schedule::Schedule;
 use serf_wire::Bytes;
 use std::alloc::{AllocError, Global};
 
-/// Adds the call of a turn, if it is one of this agent.
+/// A call of an agent. What it gives are bytes, so that it means the same whatever came before.
+#[derive(Drop)]
+pub struct Call {
+    pub act: Act,
+    /// The packet of a delivery or a merge; empty in every other call.
+    pub given: Bytes,
+}
+
+fn copy_of_call(alloc: Global, act: &Act, given: &[u8]) -> Result<Call, AllocError>
+    ensures { IfOk result (λ call. call ≡ record { act = act.now; given = given.now }) }
+{
+    let act = act.try_clone(alloc)?;
+    let given = Bytes::copy_of(alloc, given)?;
+    Ok(Call { act, given })
+}
+
+/// Appends calls.
+pub(crate) fn add_calls(alloc: Global, to: &mut Vec<Call>, calls: &[Call]) -> Result<(), AllocError>
+    ensures { OnOk result (to.new.items ≡ to.old.items ++ calls.now) }
+{
+    for call in calls {
+        to.push(copy_of_call(alloc, &call.act, call.given.as_slice())?)?;
+    }
+    Ok(())
+}
+
+/// Adds the call of a turn, before which so many packets were sent, if it is one of this agent.
 fn add_call(
     alloc: Global,
     calls: &mut Vec<Call>,
@@ -27,13 +52,11 @@ fn add_call(
     line: &Line,
     sent: &[Bytes],
     count: usize,
-) -> Result<(), ConformFault>
+) -> Result<(), AllocError>
+    requires { count ≤ length sent.now }
     ensures { OnOk result (calls.new.items ≡ calls.old.items
         ++ calls_by agent (turn_at count sent.now action.now line.now ∷ [])) }
 {
-    if count > sent.len() {
-        return Err(ConformFault::OtherTrace);
-    }
     if !is_of(action, agent) {
         return Ok(());
     }
@@ -43,21 +66,8 @@ fn add_call(
     let Action::Of { act, .. } = action else {
         return Ok(());
     };
-    match copy_of_call(alloc, act, given) {
-        Ok(call) => match calls.push(call) {
-            Ok(()) => Ok(()),
-            Err(_) => Err(ConformFault::OutOfMemory),
-        },
-        Err(_) => Err(ConformFault::OutOfMemory),
-    }
-}
-
-fn copy_of_call(alloc: Global, act: &Act, given: &[u8]) -> Result<Call, AllocError>
-    ensures { IfOk result (λ call. call ≡ record { act = act.now; given = given.now }) }
-{
-    let act = act.try_clone(alloc)?;
-    let given = Bytes::copy_of(alloc, given)?;
-    Ok(Call { act, given })
+    calls.push(copy_of_call(alloc, act, given)?)?;
+    Ok(())
 }
 
 fn calls_in(
@@ -123,16 +133,6 @@ fn add_packet(alloc: Global, actions: &mut Vec<Action>, call: &Call) -> Result<(
     }
 }
 
-fn add_packets(alloc: Global, actions: &mut Vec<Action>, calls: &[Call]) -> Result<(), AllocError>
-    ensures { OnOk result (actions.new.items ≡ actions.old.items
-        ++ flat_map injections_of calls.now) }
-{
-    for call in calls {
-        add_packet(alloc, actions, call)?;
-    }
-    Ok(())
-}
-
 /// How many packets a call gives: 1 or none.
 fn packets_of(act: &Act) -> u64
     ensures count { (given : List ℕ) → result ≡ length (packets_in act.now given) }
@@ -142,6 +142,27 @@ fn packets_of(act: &Act) -> u64
         Act::Deliver { .. } | Act::Merge { .. } => 1,
         _ => 0,
     }
+}
+
+/// What an agent does once more, where the packet that it is given has this number.
+fn copy_placed(alloc: Global, packet: u64, act: &Act) -> Result<Act, AllocError>
+    ensures { IfOk result (λ copy. copy ≡ placed packet act.now) }
+{
+    match *act {
+        Act::Deliver { now, .. } => Ok(Act::Deliver { packet, now }),
+        Act::Merge { join, .. } => Ok(Act::Merge { packet, join }),
+        _ => act.try_clone(alloc),
+    }
+}
+
+fn add_packets(alloc: Global, actions: &mut Vec<Action>, calls: &[Call]) -> Result<(), AllocError>
+    ensures { OnOk result (actions.new.items ≡ actions.old.items
+        ++ flat_map injections_of calls.now) }
+{
+    for call in calls {
+        add_packet(alloc, actions, call)?;
+    }
+    Ok(())
 }
 
 /// Adds calls as actions of agent 0, which name their packets by the order in which calls give them.
@@ -180,8 +201,6 @@ pub fn alone_schedule(
     ensures { IfOk result (λ schedule. parsed_of schedule ≡ alone config.now calls.now) }
 {
     let agents = lone_roster(alloc, config)?;
-    match alone_actions(alloc, calls) {
-        Ok(actions) => Ok(Schedule { agents, actions }),
-        Err(_) => Err(ConformFault::OutOfMemory),
-    }
+    let actions = alone_actions(alloc, calls)?;
+    Ok(Schedule { agents, actions })
 }

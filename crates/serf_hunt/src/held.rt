@@ -1,19 +1,109 @@
-//! All agents of a schedule, held one after another.
+//! The run of a schedule, and all its agents, held one after another.
 
 ghost use Rattle.std.specs.Prelude.{◌≡◌, [], IfOk, IfSome};
 ghost use Rattle.serf_model.specs.Trace.{outcome_of, turns_of};
 ghost use Rattle.serf_schedule.specs.Line.{Parsed};
+ghost use Rattle.serf_schedule.specs.Schedule.{parsed_of};
 ghost use Rattle.serf_conform.specs.Rules.{is_serf};
 ghost use Rattle.serf_hunt.specs.Case.{IsRunOf};
-ghost use Rattle.serf_hunt.specs.Sweep.{Sweeps, is_other as is_other_end, no_counts, sweep, sweep_from};
+ghost use Rattle.serf_hunt.specs.Sweep.{Sweeps, ends_unsupported as ends_unsupported_of, is_other as is_other_end, no_counts, sum_of, sweep, sweep_from, with_verdict};
 
-use crate::case::Case;
-use crate::counts::{Counts, no_counts, with_verdict};
 use serf_agent::Config;
 use serf_conform::{ConformFault, End, Rules, Verdict, hold};
 use serf_model::{Action, Trace};
-use std::alloc::Global;
+use serf_schedule::Schedule;
+use serf_world::run;
+use std::alloc::{AllocError, Global};
 use std::io::{Read, Write};
+
+/// A schedule and the trace of its run.
+#[derive(Drop)]
+pub struct Case {
+    pub configs: Vec<Config>,
+    pub actions: Vec<Action>,
+    pub trace: Trace,
+}
+
+/// Runs a schedule.
+pub fn case_of(alloc: Global, schedule: Schedule) -> Result<Case, AllocError>
+    ensures { IfOk result (IsRunOf (parsed_of schedule)) }
+{
+    let Schedule { agents, actions } = schedule;
+    let configs = agents.try_clone(alloc)?.into_vec();
+    match run(alloc, agents.into_vec(), &actions) {
+        Ok(trace) => Ok(Case {
+            configs,
+            actions,
+            trace,
+        }),
+        Err(_) => Err(AllocError),
+    }
+}
+
+/// Sums over agents; each stops at 2^64 - 1.
+#[derive(Clone, Copy, PartialEq, Eq)]
+pub struct Counts {
+    /// How many agents were held.
+    pub agents: u64,
+    /// How many calls agree; each agent's opening is one.
+    pub calls: u64,
+    /// Of how many agents the comparison ended at a call that is unsupported.
+    pub unsupported_agents: u64,
+    /// How many looks are unsupported.
+    pub unsupported_looks: u64,
+}
+
+/// The sums over no agent. Takes no memory.
+pub fn no_counts() -> Counts
+    ensures { result ≡ no_counts }
+{
+    Counts {
+        agents: 0,
+        calls: 0,
+        unsupported_agents: 0,
+        unsupported_looks: 0,
+    }
+}
+
+/// 1 where the comparison ended at a call that is unsupported, and else 0.
+fn ends_unsupported(end: &End) -> u64
+    ensures { result ≡ ends_unsupported_of end.now }
+{
+    match end {
+        End::Unsupported => 1,
+        _ => 0,
+    }
+}
+
+/// The sums over both; each stops at 2^64 - 1. Takes no memory.
+pub fn sum_of(counts: Counts, more: Counts) -> Counts
+    ensures { result ≡ sum_of counts more }
+{
+    Counts {
+        agents: counts.agents.saturating_add(more.agents),
+        calls: counts.calls.saturating_add(more.calls),
+        unsupported_agents: counts
+            .unsupported_agents
+            .saturating_add(more.unsupported_agents),
+        unsupported_looks: counts
+            .unsupported_looks
+            .saturating_add(more.unsupported_looks),
+    }
+}
+
+/// The sums with another agent's verdict; each stops at 2^64 - 1. Takes no memory.
+pub fn with_verdict(counts: Counts, verdict: &Verdict) -> Counts
+    ensures { result ≡ with_verdict counts verdict.now }
+{
+    let unsupported_agents = ends_unsupported(&verdict.end);
+    let more = Counts {
+        agents: 1,
+        calls: verdict.calls,
+        unsupported_agents,
+        unsupported_looks: verdict.unsupported_looks,
+    };
+    sum_of(counts, more)
+}
 
 /// An agent that does otherwise than the reference.
 #[derive(Drop)]
@@ -24,25 +114,19 @@ pub struct Other {
     pub verdict: Verdict,
 }
 
-/// What is thought of the agents of a schedule.
+/// The sums over the agents of a schedule that were held, and the first one that differs.
 #[derive(Drop)]
 pub struct Held {
     pub counts: Counts,
-    /// The first agent that does otherwise.
+    /// The first agent that differs from the reference, or that ended.
     pub other: Option<Other>,
 }
 
 /// Whether an agent replied otherwise, or has ended.
-pub(crate) fn is_other(end: &End) -> bool
+fn is_other(end: &End) -> bool
     ensures { result ≡ is_other_end end.now }
 {
-    match end {
-        End::AllAgree => false,
-        End::OwnRule => false,
-        End::Unsupported => false,
-        End::Differs(_) => true,
-        End::Ended => true,
-    }
+    matches!(end, End::Differs(_) | End::Ended)
 }
 
 fn hold_configs<R: Read, W: Write>(
@@ -82,10 +166,10 @@ fn hold_configs<R: Read, W: Write>(
 }
 
 /// Holds each agent of a schedule against the reference, one after another ([`serf_conform::hold`]), up to the first that
-/// does otherwise.
+/// differs from it, or ends.
 ///
-/// An agent that has no such call, or whose turn rests on an own rule where Serf's rules are asked for, does not
-/// otherwise: the next one is held then.
+/// An agent that doesn't support a call, or whose turn rests on an own rule where Serf's rules are asked for, does not
+/// differ: the next one is held then.
 pub fn hold_each<R: Read, W: Write>(
     alloc: Global,
     reader: &mut R,

@@ -9,7 +9,7 @@ ghost use Rattle.serf_hunt.specs.Members.{member_text};
 use serf_text::put_number;
 use std::alloc::AllocError;
 
-/// Where an agent did otherwise than the reference.
+/// The call at which an agent differs from the reference, or ended.
 #[derive(Clone, Copy)]
 pub struct Disagreement<'a> {
     /// The seed of the schedule; `None` where it came from a file.
@@ -18,7 +18,7 @@ pub struct Disagreement<'a> {
     pub kind: Option<&'a [u8]>,
     /// The agent's number.
     pub agent: u64,
-    /// How many of its calls agree before.
+    /// How many of its calls before this one agree.
     pub agreed: u64,
     /// The number of the action, counted from 1; 0 for the opening.
     pub action: u64,
@@ -34,20 +34,20 @@ pub struct Disagreement<'a> {
     pub has_ended: bool,
 }
 
-/// What came of all agents together.
+/// The sums over all agents that were held.
 #[derive(Clone, Copy)]
 pub struct Sums {
     /// How many seeds, or 1 for the schedule of a file, were held to their end.
     pub schedules: u64,
     /// How many calls agree.
     pub calls: u64,
-    /// How many agents did otherwise.
+    /// How many agents differ from the reference, or ended.
     pub disagreements: u64,
     /// The status with which the command ends.
     pub status: u64,
 }
 
-/// A member of an object: its name and its value.
+/// A member of a JSON object: its name and its value.
 #[derive(Clone, Copy)]
 pub(crate) enum Member<'a> {
     Number(&'a [u8], u64),
@@ -57,7 +57,7 @@ pub(crate) enum Member<'a> {
     Absent,
 }
 
-/// A digit of hex, in lower case.
+/// The ASCII byte of the hex digit `digit`, in lower case.
 fn hex_digit(digit: u8) -> u8
     requires { digit < 16 }
     ensures { result ≡ hex_digit_of digit }
@@ -80,21 +80,14 @@ fn put_json_byte(out: &mut Vec<u8>, byte: u8) -> Result<(), AllocError>
     }
 }
 
-fn put_json_bytes(out: &mut Vec<u8>, text: &[u8]) -> Result<(), AllocError>
-    ensures { OnOk result (out.new.items ≡ out.old.items ++ flat_map json_byte text.now) }
-{
-    for byte in text {
-        put_json_byte(out, *byte)?;
-    }
-    Ok(())
-}
-
 /// Appends a JSON text.
 fn put_json_text(out: &mut Vec<u8>, text: &[u8]) -> Result<(), AllocError>
     ensures { OnOk result (out.new.items ≡ out.old.items ++ json_text text.now) }
 {
     out.extend_from_slice(b"\"")?;
-    put_json_bytes(out, text)?;
+    for byte in text {
+        put_json_byte(out, *byte)?;
+    }
     out.extend_from_slice(b"\"")
 }
 
@@ -127,15 +120,6 @@ fn put_member(out: &mut Vec<u8>, member: Member) -> Result<(), AllocError>
     }
 }
 
-fn put_members(out: &mut Vec<u8>, members: &[Member]) -> Result<(), AllocError>
-    ensures { OnOk result (out.new.items ≡ out.old.items ++ flat_map member_text members.now) }
-{
-    for member in members {
-        put_member(out, *member)?;
-    }
-    Ok(())
-}
-
 /// Appends the line of an object of this kind and these members.
 fn put_object(out: &mut Vec<u8>, kind: &[u8], members: &[Member]) -> Result<(), AllocError>
     ensures { OnOk result (out.new.items ≡ out.old.items
@@ -143,7 +127,9 @@ fn put_object(out: &mut Vec<u8>, kind: &[u8], members: &[Member]) -> Result<(), 
 {
     out.extend_from_slice(b"{\"report\":")?;
     put_json_text(out, kind)?;
-    put_members(out, members)?;
+    for member in members {
+        put_member(out, *member)?;
+    }
     out.extend_from_slice(b"}\n")
 }
 

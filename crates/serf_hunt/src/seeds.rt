@@ -5,15 +5,43 @@ ghost use Rattle.serf_conform.specs.Rules.{is_serf};
 ghost use Rattle.serf_hunt.specs.Hunt.{HoldsSeed, Hunts, IsHunt};
 ghost use Rattle.serf_hunt.specs.Sweep.{no_counts};
 
-use crate::case::case_of;
-use crate::counts::{Counts, sum_of};
-use crate::held::{Held, Other, hold_each};
-use crate::maker::Maker;
+use crate::held::{Counts, Held, Other, case_of, hold_each, sum_of};
 use serf_conform::{ConformFault, Rules};
-use serf_schedule::Watch;
-use std::alloc::Global;
+use serf_random::{Ask, random_schedule};
+use serf_schedule::{Schedule, Unwatched, Watch};
+use std::alloc::{AllocError, Global};
 use std::io::{Read, Write};
 use thiserror::Error;
+
+/// Makes the schedule of a seed. `makes` says of which seed a schedule may be.
+pub trait Maker {
+    ghost use Rattle.std.specs.Prelude.{ℕ, IfOk};
+    ghost use Rattle.serf_schedule.specs.Line.{Parsed};
+    ghost use Rattle.serf_schedule.specs.Schedule.{parsed_of};
+
+    ghost makes: { Self → ℕ → Parsed → Type 0 };
+
+    /// The schedule of a seed, or `AllocError` where there is no memory for it.
+    fn make(&self, alloc: Global, seed: u64) -> Result<Schedule, AllocError>
+        ensures { IfOk result (λ schedule. makes self.now seed (parsed_of schedule)) };
+}
+
+/// Makes random schedules, of the seed that is asked for in the place of its own.
+#[derive(Clone, Copy)]
+pub struct RandomSchedules(pub Ask);
+
+impl Maker for RandomSchedules {
+    ghost use Rattle.serf_hunt.specs.Random.{IsRandom};
+
+    ghost makes = { λ m seed p. IsRandom (record m.0 { seed = seed }) p };
+
+    fn make(&self, alloc: Global, seed: u64) -> Result<Schedule, AllocError> {
+        let RandomSchedules(asked) = *self;
+        let ask = Ask { seed, ..asked };
+        let made = random_schedule(alloc, &ask, &mut Unwatched)?;
+        Ok(made.schedule)
+    }
+}
 
 /// The first agent that does otherwise.
 #[derive(Drop)]
@@ -23,7 +51,7 @@ pub struct Found {
     pub other: Other,
 }
 
-/// What came of a hunt.
+/// The result of a hunt: sums over the agents that were held, and the first that differs.
 #[derive(Drop)]
 pub struct Hunted {
     pub counts: Counts,
@@ -31,16 +59,16 @@ pub struct Hunted {
     pub found: Option<Found>,
 }
 
-/// Why a hunt has no end.
+/// Why a hunt was broken off.
 #[derive(Clone, Copy, Debug, Drop, Error, PartialEq, Eq)]
 #[error("seed {seed}: {fault}")]
 pub struct HuntFault {
-    /// The seed at which it ended.
+    /// The seed at which it was broken off.
     pub seed: u64,
     pub fault: ConformFault,
 }
 
-/// Makes the schedule of a seed, and holds its agents.
+/// Makes the schedule of `seed`, and holds its agents ([`hold_each`]).
 fn hold_seed<M: Maker, R: Read, W: Write>(
     alloc: Global,
     maker: &M,
@@ -53,17 +81,13 @@ fn hold_seed<M: Maker, R: Read, W: Write>(
         IfSome (R.remaining reader.old) (λ input. HoldsSeed (M.makes maker.now seed) (is_serf rules)
         input held (R.remaining reader.new) (W.contents writer.old) (W.contents writer.new))) }
 {
-    let Ok(schedule) = maker.make(alloc, seed) else {
-        return Err(ConformFault::OutOfMemory);
-    };
-    let Ok(case) = case_of(alloc, schedule) else {
-        return Err(ConformFault::OutOfMemory);
-    };
+    let schedule = maker.make(alloc, seed)?;
+    let case = case_of(alloc, schedule)?;
     hold_each(alloc, reader, writer, rules, &case)
 }
 
 /// Makes the schedules of the seeds from `first` on and before `end`, one after another, and holds the agents of each
-/// ([`hold_each`]), up to the first that does otherwise.
+/// ([`hold_each`]), up to the first that differs from the reference, or ends.
 ///
 /// Each agent is opened anew, so that one subject serves all seeds. After a fault the subject may have got a part of a
 /// call.
@@ -105,8 +129,6 @@ pub fn hunt<M: Maker, R: Read, W: Write, H: Watch>(
             return Ok(Hunted { counts, found });
         }
     }
-    Ok(Hunted {
-        counts,
-        found: None,
-    })
+    let found = None;
+    Ok(Hunted { counts, found })
 }

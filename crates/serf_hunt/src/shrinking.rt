@@ -1,16 +1,15 @@
-//! Calls at which an agent fails, made fewer.
+//! Calls at which an agent fails, made fewer: until no single one can be left out.
 
-ghost use Rattle.std.specs.Prelude.{ℕ, List, Option, [], IfOk, IfSome};
+ghost use Rattle.std.specs.Prelude.{◌≡◌, ◌≤◌, ◌++◌, ℕ, List, Option, [], true, false, length, take, drop, IfOk, IfSome};
 ghost use Rattle.serf_conform.specs.Rules.{is_serf};
-ghost use Rattle.serf_hunt.specs.Trials.{IsAlong, IsShrunk, ShrinksTo};
+ghost use Rattle.serf_hunt.specs.Trials.{IsAlong, IsFewer, IsShrunk, IsTried, NarrowsTo, ShrinksTo, trial};
 
-use crate::call::Call;
-use crate::narrowing::{Narrowed, narrow};
+use crate::alone::{Call, add_calls};
 use crate::trying::{Outcome, try_calls};
 use serf_agent::Config;
 use serf_conform::{ConformFault, Rules};
 use serf_schedule::Watch;
-use std::alloc::Global;
+use std::alloc::{AllocError, Global};
 use std::io::{Read, Write};
 
 /// What is left of the calls at which an agent fails.
@@ -19,6 +18,144 @@ pub struct Shrunk {
     pub calls: Vec<Call>,
     /// Whether no single call can be left out. Otherwise the agent ended at a trial: that is tested, and not proved.
     pub is_smallest: bool,
+}
+
+/// What came of trials of fewer calls.
+#[derive(Drop)]
+pub(crate) enum Narrowed {
+    /// These fail too.
+    Shorter(Vec<Call>),
+    /// None of them failed.
+    Stays,
+    /// The agent ended at a trial.
+    Ended,
+}
+
+/// The calls without those from one place up to another.
+fn without(alloc: Global, calls: &[Call], from: usize, to: usize) -> Result<Vec<Call>, AllocError>
+    requires ordered { from ≤ to }
+    requires within { to ≤ length calls.now }
+    ensures { IfOk result (λ left. left.items ≡ take from calls.now ++ drop to calls.now) }
+{
+    let mut left = Vec::new(alloc);
+    add_calls(alloc, &mut left, &calls[..from])?;
+    add_calls(alloc, &mut left, &calls[to..])?;
+    Ok(left)
+}
+
+/// Tries the calls without those from one place up to another, and gives them with what came of it.
+fn try_without<R: Read, W: Write>(
+    alloc: Global,
+    reader: &mut R,
+    writer: &mut W,
+    rules: Rules,
+    config: &Config,
+    calls: &[Call],
+    from: usize,
+    to: usize,
+) -> Result<(Vec<Call>, Outcome), ConformFault>
+    requires ordered { from ≤ to }
+    requires within { to ≤ length calls.now }
+    ensures left { IfOk result (λ t. t.0.items ≡ take from calls.now ++ drop to calls.now) }
+    ensures tried { IfOk result (λ t. IfSome (R.remaining reader.old) (λ input.
+        IsTried (trial (is_serf rules) config.now t.0.items input) t.1 (R.remaining reader.new)
+        (W.contents writer.old) (W.contents writer.new))) }
+{
+    let left = without(alloc, calls, from, to)?;
+    let outcome = try_calls(alloc, reader, writer, rules, config, &left)?;
+    Ok((left, outcome))
+}
+
+/// Tries the calls without each one of them, up to the first that fails.
+fn narrow_by_one<R: Read, W: Write>(
+    alloc: Global,
+    reader: &mut R,
+    writer: &mut W,
+    rules: Rules,
+    config: &Config,
+    calls: &[Call],
+) -> Result<Narrowed, ConformFault>
+    ensures fewer { IfOk result (λ n. IsFewer n (length calls.now)) }
+    ensures narrows { (whole : List Call) (input : List ℕ) (from : Option (List ℕ))
+        → IsAlong (is_serf rules) config.now whole calls.now [] input (R.remaining reader.old)
+        from (W.contents writer.old)
+        → IfOk result (λ n. NarrowsTo (is_serf rules) config.now whole calls.now true n input
+        (R.remaining reader.new) from (W.contents writer.new)) }
+{
+    for at in 0..calls.len() {
+        let (fewer, outcome) = try_without(
+            alloc,
+            reader,
+            writer,
+            rules,
+            config,
+            calls,
+            at,
+            at + 1,
+        )?;
+        match outcome {
+            Outcome::Fails => return Ok(Narrowed::Shorter(fewer)),
+            Outcome::Ended => return Ok(Narrowed::Ended),
+            Outcome::Agrees => {}
+        }
+    }
+    Ok(Narrowed::Stays)
+}
+
+/// Tries the calls without so many in a row, at each multiple of that number, up to the first that fails.
+fn narrow_by_many<R: Read, W: Write>(
+    alloc: Global,
+    reader: &mut R,
+    writer: &mut W,
+    rules: Rules,
+    config: &Config,
+    calls: &[Call],
+    size: usize,
+) -> Result<Narrowed, ConformFault>
+    requires { 1 ≤ size }
+    ensures fewer { IfOk result (λ n. IsFewer n (length calls.now)) }
+    ensures narrows { (whole : List Call) (input : List ℕ) (from : Option (List ℕ))
+        → IsAlong (is_serf rules) config.now whole calls.now [] input (R.remaining reader.old)
+        from (W.contents writer.old)
+        → IfOk result (λ n. NarrowsTo (is_serf rules) config.now whole calls.now false n input
+        (R.remaining reader.new) from (W.contents writer.new)) }
+{
+    let mut at: usize = 0;
+    'chunks: while at < calls.len() {
+        let end = at + size.min(calls.len() - at);
+        let (shorter, outcome) = try_without(alloc, reader, writer, rules, config, calls, at, end)?;
+        match outcome {
+            Outcome::Fails => return Ok(Narrowed::Shorter(shorter)),
+            Outcome::Ended => return Ok(Narrowed::Ended),
+            Outcome::Agrees => at = end,
+        }
+    }
+    Ok(Narrowed::Stays)
+}
+
+/// Tries the calls without each one of them where `singles` says so; else without so many in a row.
+fn narrow<R: Read, W: Write>(
+    alloc: Global,
+    reader: &mut R,
+    writer: &mut W,
+    rules: Rules,
+    config: &Config,
+    calls: &[Call],
+    singles: bool,
+    size: usize,
+) -> Result<Narrowed, ConformFault>
+    ensures fewer { IfOk result (λ n. IsFewer n (length calls.now)) }
+    ensures narrows { (whole : List Call) (input : List ℕ) (from : Option (List ℕ))
+        → IsAlong (is_serf rules) config.now whole calls.now [] input (R.remaining reader.old)
+        from (W.contents writer.old)
+        → IfOk result (λ n. NarrowsTo (is_serf rules) config.now whole calls.now singles n input
+        (R.remaining reader.new) from (W.contents writer.new)) }
+{
+    if singles {
+        narrow_by_one(alloc, reader, writer, rules, config, calls)
+    } else {
+        narrow_by_many(alloc, reader, writer, rules, config, calls, size.max(1))
+    }
 }
 
 /// Leaves out calls as long as what is left fails: first half of them, and then half as many each time that nothing
@@ -47,17 +184,13 @@ fn settle<R: Read, W: Write, H: Watch>(
         match narrow(alloc, reader, writer, rules, config, &calls, singles, size)? {
             Narrowed::Shorter(shorter) => calls = shorter,
             Narrowed::Stays if singles => {
-                return Ok(Shrunk {
-                    calls,
-                    is_smallest: true,
-                });
+                let is_smallest = true;
+                return Ok(Shrunk { calls, is_smallest });
             }
             Narrowed::Stays => size /= 2,
             Narrowed::Ended => {
-                return Ok(Shrunk {
-                    calls,
-                    is_smallest: false,
-                });
+                let is_smallest = false;
+                return Ok(Shrunk { calls, is_smallest });
             }
         }
     }

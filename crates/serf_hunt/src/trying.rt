@@ -1,18 +1,17 @@
-//! One trial of a list of calls.
+//! One trial: whether an agent that is opened anew, and gets only these calls, fails.
 
 ghost use Rattle.std.specs.Prelude.{◌≡◌, IfOk, IfSome};
 ghost use Rattle.serf_conform.specs.Rules.{is_serf};
 ghost use Rattle.serf_hunt.specs.Trials.{IsTried, outcome_of, trial};
 
-use crate::alone::alone_schedule;
-use crate::call::Call;
-use crate::case::case_of;
+use crate::alone::{Call, alone_schedule};
+use crate::held::case_of;
 use serf_agent::Config;
 use serf_conform::{ConformFault, End, Rules, hold};
 use std::alloc::Global;
 use std::io::{Read, Write};
 
-/// What came of a trial.
+/// How a trial ended.
 #[derive(Clone, Copy, PartialEq, Eq)]
 pub enum Outcome {
     /// Each reply agrees, up to a turn that wasn't compared.
@@ -23,13 +22,12 @@ pub enum Outcome {
     Ended,
 }
 
+/// The outcome of a trial whose comparison with the reference ended as `end` says.
 fn outcome_at(end: &End) -> Outcome
     ensures { result ≡ outcome_of end.now }
 {
     match end {
-        End::AllAgree => Outcome::Agrees,
-        End::OwnRule => Outcome::Agrees,
-        End::Unsupported => Outcome::Agrees,
+        End::AllAgree | End::OwnRule | End::Unsupported => Outcome::Agrees,
         End::Differs(_) => Outcome::Fails,
         End::Ended => Outcome::Ended,
     }

@@ -1,6 +1,5 @@
 -- What stands again, and what first, where one more comes behind, and what a view of the items says.
-use Rattle.serf_judge.proofs.Names.{AreKept, Bool, List, [], ap, append-nil, append_assoc, cond, false, kept, list_any, map, map-append, not, picked_behind, refl, sym, true, ◌++◌, ◌||◌, ◌∙◌, ◌∷◌, ◌≡◌}
-use mathlib.Core.Bool.{beq}
+use Rattle.serf_judge.proofs.Names.{Bool, List, [], ap, append_assoc, cond, false, map, not, refl, sym, true, ◌++◌, ◌||◌, ◌∙◌, ◌∷◌, ◌≡◌, append-nil, map-append, list_any, beq, picked_behind, AreKept, kept}
 use Rattle.serf_judge.proofs.NotedLaws.{key-more}
 
 picked-push : {X : Type 0} (keep : Bool → Bool) (eq : X → X → Bool) (before xs : List X) (x : X)

@@ -1,5 +1,5 @@
 -- What one more firing makes of those that are noted.
-use Rattle.serf_judge.proofs.Names.{Bool, Decides, EventContent, Identity, [], ap, arith, at_node, false, is_same_content, max, min, nat_lt, nat_tests, refl, true, ℕ, ◌||◌, ◌∙◌, ◌≡◌}
+use Rattle.serf_judge.proofs.Names.{Bool, Decides, [], ap, arith, false, max, min, nat_lt, refl, true, ℕ, ◌||◌, ◌∙◌, ◌≡◌, nat_tests, EventContent, is_same_content, Identity, at_node}
 use Rattle.serf_judge.proofs.KeyLaws.{same-decides}
 
 pub content-decides : (x y : EventContent) → Decides (is_same_content x y) (x ≡ y)

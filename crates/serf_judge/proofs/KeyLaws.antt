@@ -1,6 +1,5 @@
 -- Equal keys are those of one event, or of one query, at one node.
-use Rattle.serf_judge.proofs.Names.{Bool, Decides, Decides-eqb, Identity, None, Option, Some, and_from, and_parts, ap, bytes_eq, bytes_eq-Decides, is_same, key_eq, key_identity, nat_eq, none-some, option_eq, refl, sym, true≢false, unwrap_or, ℕ, ◌&&◌, ◌≡◌}
-use Rattle.serf_judge.specs.declared.key.Key.{Key}
+use Rattle.serf_judge.proofs.Names.{Bool, Decides, None, Option, Some, ap, nat_eq, refl, sym, true≢false, unwrap_or, ℕ, ◌&&◌, ◌≡◌, and_from, and_parts, Decides-eqb, none-some, bytes_eq-Decides, option_eq, bytes_eq, Identity, is_same, key_eq, key_identity, Key}
 
 ids : (a b : Option ℕ) → Decides (option_eq nat_eq a b) (a ≡ b)
 ids None None = (λ _. refl, λ _. refl)

@@ -1,6 +1,5 @@
 -- What the greatest times say of a firing, and what is in order.
-use Rattle.serf_judge.proofs.Names.{Any-from_list_any, Bool, Bor, EventEntry, IsAllAdjacentAnswer, IsCut, IsInOrder, IsLater, IsNotLater, IsTrue, List, MatchOption, None, Notes, Option, Some, [], and_from, and_parts, ap, arith, bytes_eq, bytes_eq-Decides, cases_lt, fails_before_first, false, get_or, get_or_from_slice_get, inl, inr, is_handed_at, le-leb, le-ltb, leb-true, length, list_any, list_any_at, lt-ltb, ltb-true, max, nat_le, nat_lt, nat_tests, passes_at_first, position, position_or_len, refl, says, slice_get, slice_get-get_or, slice_get_cases, slice_get_within, suc, sym, take, true, true≢false, zero, ℕ, ◌&&◌, ◌+◌, ◌<◌, ◌||◌, ◌↔◌, ◌∙◌, ◌∷◌, ◌≡◌, ◌≤◌, ◌⊎◌}
-use Rattle.std.proofs.lemmas.List.Sorted.{IsNonDecreasingBy-from_all_adjacent}
+use Rattle.serf_judge.proofs.Names.{Bool, Bor, IsTrue, List, None, Option, Some, [], ap, arith, false, get_or, inl, inr, length, max, nat_le, nat_lt, refl, suc, sym, take, true, true≢false, zero, ℕ, ◌&&◌, ◌+◌, ◌<◌, ◌||◌, ◌↔◌, ◌∙◌, ◌∷◌, ◌≡◌, ◌≤◌, ◌⊎◌, and_from, and_parts, cases_lt, le-leb, le-ltb, leb-true, lt-ltb, ltb-true, nat_tests, Any-from_list_any, list_any_at, IsNonDecreasingBy-from_all_adjacent, fails_before_first, passes_at_first, get_or_from_slice_get, slice_get-get_or, slice_get_cases, slice_get_within, bytes_eq-Decides, IsAllAdjacentAnswer, list_any, position_or_len, MatchOption, position, slice_get, bytes_eq, IsInOrder, IsLater, IsNotLater, IsCut, Notes, is_handed_at, says, EventEntry}
 
 pub greatest-more : (time noted least : ℕ) → nat_le least (max time noted) ≡ (nat_le least noted || nat_le least time)
 greatest-more time noted least = grind (arith, nat_tests)

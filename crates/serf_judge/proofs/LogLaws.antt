@@ -1,7 +1,5 @@
 -- What a line adds to a log, by its words.
-use Rattle.serf_judge.proofs.Names.{List, LogView, Ok, OnOk, Result, [], ap, false, if◌then◌else◌, is_comment, on_ok_weaker, sym, with_date, with_line, with_said, words_of, words_said, ℕ, ◌∙◌, ◌≡◌}
-use Rattle.serf_judge.specs.Dated.{behind_date, date_text}
-use Rattle.serf_judge.specs.Log.{nothing}
+use Rattle.serf_judge.proofs.Names.{List, Ok, OnOk, Result, [], ap, false, sym, ℕ, ◌∙◌, ◌≡◌, on_ok_weaker, if◌then◌else◌, words_of, behind_date, date_text, nothing, LogView, is_comment, with_date, with_line, with_said, words_said}
 
 by-words : (log : LogView) (n : ℕ) (line : List ℕ) → is_comment line ≡ false
     → with_said (with_date log n (date_text (words_of line))) n (words_said (behind_date (words_of line))) ≡ with_line log n line

@@ -1,6 +1,5 @@
 -- Which events some node was never handed, one after another.
-use Rattle.serf_judge.proofs.Names.{Bool, Bor, EventContent, EventEntry, List, Missing, [], ap, append-nil, at_most, cond, contents_of, event_seen, false, filter, filter-append, get_or, has_nodes, key_content, length, lt-ltb, map, map_more, missed_of, missing_at, missing_of, nat_lt, not, receivers_of, refl, sym, take, take-map, take_all, texts_of, true, was_handed, ℕ, ◌++◌, ◌+◌, ◌<◌, ◌∙◌, ◌∷◌, ◌≡◌, ◌≤◌}
-use Rattle.serf_judge.specs.declared.fired.ContentKey.{ContentKey}
+use Rattle.serf_judge.proofs.Names.{Bool, Bor, List, [], ap, cond, false, get_or, length, map, nat_lt, not, refl, sym, take, take_all, true, ℕ, ◌++◌, ◌+◌, ◌<◌, ◌∙◌, ◌∷◌, ◌≡◌, ◌≤◌, lt-ltb, append-nil, map_more, take-map, filter-append, filter, EventContent, key_content, event_seen, Missing, at_most, contents_of, has_nodes, missed_of, missing_at, missing_of, was_handed, receivers_of, texts_of, EventEntry, ContentKey}
 use Rattle.serf_judge.proofs.TallyLaws.{map-map, no_text}
 
 filter-view : {X Y : Type 0} (f : X → Y) (p : X → Bool) (q : Y → Bool) → ((x : X) → p x ≡ q (f x)) → (xs : List X) → map f (filter p xs) ≡ filter q (map f xs)

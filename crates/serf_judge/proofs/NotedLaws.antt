@@ -1,5 +1,5 @@
 -- What a set or a table notes, where one more item comes behind.
-use Rattle.serf_judge.proofs.Names.{Bool, Decides, List, Notes, Option, Some, [], ap, cond, false, list_any, list_any-append, refl, same_from_decides, says, sym, true, ◌&&◌, ◌++◌, ◌||◌, ◌∙◌, ◌∷◌, ◌≡◌}
+use Rattle.serf_judge.proofs.Names.{Bool, Decides, List, Option, Some, [], ap, cond, false, refl, sym, true, ◌&&◌, ◌++◌, ◌||◌, ◌∙◌, ◌∷◌, ◌≡◌, same_from_decides, list_any-append, list_any, Notes, says}
 
 or-nothing : (a b : Bool) → (a || (b || false)) ≡ (a || b)
 or-nothing true b = refl

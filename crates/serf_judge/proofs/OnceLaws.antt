@@ -1,7 +1,5 @@
 -- A log that has what agents were handed hands nothing twice exactly where each agent was handed each thing once.
-use Rattle.serf_judge.proofs.Names.{AllPairs, AreFirstTwo, Bool, HasNoTwo, Identity, List, MatchOption, None, Option, Some, [], ap, arith, bytes_eq, bytes_eq-Decides, cond, false, filter, get_or, get_or-map, length, length-map, map, refl, slice_get, slice_get-get_or, slice_get-map, slice_get_within, subst, suc, sym, true, zero, ℕ, ◌<◌, ◌↔◌, ◌∙◌, ◌∷◌, ◌≡◌, ◌≢◌}
-use Rattle.std.proofs.lemmas.List.Kept.{AllPairs-filter}
-use Rattle.serf_judge.specs.Stands.{StandsFor}
+use Rattle.serf_judge.proofs.Names.{Bool, List, None, Option, Some, [], ap, arith, cond, false, get_or, length, map, refl, subst, suc, sym, true, zero, ℕ, ◌<◌, ◌↔◌, ◌∙◌, ◌∷◌, ◌≡◌, ◌≢◌, get_or-map, length-map, AllPairs-filter, slice_get-get_or, slice_get-map, slice_get_within, bytes_eq-Decides, AllPairs, MatchOption, filter, slice_get, bytes_eq, Identity, StandsFor, AreFirstTwo, HasNoTwo}
 use Rattle.serf_judge.proofs.TwiceLaws.{has-key}
 
 differ : {X : Type 0} (xs : List X) → HasNoTwo xs → AllPairs (λ x y. x ≢ y) xs

@@ -1,6 +1,5 @@
 -- A search that notes each key's first place.
-use Rattle.serf_judge.proofs.Names.{Bool, HasNoPair, IsFirstPair, IsPair, List, MatchOption, None, Option, Some, ap, arith, cases_lt, cond, false, inl, inr, length, refl, slice_get, slice_get_within, subst, sym, true, true≢false, ℕ, ◌+◌, ◌<◌, ◌∙◌, ◌≡◌, ◌≤◌, ◌⊎◌}
-use Rattle.std.specs.Cmp.{IsEquivalence}
+use Rattle.serf_judge.proofs.Names.{Bool, List, None, Option, Some, ap, arith, cond, false, inl, inr, length, refl, subst, sym, true, true≢false, ℕ, ◌+◌, ◌<◌, ◌∙◌, ◌≡◌, ◌≤◌, ◌⊎◌, cases_lt, slice_get_within, IsEquivalence, MatchOption, slice_get, HasNoPair, IsFirstPair, IsPair}
 
 -- no key at the first places equals this one
 abbrev pub NoneEqual : {K : Type 0} → (K → K → Bool) → List K → ℕ → K → Type 0

@@ -1,5 +1,5 @@
 -- The items of a list at its first places, one after another.
-use Rattle.serf_judge.proofs.Names.{List, Some, ap, arith, cases_lt, inl, inr, slice_get, subst, sym, ℕ, ◌+◌, ◌<◌, ◌∙◌, ◌≡◌, ◌≤◌, ◌⊎◌}
+use Rattle.serf_judge.proofs.Names.{List, Some, ap, arith, inl, inr, subst, sym, ℕ, ◌+◌, ◌<◌, ◌∙◌, ◌≡◌, ◌≤◌, ◌⊎◌, cases_lt, slice_get}
 
 -- what holds of the first items, and of the next
 pub below-or-here : {X : Type 0} (P : X → Type 0) (items : List X) (n : ℕ) (item : X) → slice_get items n ≡ Some item

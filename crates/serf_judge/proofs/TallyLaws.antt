@@ -1,7 +1,5 @@
 -- What lines come to, one after another.
-use Rattle.serf_judge.proofs.Names.{Bool, Bor, Handed, Identity, List, None, Option, Some, [], ap, append-nil, arith, bytes_eq, bytes_eq-Decides, cond, false, filter-append, fold-append, get_or, greatest, least, length, length_push, lines_to, map, map-append, max, min, nodes_of, refl, subst, sym, take, take_all, take_more, tallies_of, tally_of, texts_of, true, unwrap_or, ℕ, ◌++◌, ◌+◌, ◌-◌, ◌<◌, ◌^◌, ◌∙◌, ◌∷◌, ◌≡◌, ◌≤◌}
-use Rattle.std.specs.Cmp.Lexicographic.{nat_list_eq_equiv}
-use Rattle.serf_judge.specs.declared.tally.Tally.{Tally}
+use Rattle.serf_judge.proofs.Names.{Bool, Bor, List, None, Option, Some, [], ap, arith, cond, false, get_or, length, map, max, min, refl, subst, sym, take, take_all, true, unwrap_or, ℕ, ◌++◌, ◌+◌, ◌-◌, ◌<◌, ◌^◌, ◌∙◌, ◌∷◌, ◌≡◌, ◌≤◌, append-nil, length_push, map-append, take_more, filter-append, fold-append, bytes_eq-Decides, nat_list_eq_equiv, bytes_eq, Identity, texts_of, greatest, least, lines_to, nodes_of, tallies_of, tally_of, Handed, Tally}
 
 pub map-map : {X Y Z : Type 0} (g : Y → Z) (f : X → Y) (xs : List X) → map g (map f xs) ≡ map (λ x. g (f x)) xs
 map-map g f [] = refl

@@ -1,5 +1,5 @@
 -- Equal keys, where a view of a key is what is compared.
-use Rattle.serf_judge.proofs.Names.{AreFirstTwo, Bool, Decides, HasNoPair, HasNoTwo, IsFirstPair, IsPair, IsTwice, List, MatchOption, None, Option, Some, ap, map, option_map, refl, slice_get, slice_get-map, sym, ℕ, ◌∙◌, ◌≡◌}
+use Rattle.serf_judge.proofs.Names.{Bool, Decides, List, None, Option, Some, ap, map, refl, sym, ℕ, ◌∙◌, ◌≡◌, slice_get-map, option_map, MatchOption, slice_get, HasNoPair, IsFirstPair, IsPair, AreFirstTwo, HasNoTwo, IsTwice}
 
 -- a key with this view
 pub record HasKey {K X : Type 0} (view : K → X) (found : Option K) (x : X) : Type 0 where

@@ -1,4 +1,4 @@
-//! What stands in a list again, and what stands there first, by hashes.
+//! The items of a list whose key comes there for the first time, or again. Keys are found by their hashes.
 
 ghost use Rattle.std.specs.Prelude.{◌≡◌, ◌++◌, ◌∷◌, [], IfOk, List, OnOk, map};
 ghost use Rattle.std.specs.HashSet.{contains};
@@ -12,7 +12,8 @@ use std::alloc::{AllocError, Global};
 use std::collections::HashSet;
 use std::hash::Hash;
 
-/// Notes an item's key, and keeps the item where it comes again, as a noted key equals it; or else where it comes first.
+/// Notes `key`, that of `item`, in `noted`, and appends `item` to `found`: if `again`, only where the key was noted
+/// before, and else only where it was not.
 fn keep<K: Eq + Hash + Copy, T: Copy>(
     noted: &mut HashSet<K>,
     found: &mut Vec<T>,
@@ -33,7 +34,7 @@ fn keep<K: Eq + Hash + Copy, T: Copy>(
     Ok(())
 }
 
-/// Those of some keys that equal none before them, in order.
+/// Those of `keys` that equal none before them, in order.
 pub(crate) fn firsts<K: Eq + Hash + Copy>(alloc: Global, keys: &[K]) -> Result<Vec<K>, AllocError>
     ensures { IfOk result (λ found. found.items ≡ firsts_of K.eq keys.now) }
 {
@@ -45,7 +46,7 @@ pub(crate) fn firsts<K: Eq + Hash + Copy>(alloc: Global, keys: &[K]) -> Result<V
     Ok(found)
 }
 
-/// The lines that hand a node what a line before them handed it, in order.
+/// Those of `entries` that hand a node what one before them handed it, in order.
 pub(crate) fn repeats<'a, E: HandedOut>(
     alloc: Global,
     entries: &'a [E],

@@ -1,11 +1,12 @@
-//! A date and a time of day before a line.
+//! The date that a line may begin with: a word that begins as `2026-` does and, where it follows, one that begins as
+//! `16:` does, a time of day (`clock` in the names here). The bytes of a word count from 0.
 
 ghost use Rattle.std.specs.Prelude.{◌≡◌, ◌++◌, IfOk, OnOk, map};
 ghost use Rattle.serf_judge.specs.Dated.{begins_as_clock, begins_as_date, behind_clock, behind_date, clock_text, date_text, has_byte, has_digit};
 
 use std::alloc::{AllocError, Global};
 
-/// Whether a word has a decimal digit at this place.
+/// Whether byte number `place` of `word` is a decimal digit.
 fn is_digit_at(word: &[u8], place: usize) -> bool
     ensures { result ≡ has_digit place word.now }
 {
@@ -15,7 +16,7 @@ fn is_digit_at(word: &[u8], place: usize) -> bool
     }
 }
 
-/// Whether a word has this byte at this place.
+/// Whether byte number `place` of `word` is `byte`.
 fn is_byte_at(word: &[u8], place: usize, byte: u8) -> bool
     ensures { result ≡ has_byte byte place word.now }
 {
@@ -25,7 +26,7 @@ fn is_byte_at(word: &[u8], place: usize, byte: u8) -> bool
     }
 }
 
-/// Whether a word begins as a date: by four digits and `-`.
+/// Whether `word` begins as a date does: by four digits and `-`.
 fn is_date(word: &[u8]) -> bool
     ensures { result ≡ begins_as_date word.now }
 {
@@ -36,14 +37,14 @@ fn is_date(word: &[u8]) -> bool
         && is_byte_at(word, 4, b'-')
 }
 
-/// Whether a word begins as a time of day: by two digits and `:`.
+/// Whether `word` begins as a time of day does: by two digits and `:`.
 fn is_clock(word: &[u8]) -> bool
     ensures { result ≡ begins_as_clock word.now }
 {
     is_digit_at(word, 0) && is_digit_at(word, 1) && is_byte_at(word, 2, b':')
 }
 
-/// The words after a time of day, where one stands first.
+/// `words` without the first one, where that is a time of day.
 fn cut_clock<'w, 'a>(words: &'w [&'a [u8]]) -> &'w [&'a [u8]]
     ensures { map (λ w. w.now) result.now ≡ behind_clock (map (λ w. w.now) words.entry.now) }
 {
@@ -56,7 +57,7 @@ fn cut_clock<'w, 'a>(words: &'w [&'a [u8]]) -> &'w [&'a [u8]]
     words
 }
 
-/// The words after a date and a time of day, where a date stands first.
+/// `words` without the date that they begin with, if they do, and without a time of day right after it.
 pub(crate) fn cut_date<'w, 'a>(words: &'w [&'a [u8]]) -> &'w [&'a [u8]]
     ensures { map (λ w. w.now) result.now ≡ behind_date (map (λ w. w.now) words.entry.now) }
 {
@@ -69,7 +70,7 @@ pub(crate) fn cut_date<'w, 'a>(words: &'w [&'a [u8]]) -> &'w [&'a [u8]]
     words
 }
 
-/// Appends a time of day behind a space, where one stands first.
+/// Appends a space and the first of `words` to `text`, where that is a time of day; else nothing.
 fn put_clock(text: &mut Vec<u8>, words: &[&[u8]]) -> Result<(), AllocError>
     ensures { OnOk result (text.new.items
         ≡ text.old.items ++ clock_text (map (λ w. w.now) words.now)) }
@@ -84,7 +85,7 @@ fn put_clock(text: &mut Vec<u8>, words: &[&[u8]]) -> Result<(), AllocError>
     text.extend_from_slice(first)
 }
 
-/// The date and the time of day before a line's other words, as they stand there; no bytes where no date stands first.
+/// The date that `words` begin with, as it stands there, with a space before its time of day; no bytes where they don't.
 pub(crate) fn date_of(alloc: Global, words: &[&[u8]]) -> Result<Vec<u8>, AllocError>
     ensures { IfOk result (λ text. text.items ≡ date_text (map (λ w. w.now) words.now)) }
 {

@@ -1,8 +1,8 @@
-//! What a line of a log says.
+//! What single lines of a log say: events, queries, dates, and what can't be read.
 
 use serf_text::Cause;
 
-/// A user event that was fired by a node, or handed to one. Texts are the words of the line, as they stand there.
+/// A user event that was fired by `node`, or handed to it. Texts are the words of the line, as they stand there.
 #[derive(Drop)]
 pub struct EventEntry {
     /// The number of the line, counted from 1; it stops at 2^64 - 1.
@@ -13,18 +13,18 @@ pub struct EventEntry {
     pub payload: Vec<u8>,
 }
 
-/// A query that was handed to a node.
+/// A query that was handed to `node`, whose name is the word of the line, as it stands there.
 #[derive(Drop)]
 pub struct QueryEntry {
     /// The number of the line, counted from 1; it stops at 2^64 - 1.
     pub line: u64,
     pub node: Vec<u8>,
     pub time: u64,
-    /// `None` where the line has `-` for it.
+    /// The query's ID; `None` where the line has `-` for it.
     pub id: Option<u64>,
 }
 
-/// A line that is not sound.
+/// A line that can't be read.
 #[derive(Clone, Copy, PartialEq, Eq)]
 pub struct BadLine {
     /// The number of the line, counted from 1; it stops at 2^64 - 1.
@@ -33,11 +33,11 @@ pub struct BadLine {
     pub cause: Cause,
 }
 
-/// A line that has a date.
+/// A line that begins with a date.
 #[derive(Drop)]
 pub struct DatedLine {
     /// The number of the line, counted from 1; it stops at 2^64 - 1.
     pub line: u64,
-    /// As it stands before the line's other words: a word, or two with a space between them.
+    /// The date as it stands before the line's other words: one word, or two with a space between them.
     pub date: Vec<u8>,
 }

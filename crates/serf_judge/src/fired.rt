@@ -1,4 +1,5 @@
-//! Whether each event that was handed out was fired before.
+//! Whether each event that was handed out was fired before: on an earlier line or, of logs that are joined one after
+//! another, in another log, since their lines have no common order. Logs count from 0.
 
 ghost use Rattle.std.specs.Prelude.{◌≡◌, ◌++◌, ◌∷◌, ◌||◌, ℕ, [], IfOk, List, MatchOption, OnOk, nat_le, nat_lt, position};
 ghost use Rattle.std.specs.HashMap.{get};
@@ -10,7 +11,7 @@ use crate::entry::EventEntry;
 use std::alloc::{AllocError, Global};
 use std::collections::HashMap;
 
-/// The time, the name and the payload of an event.
+/// An event's time, name and payload, by which one event is told from another.
 #[derive(Clone, Copy, PartialEq, Eq, Hash)]
 pub(crate) struct ContentKey<'a> {
     pub(crate) time: u64,
@@ -18,7 +19,7 @@ pub(crate) struct ContentKey<'a> {
     pub(crate) payload: &'a [u8],
 }
 
-/// An event's time, name and payload: what tells it apart.
+/// The time, the name and the payload of the event of `entry`.
 pub(crate) fn content_key(entry: &EventEntry) -> ContentKey<'_>
     ensures { key_content result ≡ content_of entry.now }
 {
@@ -29,23 +30,24 @@ pub(crate) fn content_key(entry: &EventEntry) -> ContentKey<'_>
     }
 }
 
-/// Where an event was fired.
+/// Where one event was fired, as far as later questions need it.
 #[derive(Clone, Copy)]
 pub(crate) struct Firings {
-    /// The number of the first line that fires it.
+    /// The number of the first line that fires it, from 1 on.
     first_line: u64,
-    /// Of several logs the last one that has such a line, counted from 0.
+    /// The number of the last log that has a line that fires it, from 0 on.
     last_log: usize,
 }
 
-/// The first log, counted from 0 behind the first one, that begins behind a line.
+/// The place in `starts` of the first one that is at least `line`; `None` where each is less. As `starts` says how many
+/// lines come before each log but the first, that is the number of the log that has the line, unless the last has it.
 fn next_start(starts: &[u64], line: u64) -> Option<usize>
     ensures { result ≡ position (λ s. nat_le line s) starts.now }
 {
     starts.iter().position(|start| line <= *start)
 }
 
-/// Of several logs the one that has a line, counted from 0.
+/// The number, from 0 on, of the log that has line `line`; `starts` says how many lines come before each but the first.
 fn log_of(starts: &[u64], line: u64) -> usize
     ensures { result ≡ log_at starts.now line }
 {
@@ -55,7 +57,7 @@ fn log_of(starts: &[u64], line: u64) -> usize
     }
 }
 
-/// The firings of an event that are noted, and one on this line of this log.
+/// The firings that `table` has for the event `key`, if any, together with one more on line `line`, in log `log`.
 fn noted_with(
     table: &HashMap<ContentKey, Firings>,
     key: &ContentKey,
@@ -78,7 +80,7 @@ fn noted_with(
     }
 }
 
-/// Notes a firing.
+/// Notes in `table` that `entry` fires its event; `starts` says how many lines come before each log but the first.
 fn note<'a>(
     table: &mut HashMap<ContentKey<'a>, Firings>,
     starts: &[u64],
@@ -93,14 +95,14 @@ fn note<'a>(
     Ok(())
 }
 
-/// Whether one of these firings stands above a line of a log, or in a later log.
+/// Whether one of the firings `noted` stands on a line before `line`, or in a log after `log`, which has that line.
 fn is_before(noted: Firings, line: u64, log: usize) -> bool
     ensures { result ≡ counts noted (line, log) }
 {
     noted.first_line < line || log < noted.last_log
 }
 
-/// Whether an event that was handed out was fired above it, or in a later log.
+/// Whether `event`, which was handed out, was by `table` fired on an earlier line than its own, or in a later log.
 fn is_fired(table: &HashMap<ContentKey, Firings>, starts: &[u64], event: &EventEntry) -> bool
     ensures { (fired : List Entry) → AreNoted starts.now fired table.now
         → result ≡ was_fired starts.now fired event.now }
@@ -112,7 +114,7 @@ fn is_fired(table: &HashMap<ContentKey, Firings>, starts: &[u64], event: &EventE
     }
 }
 
-/// The place of the first event that is not noted as fired.
+/// The place, from 0 on, of the first of `events` that by `table` was not fired before; `None` where each was.
 fn unfired_by(
     table: &HashMap<ContentKey, Firings>,
     starts: &[u64],
@@ -130,9 +132,9 @@ fn unfired_by(
     None
 }
 
-/// The place of the first event that was handed out and that no node had fired at its time on an earlier line; `None`
-/// where each was. Where the entries are those of several logs, one after another, a firing in another log counts
-/// wherever it stands, and `starts` says how many lines come before each log but the first. It is empty for one log.
+/// The place, from 0 on, of the first of `events`, those handed out, that none of `fired` fires on an earlier line;
+/// `None` where each is fired. Of several logs, one after another, a firing in another log counts wherever it stands,
+/// and `starts` says how many lines come before each log but the first. It is empty for one log.
 ///
 /// Each entry is looked up once by its hash, and its log by a walk over `starts`. It is an `AllocError` only where there
 /// is no memory for that.

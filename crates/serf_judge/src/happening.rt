@@ -1,4 +1,4 @@
-//! What the words of a line say.
+//! Reads the words of one line of a log, without its date. The places of words count from 1.
 
 ghost use Rattle.std.specs.Prelude.{◌≡◌, ◌≤◌, ◌<◌, ◌+◌, ◌==◌, Ok, Err, length, map, IfOk, IfErr, if◌then◌else◌};
 ghost use Rattle.serf_text.specs.Words.{number_in, word_at as word_of};
@@ -12,13 +12,17 @@ use std::alloc::Global;
 /// What a line says.
 #[derive(Drop)]
 pub(crate) enum Happening {
+    /// Nothing that is judged: a node's restart, no words, or another line of a trace.
     Nothing,
+    /// This event was fired by its node.
     Fired(EventEntry),
+    /// This event was handed to its node.
     Event(EventEntry),
+    /// This query was handed to its node.
     Query(QueryEntry),
 }
 
-/// The number at a place of a line, counting from 1.
+/// The number that the word at `place` spells; `BadWord` with `place` where it spells none.
 #[tactic(auto, unfolding(serf_text::specs::Words::number_in))]
 fn number_at(words: &[&[u8]], place: usize) -> Result<u64, StreamLineFault<Cause>>
     requires { (1 ≤ place) × (place ≤ length words.now) }
@@ -30,7 +34,7 @@ fn number_at(words: &[&[u8]], place: usize) -> Result<u64, StreamLineFault<Cause
     }
 }
 
-/// A copy of a word.
+/// A copy of `word`; `OutOfMemory` where there is no memory for it.
 fn copy_of(alloc: Global, word: &[u8]) -> Result<Vec<u8>, StreamLineFault<Cause>>
     ensures same { IfOk result (λ copy. copy.items ≡ word.now) }
     ensures memory { IfErr result (λ fault. fault ≡ StreamLineFault.OutOfMemory) }
@@ -41,7 +45,7 @@ fn copy_of(alloc: Global, word: &[u8]) -> Result<Vec<u8>, StreamLineFault<Cause>
     }
 }
 
-/// The ID at a place of a line, counting from 1; `None` where `-` stands there.
+/// The query's ID that the word at `place` spells; `None` for `-`, and `BadWord` with `place` for what is no number.
 #[tactic(auto, unfolding(crate::specs::Log::id_in))]
 fn id_at(words: &[&[u8]], place: usize) -> Result<Option<u64>, StreamLineFault<Cause>>
     requires { (1 ≤ place) × (place ≤ length words.now) }
@@ -54,30 +58,30 @@ fn id_at(words: &[&[u8]], place: usize) -> Result<Option<u64>, StreamLineFault<C
     Ok(Some(id))
 }
 
-/// The event of four words, of which the first is at this place, in a line of so many words: one that was fired, or one
-/// that was handed out.
+/// The event of line number `line`, fired or else handed out (`is_fired`). The four words from `node_at` on are its
+/// node, time, name and payload. `WordCount` where the line has not `word_count` words.
 #[tactic(auto, unfolding(crate::specs::Log::event_at))]
 fn event_in(
     alloc: Global,
     line: u64,
     words: &[&[u8]],
-    place: usize,
-    count: usize,
+    node_at: usize,
+    word_count: usize,
     is_fired: bool,
 ) -> Result<Happening, StreamLineFault<Cause>>
-    requires { (1 ≤ place) × (place + 3 ≤ count) }
-    ensures said { Says happening_view result (of_count count (map (λ w. w.now) words.now)
-        (event_line place (map (λ w. w.now) words.now)
+    requires { (1 ≤ node_at) × (node_at + 3 ≤ word_count) }
+    ensures said { Says happening_view result (of_count word_count (map (λ w. w.now) words.now)
+        (event_line node_at (map (λ w. w.now) words.now)
         (λ e. if is_fired then fired e else event e))) }
     ensures line { IfOk result (IsAt line) }
 {
-    if words.len() != count {
+    if words.len() != word_count {
         return Err(StreamLineFault::Bad(Cause::WordCount));
     }
-    let time = number_at(words, place + 1)?;
-    let node = copy_of(alloc, word_at(words, place))?;
-    let name = copy_of(alloc, word_at(words, place + 2))?;
-    let payload = copy_of(alloc, word_at(words, place + 3))?;
+    let time = number_at(words, node_at + 1)?;
+    let node = copy_of(alloc, word_at(words, node_at))?;
+    let name = copy_of(alloc, word_at(words, node_at + 2))?;
+    let payload = copy_of(alloc, word_at(words, node_at + 3))?;
     let entry = EventEntry {
         line,
         node,
@@ -91,30 +95,31 @@ fn event_in(
     Ok(Happening::Event(entry))
 }
 
-/// The query of a line of `count` words, by the words at these places: its node, its time and its ID.
+/// The query that line number `line` hands out: the words at `node_at`, `time_at` and `query_id_at` are its node, its
+/// time and its ID. `WordCount` where the line has not `word_count` words.
 #[tactic(auto, unfolding(crate::specs::Log::query_at))]
 fn query_in(
     alloc: Global,
     line: u64,
     words: &[&[u8]],
-    node: usize,
-    time: usize,
-    id: usize,
-    count: usize,
+    node_at: usize,
+    time_at: usize,
+    query_id_at: usize,
+    word_count: usize,
 ) -> Result<Happening, StreamLineFault<Cause>>
-    requires node { (1 ≤ node) × (node ≤ count) }
-    requires time { (1 ≤ time) × (time ≤ count) }
-    requires id { (1 ≤ id) × (id ≤ count) }
-    ensures said { Says happening_view result (of_count count (map (λ w. w.now) words.now)
-        (query_line node time id (map (λ w. w.now) words.now))) }
+    requires node { (1 ≤ node_at) × (node_at ≤ word_count) }
+    requires time { (1 ≤ time_at) × (time_at ≤ word_count) }
+    requires id { (1 ≤ query_id_at) × (query_id_at ≤ word_count) }
+    ensures said { Says happening_view result (of_count word_count (map (λ w. w.now) words.now)
+        (query_line node_at time_at query_id_at (map (λ w. w.now) words.now))) }
     ensures line { IfOk result (IsAt line) }
 {
-    if words.len() != count {
+    if words.len() != word_count {
         return Err(StreamLineFault::Bad(Cause::WordCount));
     }
-    let time = number_at(words, time)?;
-    let id = id_at(words, id)?;
-    let node = copy_of(alloc, words[node - 1])?;
+    let time = number_at(words, time_at)?;
+    let id = id_at(words, query_id_at)?;
+    let node = copy_of(alloc, words[node_at - 1])?;
     Ok(Happening::Query(QueryEntry {
         line,
         node,
@@ -123,7 +128,8 @@ fn query_in(
     }))
 }
 
-/// What a line of a trace says: an event or a query that was handed out, or nothing that is judged.
+/// What line number `line`, one of a trace of `serf-replay`, says: `N event A T NAME PAYLOAD CC` hands an event to node
+/// `A` at time `T`, `N handed A H T ID NAME PAYLOAD` a query, and any other line says nothing that is judged.
 #[tactic(auto, unfolding(crate::specs::Log::trace_line))]
 fn trace_happening(
     alloc: Global,
@@ -143,7 +149,7 @@ fn trace_happening(
     }
 }
 
-/// The word at a place of a line, counting from 1; no bytes where there is none.
+/// The word at `place`, which counts from 1; no bytes where there is none.
 fn word_at<'a>(words: &[&'a [u8]], place: usize) -> &'a [u8]
     requires { 1 ≤ place }
     ensures { result.now ≡ word_of place (map (λ w. w.now) words.entry.now) }
@@ -154,7 +160,7 @@ fn word_at<'a>(words: &[&'a [u8]], place: usize) -> &'a [u8]
     }
 }
 
-/// What the words of a line say.
+/// What `words`, those of line number `line`, say; `UnknownWord` where the first is no word of a log, and no number.
 #[tactic(auto, unfolding(crate::specs::Log::happening_of))]
 pub(crate) fn happening_in(
     alloc: Global,
@@ -180,7 +186,7 @@ pub(crate) fn happening_in(
     }
 }
 
-/// The restart that the words of a line say; `WordCount` where they are not two.
+/// What a line `restarted NODE` says, which is nothing that is judged; `WordCount` where `words` are not two.
 fn restarted_in(words: &[&[u8]]) -> Result<Happening, StreamLineFault<Cause>>
     ensures said { Says happening_view result
         (of_count 2 (map (λ w. w.now) words.now) (Ok nothing)) }

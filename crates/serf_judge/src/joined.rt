@@ -1,4 +1,4 @@
-//! Logs one after another.
+//! Joins two logs to one: the lines of the second are numbered on after those of the first.
 
 ghost use Rattle.std.specs.Prelude.{◌≡◌, ◌++◌, IfOk, map};
 ghost use Rattle.serf_judge.specs.Joined.{joined_logs, moved_on};
@@ -8,7 +8,7 @@ use crate::entry::{BadLine, DatedLine, EventEntry, QueryEntry};
 use crate::log::Log;
 use std::alloc::AllocError;
 
-/// What a line of a log says, with the line's number.
+/// What a line of a log says, with the line's number: an entry, a bad line or a date.
 trait Numbered: Sized {
     ghost use Rattle.std.specs.Prelude.{◌≡◌, ℕ};
     ghost use Rattle.serf_judge.specs.Joined.{moved};
@@ -17,7 +17,7 @@ trait Numbered: Sized {
 
     ghost seen: { Self → ℕ × Said };
 
-    /// The same, so many lines further on.
+    /// Itself on a line that is `lines` lines further on; the number stops at 2^64 - 1.
     fn further_on(self, lines: u64) -> Self
         ensures { seen result ≡ moved lines (seen self) };
 }
@@ -78,7 +78,7 @@ impl Numbered for DatedLine {
     }
 }
 
-/// What some lines say, and then what others say so many lines further on.
+/// The items of `first`, and then those of `more`, each `lines` lines further on.
 fn joined<T: Numbered + Drop>(first: Vec<T>, more: Vec<T>, lines: u64) -> Result<Vec<T>, AllocError>
     ensures { IfOk result (λ all. map T.seen all.items
         ≡ map T.seen first.items ++ moved_on lines (map T.seen more.items)) }
@@ -90,7 +90,7 @@ fn joined<T: Numbered + Drop>(first: Vec<T>, more: Vec<T>, lines: u64) -> Result
     Ok(all)
 }
 
-/// What one log says, and then what another does, whose lines are numbered on after those of the first.
+/// The log that says what `first` says, and then what `more` says, whose lines are numbered on after those of `first`.
 ///
 /// It is an `AllocError` only where there is no memory for that.
 pub fn join_logs(first: Log, more: Log) -> Result<Log, AllocError>

@@ -1,4 +1,5 @@
-//! What a snapshot leaves open, and whether it is one of a node that the log has.
+//! A snapshot beside a log: which entries a node may be handed again that is opened on the snapshot, whether the log
+//! names that node, and by which lines a text is known as a snapshot.
 
 ghost use Rattle.std.specs.Prelude.{◌≡◌, position};
 ghost use Rattle.std.specs.List.{list_any};
@@ -9,14 +10,14 @@ use crate::key::HandedOut;
 use crate::log::Log;
 use serf_text::cut;
 
-/// Whether an entry is of `node`.
+/// Whether `entry` names `node`, as the one that fired it or was handed it.
 fn is_of<E: HandedOut>(entry: &E, node: &[u8]) -> bool
     ensures { result ≡ is_line_of E.seen node.now entry.now }
 {
     entry.handed().key.node == node
 }
 
-/// Whether an entry is of `node`, and its time above `clock`.
+/// Whether `entry` names `node`, and its time is above `clock`.
 fn is_above<E: HandedOut>(entry: &E, node: &[u8], clock: u64) -> bool
     ensures { result ≡ is_line_above E.seen node.now clock entry.now }
 {
@@ -24,8 +25,8 @@ fn is_above<E: HandedOut>(entry: &E, node: &[u8], clock: u64) -> bool
     key.node == node && clock < key.time
 }
 
-/// The place of the first event, or of the first query, that was handed to this node at a time above this clock. A node
-/// that is opened again on a snapshot which keeps this clock may be handed it again. Takes no memory.
+/// The place, from 0 on, of the first of `entries` that was handed to `node` at a time above `clock`; `None` where there
+/// is none. A node that is opened again on a snapshot with this clock may be handed it again. Takes no memory.
 pub fn first_above<E: HandedOut>(entries: &[E], node: &[u8], clock: u64) -> Option<usize>
     ensures { result ≡ position (is_line_above E.seen node.now clock) entries.now }
 {
@@ -34,14 +35,14 @@ pub fn first_above<E: HandedOut>(entries: &[E], node: &[u8], clock: u64) -> Opti
         .position(|entry| is_above(entry, node, clock))
 }
 
-/// Whether one of the entries is of `node`.
+/// Whether one of `entries` names `node`.
 fn is_among<E: HandedOut>(entries: &[E], node: &[u8]) -> bool
     ensures { result ≡ list_any (is_line_of E.seen node.now) entries.now }
 {
     entries.iter().any(|entry| is_of(entry, node))
 }
 
-/// Whether a log says that this node fired an event, or was handed an event or a query. Takes no memory.
+/// Whether `log` says that `node` fired an event, or was handed an event or a query. Takes no memory.
 pub fn has_node(log: &Log, node: &[u8]) -> bool
     ensures { result ≡ has_line_of node.now log.now }
 {
@@ -50,21 +51,21 @@ pub fn has_node(log: &Log, node: &[u8]) -> bool
         || is_among(log.fired.as_slice(), node)
 }
 
-/// Whether a line of a snapshot says that the node left.
+/// Whether `line` is the line of a snapshot which says that its node left.
 fn is_leave_line(line: &[u8]) -> bool
     ensures { result ≡ is_leave line.now }
 {
     line == b"leave".as_slice()
 }
 
-/// Whether a line begins as those do that an agent of this project alone writes.
+/// Whether `line` begins as those of events, queries and minimums, which agents of this project alone write.
 fn is_own_line(line: &[u8]) -> bool
     ensures { result ≡ is_own line.now }
 {
     line.starts_with(b"#event ") || line.starts_with(b"#query ") || line.starts_with(b"#least ")
 }
 
-/// Whether a line begins as one of those in which Serf keeps clocks, members and coordinates.
+/// Whether `line` begins as one of those in which Serf keeps clocks, members and coordinates.
 fn begins_as_kept_line(line: &[u8]) -> bool
     ensures { result ≡ begins_as_kept line.now }
 {
@@ -76,7 +77,7 @@ fn begins_as_kept_line(line: &[u8]) -> bool
         || line.starts_with(b"coordinate: ")
 }
 
-/// Whether bytes begin a clock line that was cut.
+/// Whether `bytes` are the first bytes of the word of a clock line, some, all or none of them.
 fn is_torn_clock(bytes: &[u8]) -> bool
     ensures { result ≡ is_torn_clock_word bytes.now }
 {
@@ -85,7 +86,7 @@ fn is_torn_clock(bytes: &[u8]) -> bool
         || b"query-clock: ".starts_with(bytes)
 }
 
-/// Whether these bytes are what a crash may leave of the word that such a line begins with.
+/// Whether `bytes` are the first bytes of the word of any line of Serf's: what a crash may leave of it.
 fn is_torn_word(bytes: &[u8]) -> bool
     ensures { result ≡ is_torn bytes.now }
 {
@@ -96,7 +97,7 @@ fn is_torn_word(bytes: &[u8]) -> bool
         || b"leave".starts_with(bytes)
 }
 
-/// Whether a line is what an opening makes of a torn one, which it ends by `#`.
+/// Whether `line` is a torn word of a snapshot's line and a `#`, by which an agent's opening ends a torn line.
 fn is_sealed_line(line: &[u8]) -> bool
     ensures { result ≡ is_sealed line.now }
 {
@@ -106,30 +107,30 @@ fn is_sealed_line(line: &[u8]) -> bool
     }
 }
 
-/// Whether a line is one of a snapshot, Serf's or ours.
+/// Whether `line` is one of a snapshot, be it of Serf or of an agent of this project.
 fn is_line_of_snapshot(line: &[u8]) -> bool
     ensures { result ≡ is_kept_line line.now }
 {
     is_leave_line(line) || begins_as_kept_line(line) || is_own_line(line) || is_sealed_line(line)
 }
 
-/// Whether a text is that of a snapshot: it is empty, or has a line that Serf writes into snapshots, or an agent of this
-/// project. Takes no memory.
+/// Whether `text` is that of a snapshot: it is empty, or has a line that Serf or an agent of this project writes into
+/// snapshots. Takes no memory.
 pub fn is_snapshot(text: &[u8]) -> bool
     ensures { result ≡ is_snapshot_text text.now }
 {
     text.is_empty() || has_line(text, false)
 }
 
-/// Whether a snapshot has a line that an agent of this project writes, and Serf never does: what it keeps of events and
-/// queries. Such an agent goes on from all lines, also from those before a line `leave`. Takes no memory.
+/// Whether the snapshot `text` has a line of events, queries or minimums, which agents of this project write, and Serf
+/// never does. Such an agent goes on from all lines, also from those before a line `leave`. Takes no memory.
 pub fn is_own_snapshot(text: &[u8]) -> bool
     ensures { result ≡ is_own_text text.now }
 {
     has_line(text, true)
 }
 
-/// Whether a text has a line of a snapshot, or such a line of an agent of this project.
+/// Whether `text` has a line that agents of this project alone write or, unless `own`, any line of a snapshot.
 fn has_line(text: &[u8], own: bool) -> bool
     ensures { result ≡ list_any (is_line_wanted own) (lines_of text.now) }
 {
@@ -146,19 +147,19 @@ fn has_line(text: &[u8], own: bool) -> bool
     }
 }
 
-/// Whether a line counts: of those that are ours alone with `own`, else of all that a snapshot may have.
-fn is_wanted(line: &[u8], own: bool) -> bool
-    ensures { result ≡ is_line_wanted own line.now }
+/// Whether `line` is one that agents of this project alone write or, unless `is_own_only`, any line of a snapshot.
+fn is_wanted(line: &[u8], is_own_only: bool) -> bool
+    ensures { result ≡ is_line_wanted is_own_only line.now }
 {
-    if own {
+    if is_own_only {
         is_own_line(line)
     } else {
         is_line_of_snapshot(line)
     }
 }
 
-/// What counts of a snapshot where Serf is started without `-rejoin`: what stands after the last line `leave`, and all
-/// of it where there is none. Takes no memory.
+/// What counts of the snapshot `text` where Serf is started without `-rejoin`: what stands after the last line `leave`,
+/// and all of it where there is none. A `leave` without its newline is none. Takes no memory.
 pub fn behind_leave(text: &[u8]) -> &[u8]
     ensures { lines_of result.now ≡ counted_lines (lines_of text.now) }
 {

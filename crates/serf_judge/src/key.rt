@@ -1,8 +1,8 @@
-//! What tells an event, or a query, from others, lent by its line.
+//! What tells an event, or a query, at a node from all others, lent by its entry.
 
 use crate::entry::{EventEntry, QueryEntry};
 
-/// The node that was handed something, and what it was: an event has no ID, and a query no texts.
+/// A node, and the event or the query that it was handed: an event has no ID, and a query no name and no payload.
 #[derive(Clone, Copy, PartialEq, Eq, Hash)]
 pub struct Key<'a> {
     pub node: &'a [u8],
@@ -12,22 +12,22 @@ pub struct Key<'a> {
     pub payload: &'a [u8],
 }
 
-/// A line that hands something to a node.
+/// A line that hands an event or a query to a node.
 #[derive(Clone, Copy)]
 pub struct Handed<'a> {
-    /// The number of the line.
+    /// The number of the line, from 1 on.
     pub line: u64,
     pub key: Key<'a>,
 }
 
-/// What a line of a log hands to a node: an event or a query.
+/// An entry of a log: an event or a query, with the node that was handed it (or that fired it) and its line.
 pub trait HandedOut: Sized {
     ghost use Rattle.std.specs.Prelude.{◌≡◌, ℕ};
     ghost use Rattle.serf_judge.specs.Identity.{Identity, handed_seen};
 
     ghost seen: { Self → ℕ × Identity };
 
-    /// The line, with what tells it from others. Takes no memory.
+    /// The entry's line, with the node and what it was handed. Takes no memory.
     fn handed(&self) -> Handed<'_>
         ensures { handed_seen result ≡ seen self.now };
 }

@@ -1,4 +1,4 @@
-//! Whether what nodes fired is later than what they were handed before.
+//! Whether each node fired events only at times above those of all events that it was handed on earlier lines.
 
 ghost use Rattle.std.specs.Prelude.{◌≡◌, ◌↔◌, ◌≤◌, ◌<◌, ◌++◌, ◌∷◌, ◌||◌, [], ℕ, Err, IfOk, IsTrue, List, MatchOption, OnOk, Some, length, nat_le, position, slice_get, take};
 ghost use Rattle.std.specs.HashMap.{get};
@@ -12,17 +12,17 @@ use std::alloc::{AllocError, Global};
 use std::collections::HashMap;
 use thiserror::Error;
 
-/// Why there is no verdict.
+/// Why it could not be judged whether nodes fired only later than what they were handed.
 #[derive(Clone, Copy, Debug, PartialEq, Eq, Error)]
 pub enum LaterFault {
-    /// The entries are not in the order of their lines. It never comes of a log's entries.
+    /// An entry stands after one of a later line. The entries of a log that was read are never so.
     #[error("the entries are not in the order of their lines")]
     OutOfOrder,
     #[error("out of memory")]
     OutOfMemory,
 }
 
-/// The greatest of the time that is noted for a node, and this one.
+/// The greater one of `time` and the time that `greatest` has for `node`; `time` where it has none.
 fn greatest_with(greatest: &HashMap<&[u8], u64>, node: &&[u8], time: u64) -> u64
     ensures { (least : ℕ) → nat_le least result
         ≡ (says (λ noted t. nat_le t noted) (get is_same_text greatest.now node.now) least
@@ -34,7 +34,7 @@ fn greatest_with(greatest: &HashMap<&[u8], u64>, node: &&[u8], time: u64) -> u64
     }
 }
 
-/// Notes an event's time, where none that is noted for its node is greater.
+/// Makes the time that `greatest` has for the node of `event` at least the time of `event`.
 fn note<'a>(greatest: &mut HashMap<&'a [u8], u64>, event: &'a EventEntry) -> Result<(), AllocError>
     ensures { (events : List Entry) → AreGreatest events greatest.old
         → OnOk result (AreGreatest (events ++ event.entry.now ∷ []) greatest.new) }
@@ -45,8 +45,8 @@ fn note<'a>(greatest: &mut HashMap<&'a [u8], u64>, event: &'a EventEntry) -> Res
     Ok(())
 }
 
-/// Notes the events of the lines before this one, of which some first ones are noted, and gives the number of those
-/// that are noted then.
+/// Notes in `greatest` the times of those of `events` on lines before `line`; those of the first `noted` are there. Gives
+/// how many of the first events are noted then.
 fn note_before<'a>(
     greatest: &mut HashMap<&'a [u8], u64>,
     events: &'a [EventEntry],
@@ -69,14 +69,15 @@ fn note_before<'a>(
     Ok(place)
 }
 
-/// Whether an event was handed to a node before it fired, at this time or a later one.
+/// Whether `event` was handed to the node of `firing` on an earlier line than `firing` stands on, at `time` or later.
 fn is_reached(event: &EventEntry, firing: &EventEntry, time: u64) -> bool
     ensures { result ≡ is_handed_at firing.now time event.now }
 {
     firing.node == event.node && event.line < firing.line && time <= event.time
 }
 
-/// The place of the first such event.
+/// The place, from 0 on, of the first of `events` that the node of `firing` was handed on an earlier line, at `time` or
+/// later; `None` where there is none.
 fn first_reached(events: &[EventEntry], firing: &EventEntry, time: u64) -> Option<usize>
     ensures { result ≡ position (is_handed_at firing.now time) events.now }
 {
@@ -85,7 +86,8 @@ fn first_reached(events: &[EventEntry], firing: &EventEntry, time: u64) -> Optio
         .position(|event| is_reached(event, firing, time))
 }
 
-/// The place of an event that the node was handed before it fired, which isn't before the time at which it fired.
+/// The place, from 0 on, of one of `events` that the node of `firing` was handed on an earlier line, at a time not below
+/// that of `firing`; `None` where there is none. `greatest` has each node's greatest time of events on earlier lines.
 fn handed_after(
     greatest: &HashMap<&[u8], u64>,
     events: &[EventEntry],
@@ -107,16 +109,16 @@ fn handed_after(
     }
 }
 
-/// Whether entries stand in the order of their lines. Takes no memory.
+/// Whether `entries` stand in the order of their lines. Takes no memory.
 fn is_in_order(entries: &[EventEntry]) -> bool
     ensures { IsTrue result ↔ IsInOrder entries.now }
 {
     entries.is_sorted_by(|one, next| one.line <= next.line)
 }
 
-/// The place of the first event that a node fired at a time that is not above those of all events that it was handed on
-/// earlier lines, and the place of one of these that is not below it; `None` where each node fired only later than what
-/// it was handed before.
+/// The place of the first of `fired` whose time is not above those of all `events` that its node was handed on earlier
+/// lines, and the place of one of these with a time that is not below; both from 0 on. `None` where each node fired only
+/// later than what it was handed before.
 ///
 /// Each entry is looked up once by its hash, and the events are walked once more where a place is given. Both lists are
 /// to be in the order of their lines, as [`crate::read_log`] has them: `OutOfOrder` comes just where one is not.

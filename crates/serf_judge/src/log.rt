@@ -1,4 +1,4 @@
-//! A whole log.
+//! Reads a whole log, line by line: what a line says becomes an entry, a bad line, or nothing that is judged.
 
 ghost use Rattle.std.specs.Prelude.{◌≡◌, ◌++◌, None, List, ℕ, IfErr, IfOk, OnOk, map};
 ghost use Rattle.std.specs.Io.KnownBytes.{Consumes, IsAtEnd};
@@ -16,21 +16,24 @@ use std::alloc::{AllocError, Global};
 use std::io;
 use std::io::Read;
 
-/// What a log says: events that were fired, and events and queries that were handed out; and its lines that are not
-/// sound, and the dates of those that have one. Each is in the log's order.
+/// All that a log says, each list in the order of its lines.
 #[derive(Drop)]
 pub struct Log {
+    /// The events that nodes fired.
     pub fired: Vec<EventEntry>,
+    /// The events that were handed to nodes.
     pub events: Vec<EventEntry>,
+    /// The queries that were handed to nodes.
     pub queries: Vec<QueryEntry>,
+    /// The lines that can't be read, which say nothing but a date.
     pub bad: Vec<BadLine>,
-    /// The dates of its lines, of those that have one.
+    /// The dates that lines begin with, also bad ones.
     pub dates: Vec<DatedLine>,
-    /// How many lines it has, with an empty one after a last newline; it stops at 2^64 - 1.
+    /// How many lines the log has, with an empty one after a last newline; the count stops at 2^64 - 1.
     pub lines: u64,
 }
 
-/// The words of a line.
+/// The words of `line`: all that stands between its spaces and isn't empty.
 fn words_in<'a>(alloc: Global, line: &'a [u8]) -> Result<Vec<&'a [u8]>, AllocError>
     ensures { IfOk result (λ words. map (λ w. w.now) words.items ≡ words_of line.entry.now) }
 {
@@ -48,7 +51,7 @@ fn words_in<'a>(alloc: Global, line: &'a [u8]) -> Result<Vec<&'a [u8]>, AllocErr
     }
 }
 
-/// Whether a line's first byte is `#`.
+/// Whether `line` is a comment: its first byte is `#`.
 fn is_comment_line(line: &[u8]) -> bool
     ensures { result ≡ is_comment line.now }
 {
@@ -58,21 +61,21 @@ fn is_comment_line(line: &[u8]) -> bool
     }
 }
 
-/// A line without the carriage return at its end, where it has one.
+/// `line` without the carriage return at its end, where it has one.
 fn cut_return(line: &[u8]) -> &[u8]
     ensures { result.now ≡ without_return line.entry.now }
 {
     line.strip_suffix(&[b'\r']).unwrap_or(line)
 }
 
-/// A line without the byte order mark of UTF-8 at its start, where it has one.
+/// `line` without the byte order mark of UTF-8 at its start, where it has one.
 fn cut_mark(line: &[u8]) -> &[u8]
     ensures { result.now ≡ without_mark line.entry.now }
 {
     line.strip_prefix(&[0xef, 0xbb, 0xbf]).unwrap_or(line)
 }
 
-/// A line without what may stand around its text. A byte order mark is cut off a log's first line alone.
+/// `line` without a carriage return at its end and, if it is the log's first (`is_first`), without a byte order mark.
 fn bare_line(line: &[u8], is_first: bool) -> &[u8]
     ensures { result.now ≡ bare is_first line.entry.now }
 {
@@ -83,7 +86,7 @@ fn bare_line(line: &[u8], is_first: bool) -> &[u8]
     }
 }
 
-/// What the words of the line of this number say.
+/// What `words` say after their date, of line `number`; `Bad` with the cause where that can't be read.
 fn happening_on(
     alloc: Global,
     number: u64,
@@ -101,8 +104,8 @@ fn happening_on(
 }
 
 impl Log {
-    /// Puts what a line says after the others.
-    fn add(&mut self, number: u64, happening: Happening) -> Result<(), AllocError>
+    /// Appends `happening`, what line `number` says, to the list of its kind; to none where that is nothing.
+    fn add_happening(&mut self, number: u64, happening: Happening) -> Result<(), AllocError>
         requires { IsAt number happening }
         ensures { OnOk result (log_view self.new
             ≡ with_happening (log_view self.old) number (happening_view happening)) }
@@ -116,7 +119,7 @@ impl Log {
         if pushed { Ok(()) } else { Err(AllocError) }
     }
 
-    /// Adds the date that the words of line number `line` begin with, if they do.
+    /// Appends to `dates` the date that `words`, those of line number `line`, begin with, if they do.
     fn add_date(&mut self, alloc: Global, line: u64, words: &[&[u8]]) -> Result<(), AllocError>
         ensures { OnOk result (log_view self.new
             ≡ with_date (log_view self.old) line (date_text (map (λ w. w.now) words.now))) }
@@ -129,13 +132,13 @@ impl Log {
         Ok(())
     }
 
-    /// Adds what the words of line number `line` say, or the line to the bad ones.
+    /// Appends what `words` say after their date, of line number `line`; or the line to `bad`, with the cause.
     fn add_words(&mut self, alloc: Global, line: u64, words: &[&[u8]]) -> Result<(), AllocError>
         ensures { OnOk result (log_view self.new ≡ with_said (log_view self.old) line
             (words_said (behind_date (map (λ w. w.now) words.now)))) }
     {
         match happening_on(alloc, line, words) {
-            Ok(happening) => self.add(line, happening),
+            Ok(happening) => self.add_happening(line, happening),
             Err(StreamLineFault::Bad(cause)) => {
                 self.bad.push(BadLine { line, cause })?;
                 Ok(())
@@ -144,7 +147,7 @@ impl Log {
         }
     }
 
-    /// Puts the date of the line of this number, and what it says, after the others.
+    /// Appends the date of `line`, whose number is `number`, and what it says; a comment has none, and says nothing.
     fn add_line(&mut self, alloc: Global, number: u64, line: &[u8]) -> Result<(), AllocError>
         ensures { OnOk result (log_view self.new
             ≡ with_line (log_view self.old) number line.now) }
@@ -168,7 +171,7 @@ impl LineJob for Log {
 
     ghost answer = { log_answer };
 
-    /// Reads one more line.
+    /// Adds what the log's next line says; `line` is without its newline. No line is answered, so `_text` is unused.
     fn read_line(
         &mut self,
         alloc: Global,
@@ -190,8 +193,8 @@ impl LineJob for Log {
 /// A line is `fired NODE TIME NAME PAYLOAD`, `event NODE TIME NAME PAYLOAD`, `query NODE TIME ID` or `restarted NODE`, by
 /// words between spaces, or a line of a trace of `serf-replay`. A comment (`#`) and a line without words say nothing.
 /// A date and a time of day before the other words are kept in `dates`. A carriage return at a line's end and a byte
-/// order mark of UTF-8 at the log's start say nothing. A line may have 16,777,216 bytes. A line that is not sound is kept
-/// in `bad`, with its cause, and says nothing else.
+/// order mark of UTF-8 at the log's start say nothing. A line may have 16,777,216 bytes. One that can't be read is kept
+/// in `bad`, with its cause, and says nothing else but its date.
 ///
 /// It is `ReadFault` where a read fails, `LineTooLong` with the number of the first longer line, and `OutOfMemory`.
 pub fn read_log<R: Read>(alloc: Global, reader: &mut R) -> Result<Log, StreamFault<Cause>>

@@ -1,4 +1,4 @@
-//! Which events some node was never handed.
+//! Which events some node was never handed, of the nodes that were handed any event.
 
 ghost use Rattle.std.specs.Prelude.{◌≡◌, ◌++◌, ◌∷◌, [], IfOk, OnOk, filter, length, map, take};
 ghost use Rattle.serf_judge.specs.Fired.{content_of, key_content};
@@ -20,19 +20,20 @@ pub struct MissedEvent<'a> {
     pub time: u64,
     pub name: &'a [u8],
     pub payload: &'a [u8],
-    /// The nodes that never had it, or the first of them.
+    /// The nodes that were never handed it, or the first of them, as many as were asked for.
     pub nodes: Vec<&'a [u8]>,
 }
 
 /// What a log says of the events that some node was never handed.
 #[derive(Drop)]
 pub struct Missed<'a> {
-    /// How many events were handed out. One that came to many nodes, or again, counts once.
+    /// How many events were handed out. One that was handed to many nodes, or again, counts once.
     pub events: usize,
+    /// The events that some node was never handed, in the order in which they come first in the log.
     pub missed: Vec<MissedEvent<'a>>,
 }
 
-/// The time, name and payload of each event, each once.
+/// The time, name and payload of each event of `entries`, once, in the order in which the events come first.
 fn contents<'a>(alloc: Global, entries: &'a [EventEntry]) -> Result<Vec<ContentKey<'a>>, AllocError>
     ensures { IfOk result (λ events. map key_content events.items
         ≡ contents_of entries.entry.now) }
@@ -44,7 +45,7 @@ fn contents<'a>(alloc: Global, entries: &'a [EventEntry]) -> Result<Vec<ContentK
     firsts(alloc, keys.as_slice())
 }
 
-/// Notes what each node was handed.
+/// The key of each of `entries`: which node was handed which event.
 fn handed_to<'a>(alloc: Global, entries: &'a [EventEntry]) -> Result<HashSet<Key<'a>>, AllocError>
     ensures { IfOk result (HasHanded entries.entry.now) }
 {
@@ -55,7 +56,7 @@ fn handed_to<'a>(alloc: Global, entries: &'a [EventEntry]) -> Result<HashSet<Key
     Ok(handed)
 }
 
-/// Whether `node` was not handed an event.
+/// Whether `node` was never handed `event`; `handed` has the key of all that was handed out.
 fn is_missing<'a>(handed: &HashSet<Key<'a>>, event: ContentKey<'a>, node: &'a [u8]) -> bool
     ensures { result ≡ lacks handed.now event.entry node.entry }
 {
@@ -69,7 +70,7 @@ fn is_missing<'a>(handed: &HashSet<Key<'a>>, event: ContentKey<'a>, node: &'a [u
     !handed.contains(&key)
 }
 
-/// At most so many of the nodes that were never handed an event.
+/// Those of `nodes` that were never handed `event`, at most the first `most`; `handed` has the key of all that was.
 fn missing_nodes<'a>(
     alloc: Global,
     handed: &HashSet<Key<'a>>,
@@ -88,7 +89,7 @@ fn missing_nodes<'a>(
         .collect(alloc)
 }
 
-/// Puts an event after the others, where some node never had it.
+/// Appends `event` to `missed`, with `nodes`, those that were never handed it; nothing where these are none.
 fn put_missed<'a>(
     missed: &mut Vec<MissedEvent<'a>>,
     event: ContentKey<'a>,
@@ -111,8 +112,8 @@ fn put_missed<'a>(
     Ok(())
 }
 
-/// Each event that some node was never handed, in the order in which they come first in a log, with these nodes: of the
-/// nodes that were handed any event, in their order. At most `most` nodes are given for each event, and so none where
+/// Each event that some node was never handed, in the order in which they come first in `entries`, with these nodes, of
+/// those that were handed any event, in their order. At most `most` nodes are given for each event, and no event where
 /// `most` is 0.
 ///
 /// Each entry is looked up once by its hash, and each event once for each node up to the last that is given. It is an

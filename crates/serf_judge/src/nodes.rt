@@ -1,4 +1,4 @@
-//! The nodes that a log names.
+//! The nodes that a log names, each once. A node is told by its name.
 
 ghost use Rattle.std.specs.Prelude.{◌≡◌, ◌++◌, IfOk, OnOk};
 ghost use Rattle.serf_judge.specs.Again.{firsts_of};
@@ -10,7 +10,7 @@ use crate::key::HandedOut;
 use crate::log::Log;
 use std::alloc::{AllocError, Global};
 
-/// Adds the node of each entry.
+/// Appends the node of each of `entries` to `nodes`.
 fn add_nodes<'a, E: HandedOut>(
     nodes: &mut Vec<&'a [u8]>,
     entries: &'a [E],
@@ -24,7 +24,7 @@ fn add_nodes<'a, E: HandedOut>(
     Ok(())
 }
 
-/// Each of some nodes once.
+/// Each of `nodes` once, in the order in which they come first.
 pub(crate) fn each_once<'a>(alloc: Global, nodes: &[&'a [u8]]) -> Result<Vec<&'a [u8]>, AllocError>
     ensures { IfOk result (λ once. texts_of once.items
         ≡ firsts_of bytes_eq (texts_of nodes.entry.now)) }
@@ -32,7 +32,7 @@ pub(crate) fn each_once<'a>(alloc: Global, nodes: &[&'a [u8]]) -> Result<Vec<&'a
     firsts(alloc, nodes)
 }
 
-/// Each node that was handed one of these events, or one of these queries, once, in the order in which they come first.
+/// Each node that was handed one of `entries`, once, in the order in which the nodes come first.
 ///
 /// Each entry is looked up once by its hash. It is an `AllocError` only where there is no memory for that.
 pub fn receivers<'a, E: HandedOut>(
@@ -46,8 +46,8 @@ pub fn receivers<'a, E: HandedOut>(
     each_once(alloc, nodes.as_slice())
 }
 
-/// Each node that a log names, once: as one that was handed an event or a query, or that fired an event. It takes the
-/// time and has the faults of [`receivers`].
+/// Each node that `log` names, once: as one that was handed an event, or a query, or that fired an event, in this order.
+/// It takes the time and has the faults of [`receivers`].
 pub fn log_nodes<'a>(alloc: Global, log: &'a Log) -> Result<Vec<&'a [u8]>, AllocError>
     ensures { IfOk result (λ nodes. texts_of nodes.items ≡ log_nodes_of log.entry.now) }
 {

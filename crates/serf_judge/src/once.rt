@@ -1,4 +1,4 @@
-//! Whether an event, or a query, was handed to a node twice: two equal keys, by their hashes.
+//! Whether an event, or a query, was handed to a node twice: two equal keys, which are found by their hashes.
 
 ghost use Rattle.std.specs.Prelude.{◌≡◌, ◌↔◌, IfOk, List, MatchOption, None, map};
 ghost use Rattle.serf_model.specs.Promises.{Once, QueryHandedOnce};
@@ -14,8 +14,8 @@ use std::alloc::{AllocError, Global};
 use std::collections::HashMap;
 use std::hash::Hash;
 
-/// The places of the first two equal keys: no two equal keys have their later place before this one's, and none with
-/// the same later place has an earlier one. `None` where no two are equal.
+/// The places of the first two equal keys, the earlier one first: of all pairs of equal keys they have the least later
+/// place, and with it the least earlier one. Places count from 0. `None` where no two are equal.
 ///
 /// Each key is looked up once by its hash. It is an `AllocError` only where there is no memory for the keys.
 pub fn first_pair<K: Eq + Hash + Copy>(
@@ -36,7 +36,7 @@ pub fn first_pair<K: Eq + Hash + Copy>(
     Ok(None)
 }
 
-/// The places of the first two entries that hand one thing to one node.
+/// The places, as [`first_pair`] has them, of the first two of `entries` that hand one event or query to one node.
 fn first_twice<E: HandedOut>(
     alloc: Global,
     entries: &[E],
@@ -52,9 +52,9 @@ fn first_twice<E: HandedOut>(
     first_pair(alloc, keys.as_slice())
 }
 
-/// The places of the first two entries that hand one event to one node: no two such have their later place before this
-/// one's, and none with the same later place has an earlier one. `None` where each node was handed each event, that is
-/// a time, a name and a payload, at most once.
+/// The places, from 0 on, of the first two of `entries` that hand one event, that is a time, a name and a payload, to
+/// one node, the earlier one first: of all such pairs they have the least later place, and with it the least earlier
+/// one. `None` where there is no such pair.
 ///
 /// Of a log that has what the agents of a run were handed it is `None` exactly where the run keeps the promise `Once`.
 ///
@@ -72,8 +72,8 @@ pub fn first_event_twice(
     first_twice(alloc, entries)
 }
 
-/// The places of the first two entries that hand one query, that is a time and an ID or none, to one node; in the order
-/// and with the faults of [`first_event_twice`].
+/// The places, from 0 on, of the first two of `entries` that hand one query, that is a time and an ID or none, to one
+/// node; chosen as [`first_event_twice`] chooses, and with its faults. `None` where no two do.
 ///
 /// Of a log that has what the agents of a run were handed it is `None` exactly where no agent was handed a query twice.
 pub fn first_query_twice(

@@ -1,4 +1,4 @@
-//! How many lines each node has, and from when to when.
+//! Tallies of lines that hand something to nodes: for each node how many they are, and their first and last.
 
 ghost use Rattle.std.specs.Prelude.{◌≡◌, ℕ, ◌++◌, ◌∷◌, [], IfOk, List, OnOk, map};
 ghost use Rattle.serf_judge.specs.Nodes.{texts_of};
@@ -12,26 +12,26 @@ use crate::nodes::each_once;
 use std::alloc::{AllocError, Global};
 use std::collections::HashMap;
 
-/// Some lines of one node.
+/// The tally of some lines that hand something to one node.
 #[derive(Clone, Copy, PartialEq, Eq)]
 pub struct Tally {
-    /// How many they are; it stops at 2^64 - 1.
+    /// How many lines they are; the count stops at 2^64 - 1.
     pub count: u64,
     pub least_time: u64,
     pub greatest_time: u64,
-    /// The number of the first of them.
+    /// The number of the first of the lines, from 1 on.
     pub first_line: u64,
     pub last_line: u64,
 }
 
-/// A node, and some of its lines.
+/// A node, and the tally of its lines.
 #[derive(Clone, Copy)]
 pub struct NodeTally<'a> {
     pub node: &'a [u8],
     pub tally: Tally,
 }
 
-/// No lines.
+/// The tally of no lines: the least of nothing is 2^64 - 1, and the greatest 0.
 fn no_lines() -> Tally
     ensures { result ≡ tally_of [] }
 {
@@ -44,7 +44,7 @@ fn no_lines() -> Tally
     }
 }
 
-/// These lines and one more.
+/// `tally` with one more line, `line`.
 fn one_more(tally: Tally, line: Handed<'_>) -> Tally
     ensures { (own : List (ℕ × Identity)) → tally ≡ tally_of own
         → result ≡ tally_of (own ++ handed_seen line.entry ∷ []) }
@@ -58,7 +58,7 @@ fn one_more(tally: Tally, line: Handed<'_>) -> Tally
     }
 }
 
-/// What is tallied for a node.
+/// The tally that `table` has for `node`; that of no lines where it has none.
 fn tally_at(table: &HashMap<&[u8], Tally>, node: &[u8]) -> Tally
     ensures { (lines : List (ℕ × Identity)) → AreTallied lines table.now
         → result ≡ tally_of (lines_to node.now lines) }
@@ -69,7 +69,7 @@ fn tally_at(table: &HashMap<&[u8], Tally>, node: &[u8]) -> Tally
     }
 }
 
-/// Tallies one more line.
+/// Counts `line` in the tally of its node in `table`.
 fn add_line<'a>(table: &mut HashMap<&'a [u8], Tally>, line: Handed<'a>) -> Result<(), AllocError>
     ensures { (lines : List (ℕ × Identity)) → AreTallied lines table.old
         → OnOk result (AreTallied (lines ++ handed_seen line.entry ∷ []) table.new) }
@@ -79,7 +79,7 @@ fn add_line<'a>(table: &mut HashMap<&'a [u8], Tally>, line: Handed<'a>) -> Resul
     Ok(())
 }
 
-/// What each node's lines come to.
+/// The tally of each node's lines, of `lines`.
 fn table_of<'a>(alloc: Global, lines: &[Handed<'a>]) -> Result<HashMap<&'a [u8], Tally>, AllocError>
     ensures { IfOk result (AreTallied (map handed_seen lines.entry.now)) }
 {
@@ -90,7 +90,7 @@ fn table_of<'a>(alloc: Global, lines: &[Handed<'a>]) -> Result<HashMap<&'a [u8],
     Ok(table)
 }
 
-/// Each node once, in the order in which their lines come first.
+/// Each node of `lines` once, in the order in which the nodes come first.
 fn nodes_in_order<'a>(alloc: Global, lines: &[Handed<'a>]) -> Result<Vec<&'a [u8]>, AllocError>
     ensures { IfOk result (λ nodes. texts_of nodes.items
         ≡ nodes_of (map handed_seen lines.entry.now)) }
@@ -102,7 +102,7 @@ fn nodes_in_order<'a>(alloc: Global, lines: &[Handed<'a>]) -> Result<Vec<&'a [u8
     each_once(alloc, nodes.as_slice())
 }
 
-/// Each node once, in the order in which their lines come first, with what its lines come to.
+/// Each node of `lines` once, in the order in which the nodes come first, with the tally of its lines.
 pub(crate) fn tallies<'a>(
     alloc: Global,
     lines: &[Handed<'a>],
@@ -120,9 +120,9 @@ pub(crate) fn tallies<'a>(
     Ok(told)
 }
 
-/// Each node that was handed something again, in the order in which that happened first, with the lines that hand it
-/// again what a line before them handed it: how many they are, their least and greatest time, and the first and the
-/// last of them. An event is a time, a name and a payload, and a query a time and an ID.
+/// Each node that was handed something again, in the order in which that happened first, with the tally of those of
+/// `entries` that hand it what one before them handed it. An event is a time, a name and a payload, and a query a time
+/// and an ID.
 ///
 /// Each entry is looked up once by its hash. It is an `AllocError` only where there is no memory for that.
 pub fn tally_repeats<'a, E: HandedOut>(

@@ -1,11 +1,6 @@
 -- What one agent does by itself is what it does in a cluster.
-use Rattle.serf_model.proofs.Names.{◌≡◌, ℕ, List, [], ◌∷◌, ◌++◌, Option, Some, None, refl, sym, ap, subst, ◌∙◌, slice_get, AllZip, option_to_list, fold_push, Config}
-use Rattle.serf_model.specs.declared.action.Action.{Action}
-use Rattle.serf_model.specs.declared.action.Act.{Act}
+use Rattle.serf_model.proofs.Names.{List, None, Option, Some, [], ap, refl, subst, sym, ℕ, ◌++◌, ◌∙◌, ◌∷◌, ◌≡◌, fold_push, AllZip, option_to_list, slice_get, Config, AgentCall, Alone, IsAlone, Shows, alone, call_by, calls_in, calls_on, of_one_packet, Applied, IdealNode, Run, after, applied, apply, delivers, first_node, merges_given, run_of, start, with_handed, Turn, given_by, turns_by, Act, Action}
 use Rattle.serf_model.specs.declared.action.Act.TheVariants as acts
-use Rattle.serf_model.specs.Alone.{AgentCall, Alone, IsAlone, Shows, alone, call_by, calls_in, calls_on, of_one_packet}
-use Rattle.serf_model.specs.Cluster.{Applied, IdealNode, Run, after, applied, apply, delivers, first_node, merges_given, run_of, start, with_handed}
-use Rattle.serf_model.specs.Trace.{Turn, given_by, turns_by}
 use Rattle.serf_model.proofs.PerAgent.{Each, each-start, each-step}
 use Rattle.serf_model.proofs.TurnLaws.{fold_keeps, flat_map-push}
 

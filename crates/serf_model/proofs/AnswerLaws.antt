@@ -1,16 +1,7 @@
 -- Where the acks and responses of each run come from.
-use Rattle.serf_model.proofs.Names.{◌≡◌, ◌≢◌, ℕ, List, [], ◌∷◌, ◌++◌, Option, Some, None, Result, Ok, Err, refl, sym, ap, subst, ◌∙◌, arith, map, length, All, AllPairs, Contains, not, slice_get, eq-eqb, flat_map, option_map, All-nil, All-cons, All-head, All-tail, WireFault, decoded, Message, user_event, query, query_response, push_pull, foreign, Config, Handed, is_ack}
+use Rattle.serf_model.proofs.Names.{Err, List, None, Ok, Option, Result, Some, [], ap, arith, length, map, refl, subst, sym, ℕ, ◌++◌, ◌∙◌, ◌∷◌, ◌≡◌, ◌≢◌, eq-eqb, All-cons, All-head, All-nil, All-tail, flat_map, option_map, All, AllPairs, Contains, not, slice_get, decoded, Message, foreign, push_pull, query, query_response, user_event, WireFault, Handed, is_ack, Config, AckedOnce, AnswersMade, IsMade, RepliedOnce, acked, acked_by, answer_brought, answers_in, injected, query_answered, replied, replied_by, Below, Cluster, IdealNode, Run, after, applied, apply, handed_line, injects, start, step, IsRepresentable, HasSizes, Turn, actor_of, turns_by, Act, Action, Inject, Of}
 use Rattle.std.specs.Prelude.{filter}
-use Rattle.serf_model.specs.Below.{Below}
-use Rattle.serf_model.specs.declared.action.Action.{Action}
-use Rattle.serf_model.specs.declared.action.Act.{Act}
 use Rattle.serf_model.specs.declared.action.Act.TheVariants as acts
-use Rattle.serf_model.specs.declared.action.Action.TheVariants.{Inject, Of}
-use Rattle.serf_model.specs.AnswerPromises.{AckedOnce, AnswersMade, IsMade, RepliedOnce, acked, injected, replied, acked_by, replied_by, answer_brought, answers_in, query_answered}
-use Rattle.serf_model.specs.Cluster.{IdealNode, Cluster, Run, applied, apply, after, handed_line, injects, start, step}
-use Rattle.serf_model.specs.Sizes.{HasSizes}
-use Rattle.serf_model.specs.Ready.{IsRepresentable}
-use Rattle.serf_model.specs.Trace.{Turn, actor_of, turns_by}
 use Rattle.serf_model.proofs.HistoryGrowth.{keeps-apply}
 use Rattle.serf_model.proofs.PerAgent.{AreNobodys, Each, IsRefused, each-step, each-start, nobodys-step, nobodys-start, turns-mine}
 use Rattle.serf_model.proofs.PresentLife.{own_life}

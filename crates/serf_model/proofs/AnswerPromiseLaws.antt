@@ -1,11 +1,5 @@
 -- What every run promises of acks and responses, whatever is done in it.
-use Rattle.serf_model.proofs.Names.{List, All, recursion_from_All, Config}
-use Rattle.serf_model.specs.Below.{Below}
-use Rattle.serf_model.specs.declared.action.Action.{Action}
-use Rattle.serf_model.specs.Cluster.{Run, after, run_of, start}
-use Rattle.serf_model.specs.Runs.{AreConfigs}
-use Rattle.serf_model.specs.Sizes.{HasSizes}
-use Rattle.serf_model.specs.Tails.{CanTell}
+use Rattle.serf_model.proofs.Names.{List, recursion_from_All, All, Config, Below, Run, after, run_of, start, AreConfigs, HasSizes, CanTell, Action}
 use Rattle.serf_model.proofs.AnswerLaws.{IsServed, served-start, served-step}
 use Rattle.serf_model.proofs.CountingPromises.{IsCounting, counting-start, counting-step}
 use Rattle.serf_model.proofs.RunLaws.{CanTellIt, IsAfter, after-step, tell-each}

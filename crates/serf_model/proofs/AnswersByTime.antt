@@ -1,7 +1,6 @@
 -- Open queries by their times, and the answers to a time.
-use Rattle.serf_model.proofs.Names.{suc, ◌≡◌, ◌≢◌, ℕ, ◌<◌, ◌==◌, nat_eq, Bool, true, false, cond, List, [], ◌∷◌, ◌++◌, Some, refl, sym, ap, subst, ◌∙◌, arith, map, All, AllPairs, eqb-true, eqb-false, eq-eqb, ne_eqb, append-nil, All-nil, All-cons, All-head, All-tail, All-weaker, filter-append, QueryResponse, OpenQuery, asked_at, with_asked_at}
+use Rattle.serf_model.proofs.Names.{Bool, List, Some, [], ap, arith, cond, false, map, nat_eq, refl, subst, suc, sym, true, ℕ, ◌++◌, ◌<◌, ◌==◌, ◌∙◌, ◌∷◌, ◌≡◌, ◌≢◌, eq-eqb, eqb-false, eqb-true, ne_eqb, append-nil, All-cons, All-head, All-nil, All-tail, All-weaker, filter-append, All, AllPairs, QueryResponse, asked_at, with_asked_at, OpenQuery, to_time}
 use Rattle.std.specs.Prelude.{filter}
-use Rattle.serf_model.specs.AnswerPromises.{to_time}
 
 -- ---- lists
 

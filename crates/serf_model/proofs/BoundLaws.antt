@@ -1,17 +1,5 @@
 -- What enters at an agent in one life is bounded by its settings, in every run.
-use Rattle.serf_model.proofs.Names.{zero, suc, ◌≡◌, ℕ, ◌+◌, ◌*◌, ◌≤◌, ◌==◌, ◌&&◌, inl, inr, Bool, true, false, cond, List, [], ◌∷◌, ◌++◌, Option, Some, None, refl, sym, ap, subst, ◌∙◌, arith, map, length, set, get_or, ◌%◌, All, slice_get, filter, range_with_len, option_map, cases_Bool, eq-eqb, eqb-true, eqb-false, append-nil, append_assoc, All-cons, All-nil, All-tail, All-filter, All-map, fold-append, EventBody, EachAtMost, SlotOf, TimedEntry, count_at, entries_of, greatest_time, held_at, held_count, slot_of, slots_of, SlotLaws, Config, IdealAgent, Past, of_life}
-use Rattle.serf_agent.specs.Config.{longest_texts}
-use Rattle.serf_model.specs.Below.{Below}
-use Rattle.serf_model.specs.declared.action.Action.{Action}
-use Rattle.serf_model.specs.declared.action.Act.{Act}
-use Rattle.serf_model.specs.declared.action.Action.TheVariants.{Of}
-use Rattle.serf_model.specs.declared.line.EventLine.{EventLine}
-use Rattle.serf_model.specs.Bounds.{AtMostOfOneTime, EventsBounded, AreEventsBounded, AreWindowsBounded, IsBounded, QueriesBounded, WindowsBounded, events_of_life, is_restarted, lived_on, present_life, queries_of_life, reopens}
-use Rattle.serf_model.specs.Cluster.{Applied, Cluster, IdealNode, Run, Stepped, applied, apply, after, first_node, injects, on_agent, opened_first, run_of, start, step, with_handed}
-use Rattle.serf_model.specs.Ready.{IsRepresentable}
-use Rattle.serf_model.specs.Runs.{AreConfigs}
-use Rattle.serf_model.specs.Tails.{CanTell}
-use Rattle.serf_model.specs.Trace.{Turn, actor_of, entered_by, event_in, events_to, is_agent, queries_at, given_by}
+use Rattle.serf_model.proofs.Names.{Bool, List, None, Option, Some, [], ap, append_assoc, arith, cond, false, get_or, inl, inr, length, map, refl, set, subst, suc, sym, true, zero, ℕ, ◌%◌, ◌&&◌, ◌*◌, ◌++◌, ◌+◌, ◌==◌, ◌∙◌, ◌∷◌, ◌≡◌, ◌≤◌, cases_Bool, eq-eqb, eqb-false, eqb-true, append-nil, All-cons, All-filter, All-map, All-nil, All-tail, fold-append, filter, range_with_len, option_map, All, slice_get, EventBody, SlotLaws, EachAtMost, SlotOf, TimedEntry, count_at, entries_of, greatest_time, held_at, held_count, slot_of, slots_of, longest_texts, IdealAgent, Past, of_life, Config, Below, AreEventsBounded, AreWindowsBounded, AtMostOfOneTime, EventsBounded, IsBounded, QueriesBounded, WindowsBounded, events_of_life, is_restarted, lived_on, present_life, queries_of_life, reopens, Applied, Cluster, IdealNode, Run, Stepped, after, applied, apply, first_node, injects, on_agent, opened_first, run_of, start, step, with_handed, IsRepresentable, AreConfigs, CanTell, Turn, actor_of, entered_by, event_in, events_to, given_by, is_agent, queries_at, Act, Action, Of, EventLine}
 use Rattle.serf_model.proofs.HistoryGrowth.{Keeps, keeps-apply}
 use Rattle.serf_model.proofs.InvariantKept.{first-events, first-queries}
 use Rattle.serf_model.proofs.PerTimeBound.{Enters, enters-life}

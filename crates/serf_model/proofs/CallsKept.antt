@@ -1,16 +1,10 @@
 -- What a call, an event and a query leave sound, over a sink with a plan.
-use Rattle.serf_model.proofs.Names.{Call, will, ◌≡◌, ◌≢◌, ℕ, ◌-◌, ◌^◌, ◌<◌, ◌≤◌, ◌==◌, nat_lt, nat_le, Bool, true, false, cond, List, Option, Some, None, IsSome, Ok, Err, refl, sym, ap, subst, arith, length, inl, inr, All, not, is_some, All-weaker, append-nil, and_parts, or_parts, leb-true, leb-false, ltb-false, EventBody, Query, query, ClockKind, clock_line, FailurePlan, SnapshotView, Writing, Kept, Failed, IsObservable, MayWrite, will_write, written, last_line, note_fails, durable_left_by, Notes, Step, MayNote, planned, ended, will_note, IdealAgent, with_snapshot, Past, IsSound, canonical, TimedEntry, Config, Event, QueryFault, QueryParams, Reason, is_sound, query_fired_as, query_fault, query_asked, query_admission, query_received_as, query_entered, handed_if_passed, ack_if_passed, has_flag, no_broadcast_flag, is_no_timeout, is_too_large_query, FireFault, texts_len, admission, received_as, event_entered, fired_as, fire_fault, event_packet, event_out, drawn, is_too_large}
+use Rattle.serf_model.proofs.Names.{Bool, Err, IsSome, List, None, Ok, Option, Some, ap, arith, cond, false, inl, inr, length, nat_le, nat_lt, refl, subst, sym, true, ℕ, ◌-◌, ◌<◌, ◌==◌, ◌^◌, ◌≡◌, ◌≢◌, ◌≤◌, and_parts, leb-false, leb-true, ltb-false, or_parts, append-nil, All-weaker, All, is_some, not, canonical, Query, query, EventBody, clock_line, FailurePlan, kept_bytes, Failed, IsObservable, Kept, MayReplaceBy, MayWrite, SnapshotView, Writing, durable_left_by, last_line, note_fails, text_replaced, will_put, will_write, written, ClockKind, TimedEntry, Call, Notes, Step, ended, planned, will, is_sound, admission, drawn, event_entered, event_out, event_packet, fire_fault, fired_as, is_too_large, received_as, texts_len, told_event, IdealAgent, Past, with_snapshot, ack_if_passed, handed_if_passed, has_flag, is_no_timeout, is_too_large_query, no_broadcast_flag, query_admission, query_asked, query_entered, query_fault, query_fired_as, query_received_as, told_query, IsSound, MayNote, noted_with, text_with, will_note, will_replace_with, Config, FireFault, Event, QueryFault, QueryParams, Reason, Below}
 use Rattle.serf_snap.specs.declared.kind.ClockKind.TheVariants as kinds
-use Rattle.serf_snap.specs.KeptNotes.{kept_bytes}
-use Rattle.serf_snap.specs.Notes.{MayReplaceBy, text_replaced, will_put}
-use Rattle.serf_agent.specs.Events.{told_event}
-use Rattle.serf_agent.specs.Queries.{told_query}
-use Rattle.serf_agent.specs.Told.{noted_with, text_with, will_replace_with}
 use Rattle.serf_agent.specs.declared.outcome.Outcome.TheVariants as outcomes
 use Rattle.serf_agent.specs.declared.outcome.QueryFault.TheVariants as asks
 use Rattle.serf_agent.specs.declared.outcome.ReceiveFault.TheVariants as receives
 use Rattle.serf_agent.specs.declared.outcome.FireFault.TheVariants as fires
-use Rattle.serf_model.specs.Below.{Below}
 use Rattle.serf_model.proofs.ReadyLaws.{IsReady}
 use Rattle.serf_model.proofs.PerTimeBound.{none-if}
 

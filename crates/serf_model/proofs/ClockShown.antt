@@ -1,23 +1,11 @@
 -- An agent's clocks, of events and of queries, are no higher than its turns show them.
-use Rattle.serf_model.proofs.Names.{◌≡◌, ℕ, ◌≤◌, Bool, true, false, cond, List, [], ◌∷◌, Option, Some, None, Result, Ok, Err, refl, arith, slice_get, fold, observed, WireFault, EventBody, decoded, Message, PushPull, Query, QueryResponse, user_event, query, query_response, push_pull, foreign, TimedEntry, event_of, OpenQuery, Call, Step, answers, planned, IdealAgent, FireFault, MergeFault, NoteFault, Outcome, QueryFault, Reason, ReceiveFault, Handed, RespondFault, respond_fault, admission, fire_fault, fired_as, received_as, answer_ignore_reason, asked_at, is_ack, is_full, query_admission, query_at, query_fault, query_fired_as, query_received_as, response_received_as, response_received_at, receive_read, events_of, merge_refusal, receive_one}
-use Rattle.std.specs.Prelude.{max}
+use Rattle.serf_model.proofs.Names.{Bool, Err, List, None, Ok, Option, Result, Some, [], arith, cond, false, refl, true, ℕ, ◌∷◌, ◌≡◌, ◌≤◌, fold, max, slice_get, observed, decoded, Message, PushPull, Query, QueryResponse, foreign, push_pull, query, query_response, user_event, WireFault, EventBody, NoteFault, event_of, TimedEntry, Call, Step, answers, planned, admission, fire_fault, fired_as, received_as, Handed, IdealAgent, answer_ignore_reason, asked_at, counts_where, is_ack, is_full, query_admission, query_at, query_fault, query_fired_as, query_received_as, respond_fault, response_received_as, response_received_at, receive_read, compact, events_of, hear, heard_by, merge_refusal, receive_one, save, send_state, told_least, view_of, OpenQuery, FireFault, MergeFault, Outcome, PushPullFault, QueryFault, Reason, ReceiveFault, RespondFault, Applied, IdealNode, Merged, apply, delivers, fire_gives, merges_as, merges_events, merges_given, merges_heard, merges_on, note_gives, query_gives, receive_gives, responds, responds_as, state_gives, clock_given, clock_shown, clock_told, query_clock_given, query_clock_shown, query_clock_told, given_by, Act, Action, Of, Answer}
 use Rattle.serf_agent.specs.declared.outcome.Outcome.TheVariants as outcomes
-use Rattle.serf_agent.specs.declared.outcome.PushPullFault.{PushPullFault}
 use Rattle.serf_agent.specs.declared.outcome.ReceiveFault.TheVariants as receives
 use Rattle.serf_snap.specs.declared.snapshot.NoteFault.TheVariants as notes
-use Rattle.serf_agent.specs.Queries.{counts_where}
-use Rattle.serf_agent.specs.States.{compact, hear, heard_by, save, send_state, told_least}
-use Rattle.serf_agent.specs.View.{view_of}
-use Rattle.serf_model.specs.declared.action.Act.{Act}
 use Rattle.serf_model.specs.declared.action.Act.TheVariants as acts
-use Rattle.serf_model.specs.declared.action.Action.{Action}
-use Rattle.serf_model.specs.declared.action.Action.TheVariants.{Of}
-use Rattle.serf_model.specs.declared.line.Answer.{Answer}
 use Rattle.serf_model.specs.declared.line.Answer.TheVariants as lines
 use Rattle.serf_model.specs.declared.line.Refusal.TheVariants as refusals
-use Rattle.serf_model.specs.Cluster.{Applied, IdealNode, Merged, apply, delivers, fire_gives, merges_as, merges_events, merges_given, merges_heard, merges_on, note_gives, query_gives, receive_gives, responds, responds_as, state_gives}
-use Rattle.serf_model.specs.NotMissed.{clock_given, clock_shown, clock_told, query_clock_given, query_clock_shown, query_clock_told}
-use Rattle.serf_model.specs.Trace.{given_by}
 use Rattle.serf_model.proofs.InvariantKept.{compacting, saving}
 use Rattle.serf_model.proofs.CallsKept.{kept-or-failed}
 

@@ -1,14 +1,6 @@
 -- What each run counts: each name once, in time, and as it was sent.
-use Rattle.serf_model.proofs.Names.{zero, suc, ◌≡◌, ◌≢◌, ℕ, Bool, true, false, cond, List, [], ◌∷◌, ◌++◌, Option, Some, None, Result, refl, sym, ap, subst, ◌∙◌, arith, All, AllPairs, Contains, slice_get, option_to_list, All-nil, All-cons, All-head, All-tail, All-weaker, WireFault, Message, Config}
-use Rattle.serf_model.specs.Below.{Below}
-use Rattle.serf_model.specs.declared.action.Action.{Action}
-use Rattle.serf_model.specs.declared.action.Act.{Act}
+use Rattle.serf_model.proofs.Names.{Bool, List, None, Option, Result, Some, [], ap, arith, cond, false, refl, subst, suc, sym, true, zero, ℕ, ◌++◌, ◌∙◌, ◌∷◌, ◌≡◌, ◌≢◌, All-cons, All-head, All-nil, All-tail, All-weaker, option_to_list, All, AllPairs, Contains, slice_get, Message, WireFault, Config, CountedInTime, CountedOnce, CountedSent, HoldsCounted, IsAwaited, IsDelivered, OpenQueriesHold, answer_brought, answers_in, as_fired, counted_at, counted_by, is_counted, life_of, own_queries, Below, Cluster, IdealNode, Run, after, applied, apply, line_of, start, step, IsRepresentable, Turn, actor_of, given_by, packet_given, queries_at, turns_by, Act, Action, Of}
 use Rattle.serf_model.specs.declared.action.Act.TheVariants as acts
-use Rattle.serf_model.specs.declared.action.Action.TheVariants.{Of}
-use Rattle.serf_model.specs.AnswerPromises.{CountedInTime, CountedOnce, CountedSent, HoldsCounted, IsAwaited, IsDelivered, OpenQueriesHold, answer_brought, answers_in, as_fired, counted_at, counted_by, is_counted, life_of, own_queries}
-use Rattle.serf_model.specs.Cluster.{IdealNode, Cluster, Run, applied, apply, after, line_of, start, step}
-use Rattle.serf_model.specs.Ready.{IsRepresentable}
-use Rattle.serf_model.specs.Trace.{Turn, queries_at, actor_of, packet_given, turns_by, given_by}
 use Rattle.serf_model.proofs.PerAgent.{Each, AreNobodys, IsRefused, each-step, each-start, nobodys-step, nobodys-start}
 use Rattle.serf_model.proofs.PresentLife.{last_life, own_life}
 use Rattle.serf_model.proofs.Effects.{effect}

@@ -1,18 +1,8 @@
 -- What is durable of an agent that keeps its events has all that it entered, whatever it does.
-use Rattle.serf_model.proofs.Names.{◌≡◌, ℕ, ◌-◌, ◌^◌, ◌<◌, ◌≤◌, Bool, true, false, List, [], ◌++◌, Option, Some, None, IsSome, unwrap_or, refl, sym, ap, ◌∙◌, subst, arith, EventBody, PushPull, IsRangedPushPull, TimedEntry, last_clock, FailurePlan, planned, IdealAgent, receive_one}
+use Rattle.serf_model.proofs.Names.{Bool, IsSome, List, None, Option, Some, [], ap, arith, false, refl, subst, sym, true, unwrap_or, ℕ, ◌++◌, ◌-◌, ◌<◌, ◌^◌, ◌∙◌, ◌≡◌, ◌≤◌, PushPull, IsRangedPushPull, EventBody, last_clock, FailurePlan, TimedEntry, planned, IdealAgent, IsDurable, MayGoOn, StartsWithDurable, HasKept, IsTold, HasFlushed, Opens, hear, receive_one, Below, IdealNode, apply, text_after, with_plan, IsConsistent, IsRepresentable, CanTellAct, given_by, Act}
 use Rattle.serf_snap.specs.declared.kind.ClockKind.TheVariants as kinds
-use Rattle.serf_agent.specs.KeptLives.{IsDurable, MayGoOn, StartsWithDurable}
-use Rattle.serf_agent.specs.KeptRestart.{HasKept}
-use Rattle.serf_agent.specs.KeptTexts.{IsTold}
-use Rattle.serf_agent.specs.Lives.{Act as LifeAct, after, Opens, HasFlushed}
-use Rattle.serf_agent.specs.States.{hear}
-use Rattle.serf_model.specs.Below.{Below}
-use Rattle.serf_model.specs.declared.action.Act.{Act}
+use Rattle.serf_agent.specs.Lives.{Act as LifeAct, after}
 use Rattle.serf_model.specs.declared.action.Act.TheVariants as acts
-use Rattle.serf_model.specs.Cluster.{IdealNode, apply, text_after, with_plan}
-use Rattle.serf_model.specs.Ready.{IsConsistent, IsRepresentable}
-use Rattle.serf_model.specs.Tails.{CanTellAct}
-use Rattle.serf_model.specs.Trace.{given_by}
 use Rattle.serf_model.proofs.InvariantKept.{text-kept}
 use Rattle.serf_model.proofs.LifeActs.{FitsAct, Keeping, acts-keep, kept-heard, kept-received, nothing-splits}
 use Rattle.serf_model.proofs.ReadyLaws.{IsReady}

@@ -1,25 +1,10 @@
 -- What each action does to the node that acts, said once: its effect, and that its agent stays sound.
-use Rattle.serf_model.proofs.Names.{◌≡◌, Past, PushPull, ℕ, Bool, true, false, cond, List, [], ◌∷◌, ◌++◌, Option, Some, None, Result, Ok, Err, refl, sym, ap, subst, ◌∙◌, map, All, Contains, slice_get, map-append, All-nil, All-cons, All-append, All-weaker, All-contains_itself, All-head, Contains-append_right, WireFault, EventBody, canonical, has_long, decoded, Message, UserEvent, Query, QueryResponse, user_event, query, query_response, push_pull, event_of, TimedEntry, SnapshotView, Kept, Config, OpenQuery, EventOut, FireFault, MergeFault, Outcome, QueryFault, Reason, ReceiveFault, RespondFault, Step, answers, ended, planned, admission, fire_fault, fired_as, received_as, Handed, IdealAgent, with_asked, with_snapshot, answer_ignore_reason, asked_at, counted, is_ack, is_full, query_admission, query_at, query_fault, query_fired_as, query_received_as, respond_fault, response_received_as, response_received_at, with_asked_at, receive_read, events_of, handed_by, merge_refusal, receive_one, state_of, view_of}
+use Rattle.serf_model.proofs.Names.{Bool, Err, List, None, Ok, Option, Result, Some, [], ap, cond, false, map, refl, subst, sym, true, ℕ, ◌++◌, ◌∙◌, ◌∷◌, ◌≡◌, map-append, All-append, All-cons, All-contains_itself, All-head, All-nil, All-weaker, Contains-append_right, All, Contains, slice_get, has_long, canonical, decoded, Message, PushPull, Query, QueryResponse, UserEvent, push_pull, query, query_response, user_event, WireFault, EventBody, Kept, SnapshotView, event_of, TimedEntry, Step, answers, ended, planned, admission, fire_fault, fired_as, received_as, Handed, IdealAgent, Past, with_asked, with_snapshot, answer_ignore_reason, asked_at, counted, counts_where, is_ack, is_full, query_admission, query_at, query_fault, query_fired_as, query_received_as, respond_fault, response_received_as, response_received_at, with_asked_at, receive_read, events_of, handed_by, hear, heard_by, merge_refusal, receive_one, state_of, told_least, view_of, Config, OpenQuery, EventOut, FireFault, MergeFault, Outcome, QueryFault, Reason, ReceiveFault, RespondFault, Below, is_restarted, Applied, IdealNode, Merged, apply, called, closes, compacts, delivers, does_nothing, fire_gives, merge_refusal_of, merges_as, merges_events, merges_given, merges_heard, merges_on, note_gives, only, plan_with, query_gives, receive_gives, responds, responds_as, restarts, saves, sends_state, state_gives, text_after, events_given, IsRepresentable, CanTellAct, entered_by, events_brought, given_by, Act, Action, Of, Answer, SinkFault, NewQuery}
 use Rattle.serf_snap.specs.declared.snapshot.NoteFault.TheVariants as notes
 use Rattle.serf_agent.specs.declared.outcome.PushPullFault.TheVariants as states
 use Rattle.serf_agent.specs.declared.outcome.ReceiveFault.TheVariants as receives
-use Rattle.serf_agent.specs.Queries.{counts_where}
-use Rattle.serf_agent.specs.States.{hear, heard_by, told_least}
-use Rattle.serf_model.specs.Below.{Below}
-use Rattle.serf_model.specs.declared.action.Act.{Act}
 use Rattle.serf_model.specs.declared.action.Act.TheVariants as acts
-use Rattle.serf_model.specs.declared.action.Action.{Action}
-use Rattle.serf_model.specs.declared.action.Action.TheVariants.{Of}
-use Rattle.serf_model.specs.declared.query.NewQuery.{NewQuery}
-use Rattle.serf_model.specs.declared.line.Answer.{Answer}
 use Rattle.serf_model.specs.declared.line.Answer.TheVariants as lines
-use Rattle.serf_model.specs.declared.line.Refusal.TheVariants.{SinkFault}
-use Rattle.serf_model.specs.Bounds.{is_restarted}
-use Rattle.serf_model.specs.Cluster.{Applied, IdealNode, Merged, apply, called, closes, compacts, delivers, does_nothing, fire_gives, merges_as, merges_events, merge_refusal_of, merges_given, merges_heard, merges_on, note_gives, only, plan_with, query_gives, receive_gives, responds, responds_as, restarts, saves, sends_state, state_gives, text_after}
-use Rattle.serf_model.specs.HandOuts.{events_given}
-use Rattle.serf_model.specs.Ready.{IsRepresentable}
-use Rattle.serf_model.specs.Tails.{CanTellAct}
-use Rattle.serf_model.specs.Trace.{entered_by, events_brought, given_by}
 use Rattle.serf_model.proofs.CallsKept.{kept-or-failed, may-ask, ready-fired, ready-query_fired, ready-query_received, ready-received}
 use Rattle.serf_model.proofs.InvariantKept.{compacting, ready-compacted, ready-merged, ready-opened, ready-planned, ready-saved, saving, text-past}
 use Rattle.serf_model.proofs.DurableKept.{durable-apply}

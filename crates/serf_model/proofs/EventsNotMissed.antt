@@ -1,20 +1,5 @@
 -- What agents that keep their events don't miss of events: what comes in a packet, and in a state that is merged.
-use Rattle.serf_model.proofs.Names.{◌≡◌, ◌≢◌, ◌&&◌, ◌⊎◌, ◌∙◌, ◌==◌, inl, inr, ℕ, ◌+◌, ◌-◌, ◌^◌, ◌<◌, ◌≤◌, Bool, true, false, true≢false, cond, List, [], ◌∷◌, ◌++◌, Option, Some, None, Result, Ok, Err, refl, sym, subst, ap, arith, map, map-append, append_assoc, All, AllByRecursion, Contains, and_parts, eq-eqb, eqb-true, All-cons, All-contains, All-head, All-nil, All-tail, Contains-append_left, Contains-append_right, WireFault, EventBody, decoded, Message, PushPull, user_event, query, query_response, push_pull, foreign, IsRangedPushPull, TimedEntry, event_of, same_texts, observed, texts_len, Config, Call, answers, planned, will, IdealAgent, EventOut, MergeFault, Outcome, Reason, ReceiveFault, admission, received_as, receive_read, events_of, merge_refusal, receive_one, handed_by, slice_get, fresh_device}
-use Rattle.std.proofs.lemmas.Bool.{and_from}
-use Rattle.std.proofs.lemmas.List.Elements.{Contains-append_cases}
-use Rattle.std.proofs.lemmas.Slice.Eq.{bytes_eq-Decides}
-use Rattle.std.specs.Prelude.{max}
-use Rattle.serf_agent.specs.Kept.{IsFull, IsMet}
-use Rattle.serf_agent.specs.KeptLives.{IsDurable}
-use Rattle.serf_agent.specs.KeptTexts.{IsTold}
-use Rattle.serf_agent.specs.Lives.{Takes}
-use Rattle.serf_agent.specs.States.{hear}
-use Rattle.serf_agent.specs.Taking.{TakesAt, TakesOrFull}
-use Rattle.serf_agent.specs.TrackOf.{event_track}
-use Rattle.serf_model.specs.Below.{Below}
-use Rattle.serf_model.specs.Cluster.{IdealNode, delivers, merges_as, merges_events, merges_heard, merges_on, receive_gives, Cluster, applied, apply, event_line, merges_given}
-use Rattle.serf_model.specs.NotMissed.{clock_told, hears_of, IsToCome, events_shown, clock_given, clock_shown, clock_then, event_clock_of, is_stopped, least_told, least_told_by, state_clock}
-use Rattle.serf_model.specs.Trace.{events_brought, events_in_packet, Turn, event_in, events_to, given_by}
+use Rattle.serf_model.proofs.Names.{Bool, Err, List, None, Ok, Option, Result, Some, [], ap, append_assoc, arith, cond, false, inl, inr, map, refl, subst, sym, true, ℕ, ◌&&◌, ◌++◌, ◌+◌, ◌-◌, ◌<◌, ◌==◌, ◌^◌, ◌∙◌, ◌∷◌, ◌≡◌, ◌≢◌, ◌≤◌, ◌⊎◌, and_from, and_parts, eq-eqb, eqb-true, true≢false, map-append, All-cons, All-contains, All-head, All-nil, All-tail, Contains-append_cases, Contains-append_left, Contains-append_right, bytes_eq-Decides, AllByRecursion, All, Contains, max, slice_get, observed, decoded, Message, PushPull, foreign, push_pull, query, query_response, user_event, IsRangedPushPull, WireFault, EventBody, fresh_device, event_of, same_texts, TimedEntry, Call, answers, planned, will, admission, received_as, texts_len, IdealAgent, IsFull, IsMet, IsDurable, IsTold, Takes, receive_read, events_of, handed_by, hear, merge_refusal, receive_one, TakesAt, TakesOrFull, event_track, Config, EventOut, MergeFault, Outcome, Reason, ReceiveFault, Below, Cluster, IdealNode, applied, apply, delivers, event_line, merges_as, merges_events, merges_given, merges_heard, merges_on, receive_gives, events_given, IsToCome, clock_given, clock_shown, clock_then, clock_told, event_clock_of, events_shown, hears_of, is_stopped, least_told, least_told_by, state_clock, IsRepresentable, CanTellAct, tailed_in, tails_to, Turn, event_in, events_brought, events_in_packet, events_to, given_by, Act, Action, Of, Answer}
 use Rattle.serf_model.proofs.CallsKept.{ready-received}
 use Rattle.serf_model.proofs.ClockShown.{heard-low, received-low, rising, rising-up, clocks-apply}
 use Rattle.serf_model.proofs.DurableKept.{durable-heard, durable-received}
@@ -24,13 +9,6 @@ use Rattle.serf_model.proofs.PerTimeBound.{none-if, out_in}
 use Rattle.serf_model.proofs.ReadyLaws.{IsReady, ready}
 use Rattle.serf_model.proofs.SeenLaws.{same-texts, WasHere, here-more, outs-here, tail-here, to-more}
 use Rattle.serf_model.proofs.TakesKept.{event_shows, full-wider, taking, IsFit, events-fit, if-told}
-use Rattle.serf_model.specs.declared.action.Action.{Action}
-use Rattle.serf_model.specs.declared.action.Act.{Act}
-use Rattle.serf_model.specs.declared.action.Action.TheVariants.{Of}
-use Rattle.serf_model.specs.declared.line.Answer.{Answer}
-use Rattle.serf_model.specs.HandOuts.{events_given}
-use Rattle.serf_model.specs.Ready.{IsRepresentable}
-use Rattle.serf_model.specs.Tails.{CanTellAct, tailed_in, tails_to}
 use Rattle.serf_model.proofs.FiredLaws.{tailed-is}
 use Rattle.serf_model.proofs.HistoryGrowth.{Says}
 use Rattle.serf_model.proofs.PerAgent.{by-more}

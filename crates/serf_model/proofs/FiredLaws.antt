@@ -1,14 +1,5 @@
 -- Where the events come from that are handed out and sent.
-use Rattle.serf_model.proofs.Names.{◌≡◌, ℕ, inl, inr, true, false, cond, List, [], ◌∷◌, ◌++◌, Option, Some, None, refl, sym, ap, subst, ◌∙◌, arith, map, All, Contains, slice_get, flat_map, All-nil, All-cons, All-head, All-tail, All-weaker, EventBody, TimedEntry, Config, EventOut}
-use Rattle.serf_model.specs.Below.{Below}
-use Rattle.serf_model.specs.declared.action.Action.{Action}
-use Rattle.serf_model.specs.declared.action.Act.{Act}
-use Rattle.serf_model.specs.declared.action.Action.TheVariants.{Inject, Of}
-use Rattle.serf_model.specs.Cluster.{IdealNode, Cluster, Applied, Run, apply, applied, injects, on_agent, after, start, event_line}
-use Rattle.serf_model.specs.Promises.{WasFired, WasFiredOrTailed, OnlyFired, OnlyFiredOrTailed, CarriesOnlyFired, CarriesOnlyFiredOrTailed}
-use Rattle.serf_model.specs.Ready.{IsRepresentable}
-use Rattle.serf_model.specs.Tails.{NoneKeeps, actor_keeps, keeps, tail_events, tailed_by, tailed_in}
-use Rattle.serf_model.specs.Trace.{Turn, actor_of, event_in, events_in_packet, fired_by, injects_of}
+use Rattle.serf_model.proofs.Names.{List, None, Option, Some, [], ap, arith, cond, false, inl, inr, map, refl, subst, sym, true, ℕ, ◌++◌, ◌∙◌, ◌∷◌, ◌≡◌, All-cons, All-head, All-nil, All-tail, All-weaker, flat_map, All, Contains, slice_get, EventBody, TimedEntry, Config, EventOut, Below, Applied, Cluster, IdealNode, Run, after, applied, apply, event_line, injects, on_agent, start, CarriesOnlyFired, CarriesOnlyFiredOrTailed, OnlyFired, OnlyFiredOrTailed, WasFired, WasFiredOrTailed, IsRepresentable, NoneKeeps, actor_keeps, keeps, tail_events, tailed_by, tailed_in, Turn, actor_of, event_in, events_in_packet, fired_by, injects_of, Act, Action, Inject, Of}
 use Rattle.serf_model.proofs.PacketsHave.{AllHave, Carries}
 use Rattle.serf_model.proofs.PerTimeBound.{out_in}
 use Rattle.serf_model.proofs.RunLaws.{CanTellIt, IsAfter, all-at, none-keeps, settings-at, tells-at}

@@ -1,19 +1,7 @@
 -- What a turn hands out, and which queries enter.
-use Rattle.serf_model.proofs.Names.{length, ◌≡◌, ℕ, ◌⊎◌, inl, inr, Bool, true, false, cond, List, [], ◌∷◌, ◌++◌, Option, Some, None, refl, sym, ap, subst, ◌∙◌, map, All, Contains, slice_get, fold, option_map, option_to_list, All-nil, All-cons, All-head, All-tail, All-append, All-weaker, All-contains, All-contains_itself, Contains-append_left, Contains-append_right, EventBody, canonical, decoded, Query, query, event_of, TimedEntry, Config, EventOut, Handed, IdealAgent, all_pass, handed_if_passed, handed_query, query_at}
-use Rattle.serf_model.specs.Below.{Below}
-use Rattle.serf_model.specs.declared.action.Action.{Action}
-use Rattle.serf_model.specs.declared.action.Act.{Act}
+use Rattle.serf_model.proofs.Names.{Bool, List, None, Option, Some, [], ap, cond, false, inl, inr, length, map, refl, subst, sym, true, ℕ, ◌++◌, ◌∙◌, ◌∷◌, ◌≡◌, ◌⊎◌, All-append, All-cons, All-contains, All-contains_itself, All-head, All-nil, All-tail, All-weaker, Contains-append_left, Contains-append_right, fold, option_map, option_to_list, All, Contains, slice_get, canonical, decoded, Query, query, EventBody, event_of, TimedEntry, Handed, IdealAgent, all_pass, handed_if_passed, handed_query, query_at, Config, EventOut, Below, Applied, Cluster, IdealNode, Run, after, applied, apply, event_line, handed_line, run_of, start, step, HandsOutEntered, HandsOutGiven, IsHandedOf, MessagesFired, NewIsHanded, OnlyToActor, events_given, message_at, message_entered, message_fired, messages_fired, new_in, query_message, says_new, HasShortQueries, HasSizes, Turn, actor_of, event_in, events_brought, events_in_packet, fired_by, given_by, injected_in, queried_in, query_packets, Act, Action, Of, Answer, EventLine, HandedLine}
 use Rattle.serf_model.specs.declared.action.Act.TheVariants as acts
-use Rattle.serf_model.specs.declared.action.Action.TheVariants.{Of}
-use Rattle.serf_model.specs.declared.line.Answer.{Answer}
 use Rattle.serf_model.specs.declared.line.Answer.TheVariants as answers
-use Rattle.serf_model.specs.declared.line.EventLine.{EventLine}
-use Rattle.serf_model.specs.declared.line.HandedLine.{HandedLine}
-use Rattle.serf_model.specs.Cluster.{Applied, Cluster, IdealNode, Run, after, applied, apply, event_line, handed_line, run_of, start, step}
-use Rattle.serf_model.specs.HandOuts.{HandsOutEntered, HandsOutGiven, IsHandedOf, MessagesFired, NewIsHanded, OnlyToActor, events_given, message_entered, message_fired, messages_fired, new_in, query_message, says_new, message_at}
-use Rattle.serf_model.specs.Runs.{HasShortQueries}
-use Rattle.serf_model.specs.Sizes.{HasSizes}
-use Rattle.serf_model.specs.Trace.{Turn, actor_of, event_in, events_brought, events_in_packet, fired_by, injected_in, queried_in, query_packets, given_by}
 use Rattle.serf_model.proofs.Effects.{Effect, IsIdle, asks, counts, effect, fires, hears, is_asked, passes_on, as_message}
 use Rattle.serf_model.proofs.PerAgent.{Each}
 use Rattle.serf_model.proofs.PerTimeBound.{out_in}

@@ -1,12 +1,5 @@
 -- A query is handed to an agent once, where it enters.
-use Rattle.serf_model.proofs.Names.{◌≡◌, ◌≢◌, ℕ, ◌==◌, ◌⊎◌, inl, inr, Bool, true, false, cond, List, [], ◌∷◌, ◌++◌, Option, Some, None, refl, sym, ap, subst, ◌∙◌, arith, map, length, AllPairs, Contains, filter, flat_map, option_map, option_to_list, map-append, All-nil, filter-append, Query, TimedEntry, Config, Handed, handed_query, handed_if_passed, all_pass}
-use Rattle.serf_model.specs.Below.{Below}
-use Rattle.serf_model.specs.declared.action.Action.{Action}
-use Rattle.serf_model.specs.declared.action.Act.{Act}
-use Rattle.serf_model.specs.declared.action.Action.TheVariants.{Of}
-use Rattle.serf_model.specs.declared.line.HandedLine.{HandedLine}
-use Rattle.serf_model.specs.Cluster.{Applied, IdealNode, Cluster, Done, Run, apply, applied, after, handed_line, step}
-use Rattle.serf_model.specs.Trace.{Turn, entered_by, handed_in, queries_at, queries_to, query_brought, given_by}
+use Rattle.serf_model.proofs.Names.{Bool, List, None, Option, Some, [], ap, arith, cond, false, inl, inr, length, map, refl, subst, sym, true, ℕ, ◌++◌, ◌==◌, ◌∙◌, ◌∷◌, ◌≡◌, ◌≢◌, ◌⊎◌, map-append, All-nil, filter-append, filter, flat_map, option_map, option_to_list, AllPairs, Contains, Query, TimedEntry, Handed, all_pass, handed_if_passed, handed_query, Config, Below, Applied, Cluster, Done, IdealNode, Run, after, applied, apply, handed_line, step, Turn, entered_by, given_by, handed_in, queries_at, queries_to, query_brought, Act, Action, Of, HandedLine}
 use Rattle.serf_model.proofs.Effects.{Effect, asks, effect, is_asked, as_message}
 use Rattle.serf_model.proofs.StepCases.{step-cases}
 use Rattle.serf_model.proofs.TurnLaws.{flat_map-push}

@@ -1,16 +1,6 @@
 -- Which queries an agent can answer, and which it acked.
-use Rattle.serf_model.proofs.Names.{Bool, zero, suc, ◌≡◌, ◌≢◌, ℕ, ◌⊎◌, inl, inr, true, false, cond, List, [], ◌∷◌, ◌++◌, length, Option, Some, None, refl, sym, ap, subst, ◌∙◌, map, set, AllPairs, Contains, slice_get, flat_map, option_map, option_to_list, append-nil, map-append, Contains-append_left, Contains-push, filter-append, fold_push, Query, QueryResponse, TimedEntry, Config, Handed, deadline_of, is_ack}
+use Rattle.serf_model.proofs.Names.{Bool, List, None, Option, Some, [], ap, cond, false, inl, inr, length, map, refl, set, subst, suc, sym, true, zero, ℕ, ◌++◌, ◌∙◌, ◌∷◌, ◌≡◌, ◌≢◌, ◌⊎◌, append-nil, map-append, Contains-append_left, Contains-push, filter-append, fold_push, flat_map, option_map, option_to_list, AllPairs, Contains, slice_get, Query, QueryResponse, TimedEntry, Handed, deadline_of, is_ack, Config, answers_in, query_answered, reply_deadline, Below, is_restarted, Applied, Cluster, Done, IdealNode, applied, apply, handed_line, with_handed, query_message, Turn, entered_by, given_by, handed_in, Act, Action, Of, HandedLine}
 use Rattle.std.specs.Prelude.{filter}
-use Rattle.serf_model.specs.Below.{Below}
-use Rattle.serf_model.specs.declared.action.Action.{Action}
-use Rattle.serf_model.specs.declared.action.Act.{Act}
-use Rattle.serf_model.specs.declared.action.Action.TheVariants.{Of}
-use Rattle.serf_model.specs.declared.line.HandedLine.{HandedLine}
-use Rattle.serf_model.specs.AnswerPromises.{answers_in, query_answered, reply_deadline}
-use Rattle.serf_model.specs.Bounds.{is_restarted}
-use Rattle.serf_model.specs.Cluster.{Applied, Cluster, Done, IdealNode, applied, apply, handed_line, with_handed}
-use Rattle.serf_model.specs.Trace.{Turn, entered_by, handed_in, given_by}
-use Rattle.serf_model.specs.HandOuts.{query_message}
 use Rattle.serf_model.proofs.HandedLaws.{hands-apply}
 use Rattle.serf_model.proofs.Within.{IsWithin, within-more}
 use Rattle.serf_model.proofs.HandOutLaws.{passed-on}

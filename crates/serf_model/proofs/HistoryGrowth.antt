@@ -1,16 +1,6 @@
 -- What each action adds to the histories of its agent.
-use Rattle.serf_model.proofs.Names.{◌≡◌, Config, Err, Step, planned, events_of, ℕ, ◌+◌, Bool, true, false, true≢false, All, All-append, All-map, Past, EventBody, map-append, cond, List, [], ◌∷◌, ◌++◌, Option, Some, None, Result, Ok, refl, sym, ap, subst, ◌∙◌, map, WireFault, decoded, Message, push_pull, event_of, TimedEntry, MergeFault, IdealAgent, merge_refusal}
-use Rattle.serf_agent.specs.States.{hear}
-use Rattle.serf_model.specs.Below.{Below}
-use Rattle.serf_model.specs.declared.action.Action.{Action}
-use Rattle.serf_model.specs.declared.action.Act.{Act}
-use Rattle.serf_model.specs.declared.action.Action.TheVariants.{Of}
+use Rattle.serf_model.proofs.Names.{Bool, Err, List, None, Ok, Option, Result, Some, [], ap, cond, false, map, refl, subst, sym, true, ℕ, ◌++◌, ◌+◌, ◌∙◌, ◌∷◌, ◌≡◌, true≢false, map-append, All-append, All-map, All, decoded, Message, push_pull, WireFault, EventBody, event_of, TimedEntry, Step, planned, IdealAgent, Past, events_of, hear, merge_refusal, Config, MergeFault, Below, is_restarted, Applied, Done, IdealNode, apply, delivers, merges_as, merges_given, merges_heard, text_after, IsRepresentable, CanTellAct, tailed_by, entered_by, given_by, query_brought, Act, Action, Of}
 use Rattle.serf_model.specs.declared.line.Answer.TheVariants as lines
-use Rattle.serf_model.specs.Bounds.{is_restarted}
-use Rattle.serf_model.specs.Cluster.{Applied, Done, IdealNode, apply, delivers, merges_as, merges_given, merges_heard, text_after}
-use Rattle.serf_model.specs.Ready.{IsRepresentable}
-use Rattle.serf_model.specs.Tails.{CanTellAct, tailed_by}
-use Rattle.serf_model.specs.Trace.{entered_by, query_brought, given_by}
 use Rattle.serf_model.proofs.Effects.{Effect, IsIdle, settings-kept, asks, counts, effect, fires, hears, idle-enters, is_asked, passes_on, reopens}
 use Rattle.serf_model.proofs.Reopenings.{Begins, events-reopened, of-entries, queries-reopened, reopened-have}
 use Rattle.serf_model.proofs.SaidTexts.{DurableSays}

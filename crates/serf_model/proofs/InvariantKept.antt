@@ -1,20 +1,9 @@
 -- A merge, a snapshot and a restart leave their agent sound, with clocks that are 64 bits, over a sink that tells and has a plan.
-use Rattle.serf_model.proofs.Names.{◌≡◌, ◌⊎◌, Contains, MergeFault, Past, ℕ, ◌-◌, ◌^◌, ◌<◌, ◌≤◌, Bool, true, false, nat_le, List, [], ◌∷◌, ◌++◌, Option, Some, None, IsSome, unwrap_or, Result, Ok, Err, inl, inr, refl, subst, ◌∙◌, arith, AllByRecursion, option_map, cases_Bool, All-nil, All-weaker, EventBody, decoded, PushPull, push_pull, IsRangedPushPull, IsTimed, TimedEntry, ClockKind, is_whole, last_clock, FailurePlan, fresh_device, SnapshotView, Writing, Kept, Failed, IsObservable, last_line, opened, Call, Notes, Replaces, Step, planned, ended, IdealAgent, IsSound, Config, Outcome, ReceiveFault, Reason, is_sound, unopened, IsInText, view_of, events_of, events_of_slot, receive_one, joined, merge_refusal, admission, received_as, SlotContent, empty, held, NoteFault}
+use Rattle.serf_model.proofs.Names.{Bool, Err, IsSome, List, None, Ok, Option, Result, Some, [], arith, false, inl, inr, nat_le, refl, subst, true, unwrap_or, ℕ, ◌++◌, ◌-◌, ◌<◌, ◌^◌, ◌∙◌, ◌∷◌, ◌≡◌, ◌≤◌, ◌⊎◌, cases_Bool, All-nil, All-weaker, AllByRecursion, option_map, Contains, decoded, PushPull, push_pull, IsRangedPushPull, IsTimed, SlotContent, empty, held, EventBody, is_whole, last_clock, FailurePlan, fresh_device, least_in, Failed, IsObservable, Kept, SnapshotView, Writing, last_line, opened, ClockKind, NoteFault, TimedEntry, Call, Notes, Replaces, Step, ended, planned, is_sound, admission, received_as, told_event, IdealAgent, Past, IsDurable, HasKept, kept_events, kept_queries, whatever, HasPast, IsInText, restarted_by, unopened, IsSound, events_of, events_of_slot, hear, heard_by, joined, merge_refusal, receive_one, told_least, told_lines, noted_with, will_replace_with, view_of, Config, MergeFault, Outcome, Reason, ReceiveFault, Below, IdealNode, Merged, merges_events, merges_heard, merges_on, opened_first, reopened, text_after, with_plan, IsConsistent, IsRepresentable}
 use Rattle.serf_snap.specs.declared.kind.ClockKind.TheVariants as kinds
 use Rattle.serf_snap.specs.declared.snapshot.NoteFault.TheVariants as notes
 use Rattle.serf_agent.specs.declared.outcome.MergeFault.TheVariants as merges
-use Rattle.serf_agent.specs.Events.{told_event}
-use Rattle.serf_agent.specs.KeptLives.{IsDurable}
-use Rattle.serf_agent.specs.KeptRestart.{HasKept}
-use Rattle.serf_agent.specs.KeptTexts.{kept_events, kept_queries, whatever}
-use Rattle.serf_agent.specs.Restart.{HasPast, restarted_by}
-use Rattle.serf_agent.specs.States.{hear, heard_by, told_least, told_lines}
-use Rattle.serf_snap.specs.EventLines.{least_in}
-use Rattle.serf_agent.specs.Told.{noted_with, will_replace_with}
-use Rattle.serf_model.specs.Below.{Below}
-use Rattle.serf_model.specs.Ready.{IsConsistent, IsRepresentable}
 use Rattle.serf_model.proofs.ReadyLaws.{IsReady}
-use Rattle.serf_model.specs.Cluster.{IdealNode, Merged, merges_events, merges_heard, merges_on, reopened, text_after, opened_first, with_plan}
 use Rattle.serf_model.proofs.CallsKept.{kept-or-failed, DoesReplace, does-replace, ready-notes, ready-received}
 use Rattle.serf_model.proofs.PerTimeBound.{none-if}
 

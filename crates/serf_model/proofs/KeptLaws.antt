@@ -1,13 +1,6 @@
 -- Every run keeps all promises.
-use Rattle.serf_model.proofs.Names.{List, arith, All, EventBody, SlotLaws, Config}
+use Rattle.serf_model.proofs.Names.{List, arith, All, EventBody, SlotLaws, Config, Below, Run, run_of, start, KeepsPromises, AreConfigs, HasSizes, CanTell, Action}
 use Rattle.std.specs.Prelude.{ℕ}
-use Rattle.serf_model.specs.Below.{Below}
-use Rattle.serf_model.specs.declared.action.Action.{Action}
-use Rattle.serf_model.specs.Cluster.{Run, run_of, start}
-use Rattle.serf_model.specs.Kept.{KeepsPromises}
-use Rattle.serf_model.specs.Runs.{AreConfigs}
-use Rattle.serf_model.specs.Sizes.{HasSizes}
-use Rattle.serf_model.specs.Tails.{CanTell}
 use Rattle.serf_model.proofs.AnswerLaws.{acked-once, replied-once}
 use Rattle.serf_model.proofs.AnswerPromiseLaws.{counting-run, served-run}
 use Rattle.serf_model.proofs.BoundLaws.{events-bounded, queries-bounded, windows-bounded, windows-start}

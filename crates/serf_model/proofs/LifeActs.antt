@@ -1,22 +1,8 @@
 -- What each act of one agent's lives keeps, each action of a run keeps.
-use Rattle.serf_model.proofs.Names.{◌≡◌, ℕ, ◌-◌, ◌^◌, ◌<◌, Bool, true, false, List, [], ◌∷◌, ◌++◌, Option, Some, None, IsSome, unwrap_or, Result, Ok, Err, refl, subst, ap, arith, map, All, AllByRecursion, slice_get, All-cons, All-head, All-nil, All-tail, WireFault, EventBody, decoded, Message, PushPull, user_event, query, query_response, push_pull, foreign, IsRangedPushPull, TimedEntry, event_of, Writing, FailurePlan, fresh_device, IsObservable, Call, Ends, Notes, Replaces, Step, ended, planned, will, IdealAgent, EventOut, MergeFault, Outcome, ReceiveFault, Handed, RespondFault, respond_fault, admission, events_of, handed_by, merge_refusal, receive_one}
+use Rattle.serf_model.proofs.Names.{Bool, Err, IsSome, List, None, Ok, Option, Result, Some, [], ap, arith, false, map, refl, subst, true, unwrap_or, ℕ, ◌++◌, ◌-◌, ◌<◌, ◌^◌, ◌∷◌, ◌≡◌, All-cons, All-head, All-nil, All-tail, AllByRecursion, All, slice_get, decoded, Message, PushPull, foreign, push_pull, query, query_response, user_event, IsRangedPushPull, WireFault, EventBody, FailurePlan, fresh_device, IsObservable, Writing, event_of, TimedEntry, Call, Ends, MayEnd, Notes, Replaces, Step, ended, planned, will, admission, fire, Handed, IdealAgent, IsMessageTold, MayGoOn, StartsWithDurable, IsTold, Asks, Closes, Compacts, Fires, Gets, Hears, Opens, Saves, Takes, fire_query, respond_fault, receive, compact, events_of, handed_by, hear, merge_refusal, receive_one, save, EventOut, MergeFault, Outcome, ReceiveFault, RespondFault, Below, IdealNode, Merged, apply, delivers, merges_as, merges_events, merges_given, merges_heard, merges_on, plan_with, responds, responds_as, text_after, with_plan, events_given, IsRepresentable, CanTellAct, events_brought, events_in_packet, given_by, Act}
 use Rattle.serf_agent.specs.declared.outcome.MergeFault.TheVariants as merges
-use Rattle.serf_agent.specs.Calls.{MayEnd}
-use Rattle.serf_agent.specs.Events.{fire}
-use Rattle.serf_agent.specs.KeptLives.{IsMessageTold, MayGoOn, StartsWithDurable}
-use Rattle.serf_agent.specs.KeptTexts.{IsTold}
-use Rattle.serf_agent.specs.Lives.{Act as LifeAct, Fires, Asks, Gets, Hears, Takes, Saves, Compacts, Closes, Opens, after}
-use Rattle.serf_agent.specs.Queries.{fire_query}
-use Rattle.serf_agent.specs.Receive.{receive}
-use Rattle.serf_agent.specs.States.{compact, hear, save}
-use Rattle.serf_model.specs.Below.{Below}
-use Rattle.serf_model.specs.declared.action.Act.{Act}
+use Rattle.serf_agent.specs.Lives.{Act as LifeAct, after}
 use Rattle.serf_model.specs.declared.action.Act.TheVariants as acts
-use Rattle.serf_model.specs.Cluster.{IdealNode, Merged, apply, delivers, merges_as, merges_events, merges_given, merges_heard, merges_on, plan_with, responds, responds_as, text_after, with_plan}
-use Rattle.serf_model.specs.HandOuts.{events_given}
-use Rattle.serf_model.specs.Ready.{IsRepresentable}
-use Rattle.serf_model.specs.Tails.{CanTellAct}
-use Rattle.serf_model.specs.Trace.{events_brought, events_in_packet, given_by}
 use Rattle.serf_model.proofs.CallsKept.{does-note, does-replace, ready-received}
 use Rattle.serf_model.proofs.InvariantKept.{hears-on, ready-heard, runs-on, times-of}
 use Rattle.serf_model.proofs.PerTimeBound.{none-if, out_in}

@@ -1,10 +1,6 @@
 -- A merge, step by step, leaves its agent representable.
-use Rattle.serf_model.proofs.Names.{◌≡◌, ◌-◌, ◌^◌, ◌<◌, Bool, true, false, List, Ok, refl, sym, ap, ◌∙◌, EventBody, decoded, PushPull, push_pull, TimedEntry, planned, Config, IdealAgent, admission, receive_one}
+use Rattle.serf_model.proofs.Names.{Bool, List, Ok, ap, false, refl, sym, true, ◌-◌, ◌<◌, ◌^◌, ◌∙◌, ◌≡◌, decoded, PushPull, push_pull, EventBody, TimedEntry, planned, admission, IdealAgent, IsTold, hear, receive_one, Config, Below, IsRepresentable}
 use Rattle.std.specs.Prelude.{ℕ}
-use Rattle.serf_agent.specs.KeptTexts.{IsTold}
-use Rattle.serf_agent.specs.States.{hear}
-use Rattle.serf_model.specs.Below.{Below}
-use Rattle.serf_model.specs.Ready.{IsRepresentable}
 use Rattle.serf_model.proofs.CallsKept.{ready-received}
 use Rattle.serf_model.proofs.DurableKept.{durable-heard, durable-received}
 use Rattle.serf_model.proofs.Effects.{heard-config, received-config}

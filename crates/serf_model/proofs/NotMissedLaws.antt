@@ -1,22 +1,8 @@
 -- What agents that keep their events don't miss, in every run: of events and of queries, by what differs between them.
-use Rattle.serf_model.proofs.Names.{All-cons, All-nil, ◌+◌, ◌≡◌, ◌⊎◌, inl, inr, ℕ, ◌<◌, ◌≤◌, Bool, true, false, List, [], ◌∷◌, ◌++◌, Some, refl, sym, subst, ap, ◌∙◌, arith, fold, fold_push, All, Contains, slice_get, All-contains, Contains-append_left, Contains-push, eq-eqb, TimedEntry, fresh_device, opened, unopened, Config}
-use Rattle.serf_agent.specs.Kept.{IsFull, IsMet}
-use Rattle.serf_agent.specs.Restart.{restarted_by}
-use Rattle.serf_model.specs.Below.{Below}
-use Rattle.serf_model.specs.declared.action.Action.{Action}
-use Rattle.serf_model.specs.declared.action.Act.{Act}
-use Rattle.serf_model.specs.declared.action.Action.TheVariants.{Of}
+use Rattle.serf_model.proofs.Names.{Bool, List, Some, [], ap, arith, false, inl, inr, refl, subst, sym, true, ℕ, ◌++◌, ◌+◌, ◌<◌, ◌∙◌, ◌∷◌, ◌≡◌, ◌≤◌, ◌⊎◌, eq-eqb, All-cons, All-contains, All-nil, Contains-append_left, Contains-push, fold_push, fold, All, Contains, slice_get, fresh_device, opened, TimedEntry, IsFull, IsMet, restarted_by, unopened, TakesAt, TakesOrFull, TakingLaws, TrackOf, Config, Below, Cluster, IdealNode, Run, after, applied, apply, first_node, start, step, with_handed, IsToCome, KeptOf, Showing, IsRepresentable, CanTellAct, Turn, actor_of, given_by, is_agent, turns_by, Act, Action, Of, NoAgent}
 use Rattle.serf_model.specs.declared.line.Answer.TheVariants as lines
-use Rattle.serf_model.specs.Cluster.{IdealNode, Cluster, Run, applied, apply, after, first_node, start, step, with_handed}
-use Rattle.serf_model.specs.Ready.{IsRepresentable}
-use Rattle.serf_model.specs.Tails.{CanTellAct}
-use Rattle.serf_model.specs.Trace.{Turn, actor_of, is_agent, turns_by, given_by}
 use Rattle.serf_model.proofs.RunLaws.{CanTellIt, IsAfter, all-at, settings-at, tells-at}
 use Rattle.serf_model.proofs.StepCases.{step-cases}
-use Rattle.serf_agent.specs.Taking.{TakesAt, TakesOrFull, TakingLaws}
-use Rattle.serf_agent.specs.TrackOf.{TrackOf}
-use Rattle.serf_model.specs.declared.line.Refusal.TheVariants.{NoAgent}
-use Rattle.serf_model.specs.NotMissed.{IsToCome, KeptOf, Showing}
 use Rattle.serf_model.proofs.ClockShown.{AreLow}
 use Rattle.serf_model.proofs.HistoryGrowth.{keeps-apply}
 use Rattle.serf_model.proofs.LifeActs.{FitsAct, acts-keep}

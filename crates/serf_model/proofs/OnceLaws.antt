@@ -1,17 +1,10 @@
 -- An agent is handed an event once, and fires later than all that it was handed; and so with queries.
-use Rattle.serf_model.proofs.Names.{◌≡◌, ℕ, ◌<◌, List, [], Some, sym, subst, All, slice_get, All-map, All-weaker, All-contains, Contains, Config, TimedEntry, Past}
-use Rattle.serf_model.specs.Below.{Below}
-use Rattle.serf_model.specs.declared.action.Action.{Action}
-use Rattle.serf_model.specs.declared.action.Act.{Act}
+use Rattle.serf_model.proofs.Names.{List, Some, [], subst, sym, ℕ, ◌<◌, ◌≡◌, All-contains, All-map, All-weaker, All, Contains, slice_get, TimedEntry, Past, Config, Below, Cluster, IdealNode, Run, after, apply, step, Later, Once, QueryLater, QueryOnce, IsRepresentable, Turn, actor_of, events_to, queries_at, Act, Action}
 use Rattle.serf_model.specs.declared.line.Answer.TheVariants as answers
-use Rattle.serf_model.specs.Cluster.{IdealNode, Cluster, Run, apply, step, after}
-use Rattle.serf_model.specs.Promises.{Once, Later, QueryOnce, QueryLater}
-use Rattle.serf_model.specs.Trace.{Turn, actor_of, events_to, queries_at}
 use Rattle.serf_model.proofs.StepCases.{step-cases}
 use Rattle.serf_model.proofs.TurnLaws.{at_each_nil, at_each_push}
 use Rattle.serf_model.proofs.HistoryGrowth.{keeps-apply}
 use Rattle.serf_model.proofs.PerTimeBound.{entries}
-use Rattle.serf_model.specs.Ready.{IsRepresentable}
 use Rattle.serf_model.proofs.RunLaws.{IsAfter, events_at, queries_of, all-at}
 use Rattle.serf_model.proofs.Within.{IsWithin}
 

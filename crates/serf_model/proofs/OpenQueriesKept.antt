@@ -1,5 +1,5 @@
 -- What an answer to an open query, and a deadline, leave sound.
-use Rattle.serf_model.proofs.Names.{zero, suc, ◌≡◌, ◌≢◌, ℕ, ◌<◌, ◌==◌, nat_lt, Bool, true, false, cond, List, [], ◌∷◌, ◌++◌, Some, None, refl, sym, ap, subst, ◌∙◌, arith, map, length, All, AllPairs, not, list_any, filter, all_pairs_push, bytes_eq, bytes_eq-Decides, length-map, get_or-map, or_parts, true≢false, All-nil, All-map, All-cons, All-head, All-tail, All-filter, QueryResponse, IdealAgent, with_asked, IsOpenQuerySound, OtherId, Closed, AckNotAsked, AckTwice, ResponseTwice, OpenQuery, Response, asked_at, with_asked_at, counted, is_ack, has_acked, has_responded, answer_ignore_reason, ack_ignore_reason, response_ignore_reason, is_due, close_due}
+use Rattle.serf_model.proofs.Names.{Bool, List, None, Some, [], ap, arith, cond, false, length, map, nat_lt, refl, subst, suc, sym, true, zero, ℕ, ◌++◌, ◌<◌, ◌==◌, ◌∙◌, ◌∷◌, ◌≡◌, ◌≢◌, or_parts, true≢false, get_or-map, length-map, All-cons, All-filter, All-head, All-map, All-nil, All-tail, all_pairs_push, bytes_eq-Decides, filter, list_any, All, AllPairs, not, bytes_eq, QueryResponse, IdealAgent, with_asked, ack_ignore_reason, answer_ignore_reason, asked_at, close_due, counted, has_acked, has_responded, is_ack, is_due, response_ignore_reason, with_asked_at, IsOpenQuerySound, Response, OpenQuery, AckNotAsked, AckTwice, Closed, OtherId, ResponseTwice}
 use Rattle.serf_model.proofs.ReadyLaws.{IsReady}
 use Rattle.serf_model.proofs.AnswersByTime.{asked-found, pairs-rest}
 use Rattle.serf_model.proofs.PerTimeBound.{none-if}

@@ -1,18 +1,8 @@
 -- What an agent's open queries hold is what its turns counted.
-use Rattle.serf_model.proofs.Names.{◌≡◌, ◌≢◌, ℕ, ◌<◌, ◌≤◌, ◌==◌, nat_lt, Bool, true, false, cond, List, [], ◌∷◌, ◌++◌, Option, Some, None, Result, Ok, refl, sym, ap, subst, ◌∙◌, map, All, AllPairs, Contains, flat_map, option_to_list, eqb-true, eq-eqb, ltb-false, not-false, append-nil, map-append, All-nil, All-push, All-weaker, All-map, All-filter, All-contains, Contains-append_left, Contains-push, all_pairs_push, fold_push, WireFault, decoded, Message, QueryResponse, query_response, TimedEntry, Response, OpenQuery, OtherId, Closed, AckNotAsked, AckTwice, ResponseTwice, IdealAgent, Past, ack_flag, ack_ignore_reason, answer_ignore_reason, asked_at, counted, deadline_of, flags_of, has_acked, has_flag, has_responded, is_ack, is_due, opened_query, query_at, response_ignore_reason, with_asked_at}
+use Rattle.serf_model.proofs.Names.{Bool, List, None, Ok, Option, Result, Some, [], ap, cond, false, map, nat_lt, refl, subst, sym, true, ℕ, ◌++◌, ◌<◌, ◌==◌, ◌∙◌, ◌∷◌, ◌≡◌, ◌≢◌, ◌≤◌, eq-eqb, eqb-true, ltb-false, not-false, append-nil, map-append, All-contains, All-filter, All-map, All-nil, All-push, All-weaker, Contains-append_left, Contains-push, all_pairs_push, fold_push, flat_map, option_to_list, All, AllPairs, Contains, decoded, Message, QueryResponse, query_response, WireFault, TimedEntry, IdealAgent, Past, ack_flag, ack_ignore_reason, answer_ignore_reason, asked_at, counted, deadline_of, flags_of, has_acked, has_flag, has_responded, is_ack, is_due, opened_query, query_at, response_ignore_reason, with_asked_at, Response, OpenQuery, AckNotAsked, AckTwice, Closed, OtherId, ResponseTwice, IsAwaited, OwnQuery, answer_brought, answers_in, as_fired, counted_at, is_counted, own_queries, own_query, query_answered, response_held, to_time, is_restarted, Applied, IdealNode, IsRepresentable, Turn, entered_by, Action, Of, Answer, Line, NewQuery}
 use Rattle.std.proofs.Common.{not}
-use Rattle.serf_model.specs.declared.action.Action.{Action}
 use Rattle.serf_model.specs.declared.action.Act.TheVariants as acts
-use Rattle.serf_model.specs.declared.action.Action.TheVariants.{Of}
-use Rattle.serf_model.specs.declared.query.NewQuery.{NewQuery}
-use Rattle.serf_model.specs.declared.line.Answer.{Answer}
 use Rattle.serf_model.specs.declared.line.Answer.TheVariants as lines
-use Rattle.serf_model.specs.declared.line.Line.{Line}
-use Rattle.serf_model.specs.AnswerPromises.{OwnQuery, IsAwaited, answer_brought, answers_in, as_fired, counted_at, is_counted, own_queries, own_query, query_answered, response_held, to_time}
-use Rattle.serf_model.specs.Bounds.{is_restarted}
-use Rattle.serf_model.specs.Cluster.{Applied, IdealNode}
-use Rattle.serf_model.specs.Ready.{IsRepresentable}
-use Rattle.serf_model.specs.Trace.{Turn, entered_by}
 use Rattle.serf_model.proofs.PerTimeBound.{entries, none-if}
 use Rattle.serf_model.proofs.PresentLife.{last_life, lives_on}
 use Rattle.serf_model.proofs.Effects.{Effect, IsIdle, asks, closes_due, counts, hears, idle-enters, reopens}

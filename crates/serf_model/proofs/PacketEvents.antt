@@ -1,10 +1,7 @@
 -- Which events the packets carry that agents send.
-use Rattle.serf_model.proofs.Names.{◌≡◌, ℕ, ◌<◌, ◌≤◌, ◌-◌, ◌^◌, ◌==◌, Bool, false, List, [], ◌∷◌, refl, sym, ap, subst, arith, map, All, AllByRecursion, All-nil, All-head, All-tail, All-append, All-contains, All-map, All-filter, All-weaker, whole_at, EventBody, canonical, has_long, without_events, decoded, UserEvent, Query, PushPull, user_event, query, push_pull, response_of, IsRangedPushPull, IsTimed, held, event_of, TimedEntry, SlotOf, slots_of, event_packet, texts_len, IdealAgent, Past, state_of, slot_sent, events_of, events_of_slot, of_life, view_of}
+use Rattle.serf_model.proofs.Names.{Bool, List, [], ap, arith, false, map, refl, subst, sym, ℕ, ◌-◌, ◌<◌, ◌==◌, ◌^◌, ◌∷◌, ◌≡◌, ◌≤◌, All-append, All-contains, All-filter, All-head, All-map, All-nil, All-tail, All-weaker, AllByRecursion, All, whole_at, has_long, without_events, canonical, decoded, PushPull, Query, UserEvent, push_pull, query, response_of, user_event, IsRangedPushPull, IsTimed, held, EventBody, event_of, SlotOf, TimedEntry, slots_of, event_packet, texts_len, IdealAgent, Past, events_of, events_of_slot, slot_sent, state_of, of_life, view_of, Below, IsRepresentable, events_brought, events_in_packet, query_brought}
 use Rattle.serf_wire.specs.declared.layout.MessageType.TheVariants as types
 use Rattle.serf_model.proofs.ReadCases.{read_has}
-use Rattle.serf_model.specs.Below.{Below}
-use Rattle.serf_model.specs.Trace.{events_in_packet, events_brought, query_brought}
-use Rattle.serf_model.specs.Ready.{IsRepresentable}
 
 -- ---- an event's packet
 

@@ -1,13 +1,6 @@
 -- What all that an action hands out has, and all that its packets carry, where what it is given has it.
-use Rattle.serf_model.proofs.Names.{zero, suc, ◌≡◌, ℕ, Bool, true, false, cond, List, [], ◌∷◌, ◌++◌, Option, Some, None, Result, refl, sym, subst, map, All, Contains, slice_get, not, option_to_list, All-nil, All-cons, All-head, All-tail, All-contains, All-weaker, WireFault, EventBody, canonical, Message, Query, query, push_pull, event_of, TimedEntry, event_packet, ack_if_passed, ack_packet, all_pass, ack_flag, has_flag, no_broadcast_flag, response_packet, state_of, view_of}
-use Rattle.serf_model.specs.Below.{Below}
-use Rattle.serf_model.specs.declared.action.Action.{Action}
+use Rattle.serf_model.proofs.Names.{Bool, List, None, Option, Result, Some, [], cond, false, map, refl, subst, suc, sym, true, zero, ℕ, ◌++◌, ◌∷◌, ◌≡◌, All-cons, All-contains, All-head, All-nil, All-tail, All-weaker, option_to_list, All, Contains, not, slice_get, canonical, Message, Query, push_pull, query, WireFault, EventBody, event_of, TimedEntry, event_packet, ack_flag, ack_if_passed, ack_packet, all_pass, has_flag, no_broadcast_flag, response_packet, state_of, view_of, Below, Applied, Done, IdealNode, events_given, IsRepresentable, events_brought, events_in_packet, fired_by, packet_given, Action, Of}
 use Rattle.serf_model.specs.declared.action.Act.TheVariants as acts
-use Rattle.serf_model.specs.declared.action.Action.TheVariants.{Of}
-use Rattle.serf_model.specs.Cluster.{Applied, Done, IdealNode}
-use Rattle.serf_model.specs.HandOuts.{events_given}
-use Rattle.serf_model.specs.Ready.{IsRepresentable}
-use Rattle.serf_model.specs.Trace.{events_brought, events_in_packet, fired_by, packet_given}
 use Rattle.serf_model.proofs.CallsKept.{may-fire}
 use Rattle.serf_model.proofs.Effects.{Effect, asks, fires, hears, is_asked, passes_on, replies, tells, as_message}
 use Rattle.serf_model.proofs.PacketEvents.{events_in_packet-event, events_in_packet-query, events_in_packet-response, state-carries}

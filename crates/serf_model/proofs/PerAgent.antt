@@ -1,12 +1,6 @@
 -- What holds of each agent, where these are the turns that it took.
-use Rattle.serf_model.proofs.Names.{Contains, Contains-append_left, flat_map, zero, suc, ◌≡◌, ℕ, ◌==◌, Bool, true, false, cond, List, [], ◌∷◌, ◌++◌, Some, None, refl, sym, ap, subst, ◌∙◌, map, set, All, slice_get, eqb-true, eqb-false, eq-eqb, ne_eqb, append-nil, All-nil, All-push, filter-append, Config}
-use Rattle.serf_model.specs.declared.action.Action.{Action}
-use Rattle.serf_model.specs.declared.action.Act.{Act}
-use Rattle.serf_model.specs.declared.action.Action.TheVariants.{Of}
+use Rattle.serf_model.proofs.Names.{Bool, List, None, Some, [], ap, cond, false, map, refl, set, subst, suc, sym, true, zero, ℕ, ◌++◌, ◌==◌, ◌∙◌, ◌∷◌, ◌≡◌, eq-eqb, eqb-false, eqb-true, ne_eqb, append-nil, All-nil, All-push, Contains-append_left, filter-append, flat_map, All, Contains, slice_get, Config, Applied, Cluster, IdealNode, Run, Stepped, after, applied, apply, first_node, injects, on_agent, start, with_handed, Turn, actor_of, is_agent, turns_by, Act, Action, Of, NoAgent}
 use Rattle.serf_model.specs.declared.line.Answer.TheVariants as answers
-use Rattle.serf_model.specs.declared.line.Refusal.TheVariants.{NoAgent}
-use Rattle.serf_model.specs.Cluster.{IdealNode, Cluster, Applied, Run, Stepped, applied, apply, after, first_node, injects, on_agent, start, with_handed}
-use Rattle.serf_model.specs.Trace.{Turn, actor_of, is_agent, turns_by}
 use Rattle.serf_model.proofs.StepCases.{step-cases}
 use Rattle.serf_model.proofs.RunLaws.{added, by-push, slice_get-set_same, slice_get-set_other}
 use Rattle.serf_model.proofs.TurnLaws.{in-now}

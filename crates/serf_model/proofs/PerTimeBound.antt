@@ -1,6 +1,5 @@
 -- What an agent enters in one life: at most as many of one time as its settings say.
-use Rattle.serf_model.proofs.Names.{◌≡◌, ℕ, ◌+◌, ◌<◌, ◌≤◌, ◌==◌, nat_le, nat_lt, Bool, true, false, cond, List, [], ◌∷◌, ◌++◌, Option, Some, None, refl, sym, ap, subst, ◌∙◌, arith, map, length, length-append, append_assoc, inl, inr, All, filter, and_parts, cases_Bool, eq-eqb, eqb-true, leb-true, leb-false, ne_eqb, append-nil, map-append, All-head, All-tail, filter-append, observed, EventBody, event_of, same_texts, same_id, TimedEntry, count_at, held_at, Config, EventOut, Reason, BelowMinimum, TooOld, Seen, TimeFull, is_sound, admission, texts_len, IdealAgent, Past, Track, query_admission, of_life, track_reason, was_ever_entered}
-use Rattle.serf_model.specs.Bounds.{AtMostOfOneTime}
+use Rattle.serf_model.proofs.Names.{Bool, List, None, Option, Some, [], ap, append_assoc, arith, cond, false, inl, inr, length, length-append, map, nat_le, nat_lt, refl, subst, sym, true, ℕ, ◌++◌, ◌+◌, ◌<◌, ◌==◌, ◌∙◌, ◌∷◌, ◌≡◌, ◌≤◌, and_parts, cases_Bool, eq-eqb, eqb-true, leb-false, leb-true, ne_eqb, append-nil, map-append, All-head, All-tail, filter-append, filter, All, observed, EventBody, same_id, event_of, same_texts, TimedEntry, count_at, held_at, is_sound, admission, texts_len, IdealAgent, Past, Track, query_admission, of_life, track_reason, was_ever_entered, Config, EventOut, Reason, BelowMinimum, Seen, TimeFull, TooOld, AtMostOfOneTime}
 
 -- a reason that isn't given
 pub none-if : {X : Type 0} (b : Bool) (x : X) (r : Option X) → cond b (Some x) r ≡ None → (b ≡ false) × (r ≡ None)

@@ -1,5 +1,5 @@
 -- Places of lists.
-use Rattle.serf_model.proofs.Names.{zero, suc, ◌≡◌, ◌≢◌, ℕ, List, [], ◌∷◌, Some, refl, sym, ap, subst, ◌∙◌, map, set, slice_get, AllByRecursion, option_map}
+use Rattle.serf_model.proofs.Names.{List, Some, [], ap, map, refl, set, subst, suc, sym, zero, ℕ, ◌∙◌, ◌∷◌, ◌≡◌, ◌≢◌, AllByRecursion, option_map, slice_get}
 
 pub slice_get-set_same : {X : Type 0} (xs : List X) (k : ℕ) (x y : X) → slice_get xs k ≡ Some x → slice_get (set xs k y) k ≡ Some y
 slice_get-set_same [] k x y e = absurd (cc e)

@@ -1,7 +1,5 @@
 -- The life of an agent, read off the turns that it took.
-use Rattle.serf_model.proofs.Names.{◌≡◌, ℕ, ◌&&◌, Bool, true, false, cond, if◌then◌else◌, List, [], ◌∷◌, ◌++◌, refl, ap, ◌∙◌, fold}
-use Rattle.serf_model.specs.Bounds.{is_restarted, lived_on, present_life}
-use Rattle.serf_model.specs.Trace.{Turn, actor_of, is_agent, turns_by}
+use Rattle.serf_model.proofs.Names.{Bool, List, [], ap, cond, false, if◌then◌else◌, refl, true, ℕ, ◌&&◌, ◌++◌, ◌∙◌, ◌∷◌, ◌≡◌, fold, is_restarted, lived_on, present_life, Turn, actor_of, is_agent, turns_by}
 use Rattle.serf_model.proofs.PerAgent.{turns-mine, turns-other}
 
 -- a life goes on with a turn, unless the turn begins another

@@ -1,13 +1,6 @@
 -- What every run promises of events and queries, whatever is done in it.
-use Rattle.serf_model.proofs.Names.{◌≡◌, List, ◌++◌, refl, ap, Config}
-use Rattle.serf_model.specs.Below.{Below}
-use Rattle.serf_model.specs.declared.action.Action.{Action}
-use Rattle.serf_model.specs.Cluster.{Run, after, start, run_of, trace_of}
-use Rattle.serf_model.specs.NotMissed.{Kept, QueriesKept}
-use Rattle.serf_model.specs.Promises.{Once, OnlyFired, OnlyFiredOrTailed, Later, Held, HeldOrTailed, SeenWasHandedOrTailed, QueryOnce, QueryLater, QueryHandedOnce, QueryFired}
-use Rattle.serf_model.specs.Runs.{AreConfigs}
-use Rattle.serf_model.specs.Tails.{CanTell, NoneKeeps}
-use Rattle.serf_model.specs.Trace.{Turn, AtEach, sent_in, turns_of}
+use Rattle.serf_model.proofs.Names.{List, ap, refl, ◌++◌, ◌≡◌, Config, Below, Run, after, run_of, start, trace_of, QueriesKept, Held, HeldOrTailed, Later, Once, OnlyFired, OnlyFiredOrTailed, QueryFired, QueryHandedOnce, QueryLater, QueryOnce, SeenWasHandedOrTailed, AreConfigs, CanTell, NoneKeeps, AtEach, Turn, sent_in, turns_of, Action}
+use Rattle.serf_model.specs.NotMissed.{Kept}
 use Rattle.serf_model.proofs.TurnLaws.{fold_keeps, fold_keeps_at}
 use Rattle.serf_model.proofs.RunLaws.{CanTellIt, IsAfter, after-step, tell-each}
 use Rattle.serf_model.proofs.StartLaws.{after-start}

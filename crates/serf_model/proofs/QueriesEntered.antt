@@ -1,17 +1,7 @@
 -- Each query that enters was fired, or an injected packet brings it.
-use Rattle.serf_model.proofs.Names.{Ok, ◌≡◌, ℕ, ◌<◌, ◌≤◌, ◌^◌, inl, inr, Bool, true, false, List, [], ◌∷◌, ◌++◌, Option, Some, None, refl, sym, ap, subst, arith, length, All, Contains, fold, ltb-false, All-nil, All-cons, All-head, All-tail, All-append, All-contains, All-contains_itself, All-weaker, canonical, decoded, Query, query, IsRangedQuery, TimedEntry, Config, QueryParams, drawn, IdealAgent, flags_of, is_too_large_query, query_at, query_fault}
+use Rattle.serf_model.proofs.Names.{Bool, List, None, Ok, Option, Some, [], ap, arith, false, inl, inr, length, refl, subst, sym, true, ℕ, ◌++◌, ◌<◌, ◌^◌, ◌∷◌, ◌≡◌, ◌≤◌, ltb-false, All-append, All-cons, All-contains, All-contains_itself, All-head, All-nil, All-tail, All-weaker, fold, All, Contains, canonical, decoded, Query, query, IsRangedQuery, TimedEntry, drawn, IdealAgent, flags_of, is_too_large_query, query_at, query_fault, Config, QueryParams, Below, Applied, Cluster, Done, IdealNode, Run, after, apply, run_of, start, step, QueryOnlyFired, WasQueried, queried_by, queries_fired, queries_injected, HasShortQueries, HasSizes, IsSized, Turn, entered_by, given_by, injected_in, injects_of, queried_in, query_brought, query_packets, Act, Action, Of, Answer}
 use Rattle.serf_agent.specs.declared.outcome.QueryFault.TheVariants as asks
-use Rattle.serf_model.specs.Below.{Below}
-use Rattle.serf_model.specs.declared.action.Action.{Action}
-use Rattle.serf_model.specs.declared.action.Act.{Act}
-use Rattle.serf_model.specs.declared.action.Action.TheVariants.{Of}
-use Rattle.serf_model.specs.declared.line.Answer.{Answer}
 use Rattle.serf_model.specs.declared.line.Answer.TheVariants as answers
-use Rattle.serf_model.specs.Cluster.{Applied, Cluster, Done, IdealNode, Run, apply, after, run_of, start, step}
-use Rattle.serf_model.specs.Runs.{HasShortQueries}
-use Rattle.serf_model.specs.Sizes.{HasSizes, IsSized}
-use Rattle.serf_model.specs.Queried.{QueryOnlyFired, WasQueried, queried_by, queries_fired, queries_injected}
-use Rattle.serf_model.specs.Trace.{Turn, entered_by, injected_in, injects_of, queried_in, query_brought, query_packets, given_by}
 use Rattle.serf_model.proofs.QueryOrigins.{IsAsked, WasAsked, asked-start, asked-step}
 use Rattle.serf_model.proofs.FiredLaws.{all-parts}
 use Rattle.serf_model.proofs.CallsKept.{may-ask}

@@ -1,34 +1,12 @@
 -- What agents that keep their events don't miss of queries.
-use Rattle.serf_model.proofs.Names.{◌≡◌, ◌∙◌, ℕ, ◌≤◌, Bool, true, false, cond, List, [], Option, Some, None, Result, Ok, Err, refl, sym, subst, All, All-nil, WireFault, decoded, Message, user_event, query, query_response, push_pull, foreign, TimedEntry, is_whole, fresh_device, planned, IdealAgent, Outcome, ReceiveFault, ◌⊎◌, inl, inr, ◌+◌, ◌∷◌, ◌++◌, unwrap_or, ap, arith, map, map-append, All-append, All-weaker, Contains, slice_get, eq-eqb, Query, FailurePlan, Config, answers, MergeFault, Past, Reason, query_admission, query_received_as, receive_read, events_of, merge_refusal}
-use Rattle.serf_agent.specs.declared.outcome.FiredQuery.{FiredQuery}
-use Rattle.serf_agent.specs.declared.outcome.QueryFault.{QueryFault}
-use Rattle.serf_agent.specs.KeptTexts.{kept_queries, whatever, query_entry}
-use Rattle.serf_agent.specs.Queries.{fire_query}
-use Rattle.serf_agent.specs.Receive.{receive}
-use Rattle.serf_agent.specs.TrackOf.{asked_query, got_query, query_track}
-use Rattle.serf_model.specs.Below.{Below}
-use Rattle.serf_model.specs.declared.action.Action.{Action}
-use Rattle.serf_model.specs.declared.action.Act.{Act}
-use Rattle.serf_model.specs.declared.query.NewQuery.{NewQuery}
-use Rattle.serf_model.specs.declared.action.Action.TheVariants.{Of}
-use Rattle.serf_model.specs.Cluster.{IdealNode, apply, delivers, query_gives, receive_gives, text_after, Cluster, Run, applied, merges_as, merges_events, merges_given, merges_heard, start, with_handed, with_plan, after as after_action}
-use Rattle.serf_model.specs.NotMissed.{least_by_tail, IsToCome, hears_query, queries_shown, queries_tailed_by, query_clock_given, query_clock_of, query_clock_shown, query_clock_then, query_clock_told, query_least_told, query_tails_to}
-use Rattle.serf_model.specs.Trace.{entered_by, given_by, query_brought, Turn, is_agent, actor_of, queries_at, query_given}
+use Rattle.serf_model.proofs.Names.{Bool, Err, List, None, Ok, Option, Result, Some, [], ap, arith, cond, false, inl, inr, map, refl, subst, sym, true, unwrap_or, ℕ, ◌++◌, ◌+◌, ◌∙◌, ◌∷◌, ◌≡◌, ◌≤◌, ◌⊎◌, eq-eqb, map-append, All-append, All-nil, All-weaker, All, Contains, slice_get, decoded, Message, Query, foreign, push_pull, query, query_response, user_event, WireFault, is_whole, FailurePlan, fresh_device, queries_in, TimedEntry, answers, planned, IdealAgent, Past, IsFull, IsMet, IsDurable, kept_queries, query_entry, whatever, Opens, fire_query, query_admission, query_received_as, receive, receive_read, OpensOn, SaysQueries, events_of, hear, merge_refusal, TakesAt, asked_query, got_query, query_track, Config, FiredQuery, MergeFault, Outcome, QueryFault, Reason, ReceiveFault, Below, Cluster, IdealNode, Run, applied, apply, delivers, merges_as, merges_events, merges_given, merges_heard, query_gives, receive_gives, start, text_after, with_handed, with_plan, IsToCome, hears_query, least_by_tail, queries_shown, queries_tailed_by, query_clock_given, query_clock_of, query_clock_shown, query_clock_then, query_clock_told, query_least_told, query_tails_to, IsRepresentable, CanTellAct, Turn, actor_of, entered_by, given_by, is_agent, queries_at, query_brought, query_given, Act, Action, Of, Answer, NewQuery}
+use Rattle.serf_model.specs.Cluster.{after as after_action}
 use Rattle.serf_model.proofs.LifeActs.{FitsAct, Keeping, acts-keep, nothing-splits}
 use Rattle.serf_model.proofs.TakesKept.{IsFit, tail-tells, OpensOnly, query_shows}
-use Rattle.serf_agent.specs.Kept.{IsFull, IsMet}
-use Rattle.serf_agent.specs.Lives.{Act as LifeAct, Opens}
-use Rattle.serf_agent.specs.Said.{OpensOn, SaysQueries}
-use Rattle.serf_agent.specs.States.{hear}
-use Rattle.serf_agent.specs.Taking.{TakesAt}
-use Rattle.serf_snap.specs.EventLines.{queries_in}
-use Rattle.serf_model.specs.declared.line.Answer.{Answer}
-use Rattle.serf_model.specs.Ready.{IsRepresentable}
-use Rattle.serf_model.specs.Tails.{CanTellAct}
+use Rattle.serf_agent.specs.Lives.{Act as LifeAct}
 use Rattle.serf_model.proofs.HistoryGrowth.{keeps-apply}
 use Rattle.serf_model.proofs.PerAgent.{EachIn, by-more, by-now, each-start, each_in-step}
 use Rattle.serf_model.proofs.DurableKept.{durable-planned, durable-step}
-use Rattle.serf_agent.specs.KeptLives.{IsDurable}
 use Rattle.serf_model.proofs.ClockShown.{clocks-apply}
 use Rattle.serf_model.proofs.ReadyLaws.{IsReady, ready}
 use Rattle.serf_model.proofs.RunLaws.{CanTellIt, IsAfter, all-at, tells-at}

@@ -1,13 +1,6 @@
 -- Where the queries come from that enter as packets.
-use Rattle.serf_model.proofs.Names.{◌≡◌, ℕ, ◌⊎◌, inl, inr, true, List, [], ◌∷◌, ◌++◌, Option, Some, None, refl, sym, ap, subst, ◌∙◌, All, Contains, not, option_to_list, append-nil, All-nil, All-cons, All-head, All-append, All-weaker, canonical, decoded, PushPull, Query, query, push_pull, event_of, Config, event_packet, ack_if_passed, ack_packet, ack_flag, has_flag, no_broadcast_flag, response_packet, state_of, view_of}
-use Rattle.serf_model.specs.Below.{Below}
-use Rattle.serf_model.specs.declared.action.Action.{Action}
-use Rattle.serf_model.specs.declared.action.Act.{Act}
-use Rattle.serf_model.specs.declared.action.Action.TheVariants.{Of}
+use Rattle.serf_model.proofs.Names.{List, None, Option, Some, [], ap, inl, inr, refl, subst, sym, true, ℕ, ◌++◌, ◌∙◌, ◌∷◌, ◌≡◌, ◌⊎◌, append-nil, All-append, All-cons, All-head, All-nil, All-weaker, option_to_list, All, Contains, not, canonical, decoded, PushPull, Query, push_pull, query, event_of, event_packet, ack_flag, ack_if_passed, ack_packet, has_flag, no_broadcast_flag, response_packet, state_of, view_of, Config, Below, Applied, Cluster, Done, IdealNode, Run, Stepped, after, applied, apply, injects, on_agent, start, QueryFired, Turn, given_by, injected_in, injects_of, queried_in, query_brought, query_packets, Act, Action, Of}
 use Rattle.serf_model.specs.declared.line.Answer.TheVariants as lines
-use Rattle.serf_model.specs.Cluster.{Applied, IdealNode, Cluster, Done, Run, Stepped, apply, applied, after, injects, on_agent, start}
-use Rattle.serf_model.specs.Promises.{QueryFired}
-use Rattle.serf_model.specs.Trace.{Turn, injected_in, injects_of, queried_in, query_brought, query_packets, given_by}
 use Rattle.serf_model.proofs.Effects.{Effect, IsIdle, asks, counts, effect, fires, hears, is_asked, passes_on, replies, tells, as_message}
 use Rattle.serf_model.proofs.StepCases.{step-cases}
 use Rattle.serf_model.proofs.TurnLaws.{all-in, at_each_nil, at_each_push, in-before, in-now}

@@ -1,5 +1,5 @@
 -- What holds of each fault and of each message of a type holds of what is read of a value.
-use Rattle.serf_model.proofs.Names.{List, Option, Some, None, Result, Ok, Err, PackFault, Tree, nil, flag, int, raw, array, pairs, pair_list, WireFault, MessageType, read_value, message_faults, first, Message, message_in, unless_fault}
+use Rattle.serf_model.proofs.Names.{Err, List, None, Ok, Option, Result, Some, Tree, array, flag, int, nil, pairs, raw, pair_list, PackFault, read_value, first, message_faults, Message, message_in, unless_fault, WireFault, MessageType}
 
 pub read_has : (P : Result Message WireFault → Type 0) (message : MessageType) (r : Result Tree PackFault) → ((f : WireFault) → P (Err f)) → ((ps : List (Tree × Tree)) → P (Ok (message_in message ps))) → P (read_value message r)
 read_has P message (Err f) bad good = bad _

@@ -1,6 +1,5 @@
 -- An agent as it can be represented, its texts aside.
-use Rattle.serf_model.proofs.Names.{◌^◌, ◌-◌, ◌≤◌, IdealAgent}
-use Rattle.serf_model.specs.Ready.{IsConsistent, IsRepresentable}
+use Rattle.serf_model.proofs.Names.{◌-◌, ◌^◌, ◌≤◌, IdealAgent, IsConsistent, IsRepresentable}
 
 pub record IsReady (i : IdealAgent) : Type 0 where
   pub consistent : IsConsistent i

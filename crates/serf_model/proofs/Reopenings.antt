@@ -1,22 +1,8 @@
 -- What the histories of an agent are once it is opened again: what they were, and what the text keeps where its settings keep
 -- events; and of the new life no more of one time than its settings say.
-use Rattle.serf_model.proofs.Names.{◌≡◌, ℕ, ◌+◌, ◌-◌, ◌^◌, ◌<◌, ◌≤◌, Bool, true, false, nat_le, nat_lt, cond, List, [], ◌∷◌, ◌++◌, length, Option, Some, None, refl, sym, subst, arith, map, All, Contains, map-append, and_parts, leb-true, leb-false, All-nil, All-cons, All-head, All-tail, All-append, All-map, All-weaker, All-contains, All-contains_itself, Contains-append_left, Contains-append_right, EventBody, TimedEntry, count_at, last_clock, fresh_device, SnapshotView, opened, same_id, same_texts, Config, IdealAgent, IsSound, Past, of_life}
-use Rattle.std.proofs.lemmas.Bool.{and_from, le-leb, lt-ltb, ltb-true}
-use Rattle.serf_snap.specs.declared.kept.Wanted.{Wanted}
+use Rattle.serf_model.proofs.Names.{Bool, List, None, Option, Some, [], arith, cond, false, length, map, nat_le, nat_lt, refl, subst, sym, true, ℕ, ◌++◌, ◌+◌, ◌-◌, ◌<◌, ◌^◌, ◌∷◌, ◌≡◌, ◌≤◌, and_from, and_parts, le-leb, leb-false, leb-true, lt-ltb, ltb-true, map-append, All-append, All-cons, All-contains, All-contains_itself, All-head, All-map, All-nil, All-tail, All-weaker, Contains-append_left, Contains-append_right, All, Contains, EventBody, last_clock, lines_of, fresh_device, event_of_line, events_of_lines, if_event_wanted, is_event_wanted, is_time_wanted, least_in, SnapshotView, opened, TimedEvent, Wanted, same_id, Recalled, recalled, recalled_by, recalled_one, same_texts, TimedEntry, count_at, was_entered, IdealAgent, Past, opened_clock, taken_back, events_reached, queries_reached, event_entry, kept_events, whatever, within_reach, restarted_by, IsSound, of_life, Config, Below, AtMostOfOneTime, reopened}
 use Rattle.serf_snap.specs.declared.kind.ClockKind.TheVariants as kinds
-use Rattle.serf_snap.specs.Clocks.{lines_of}
-use Rattle.serf_snap.specs.EventLines.{event_of_line, events_of_lines, if_event_wanted, is_event_wanted, is_time_wanted, least_in}
-use Rattle.serf_snap.specs.TimedEvent.{TimedEvent}
-use Rattle.serf_window.specs.Recall.{Recalled, recalled, recalled_by, recalled_one}
-use Rattle.serf_window.specs.Window.{was_entered}
 use Rattle.serf_window.specs.declared.verdict.Verdict.TheVariants as verdicts
-use Rattle.serf_agent.specs.Keeping.{opened_clock, taken_back}
-use Rattle.serf_agent.specs.KeptRestart.{events_reached, queries_reached}
-use Rattle.serf_agent.specs.KeptTexts.{event_entry, kept_events, whatever, within_reach}
-use Rattle.serf_agent.specs.Restart.{restarted_by}
-use Rattle.serf_model.specs.Below.{Below}
-use Rattle.serf_model.specs.Bounds.{AtMostOfOneTime}
-use Rattle.serf_model.specs.Cluster.{reopened}
 use Rattle.serf_model.proofs.PerTimeBound.{at_most-push, entries, none-of-next}
 
 -- a history in the next life: nothing is forgotten, and few of one time are of the new life

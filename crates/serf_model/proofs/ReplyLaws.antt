@@ -1,13 +1,6 @@
 -- Which queries an agent answered: each of them is taken out of those that it can answer.
-use Rattle.serf_model.proofs.Names.{zero, suc, ◌≡◌, ◌≢◌, ℕ, inl, inr, true, false, List, [], ◌∷◌, ◌++◌, Option, Some, None, refl, sym, ap, subst, ◌∙◌, arith, map, set, All, AllPairs, Contains, not, slice_get, flat_map, option_to_list, append-nil, All-nil, All-push, All-weaker, Contains-append_left, Contains-push, all_pairs_push, TimedEntry, Handed, is_ack}
+use Rattle.serf_model.proofs.Names.{List, None, Option, Some, [], ap, arith, false, inl, inr, map, refl, set, subst, suc, sym, true, zero, ℕ, ◌++◌, ◌∙◌, ◌∷◌, ◌≡◌, ◌≢◌, append-nil, All-nil, All-push, All-weaker, Contains-append_left, Contains-push, all_pairs_push, flat_map, option_to_list, All, AllPairs, Contains, not, slice_get, TimedEntry, Handed, is_ack, answers_in, query_answered, Below, Applied, Cluster, IdealNode, applied, apply, with_handed, Turn, entered_by, given_by, Act, Action, Of}
 use Rattle.std.specs.Prelude.{filter}
-use Rattle.serf_model.specs.Below.{Below}
-use Rattle.serf_model.specs.declared.action.Action.{Action}
-use Rattle.serf_model.specs.declared.action.Act.{Act}
-use Rattle.serf_model.specs.declared.action.Action.TheVariants.{Of}
-use Rattle.serf_model.specs.AnswerPromises.{answers_in, query_answered}
-use Rattle.serf_model.specs.Cluster.{Applied, Cluster, IdealNode, applied, apply, with_handed}
-use Rattle.serf_model.specs.Trace.{Turn, entered_by, given_by}
 use Rattle.serf_model.proofs.Effects.{Effect, counts, effect, hears, replies}
 use Rattle.serf_model.proofs.HandedLaws.{hands-apply}
 use Rattle.serf_model.proofs.Within.{IsWithin, fresh-last}

@@ -1,27 +1,11 @@
 -- What is true after every run: the agents are sound, and their histories are what the turns say.
-use Rattle.serf_model.proofs.Names.{◌≡◌, ◌≢◌, ℕ, ◌<◌, ◌^◌, ◌-◌, All-weaker, ◌==◌, ◌⊎◌, inl, inr, arith, All, AllPairs, All-nil, All-cons, All-map, length, length-map, get_or-map, true≢false, eq-eqb, option_map, recursion_from_All, Config, Past, event_of, Bool, true, false, cond, List, [], ◌∷◌, ◌++◌, Option, Some, None, refl, sym, ap, subst, ◌∙◌, map, set, slice_get, AllByRecursion, filter, flat_map, eqb-true, eqb-false, append-nil, map-append, filter-append, EventBody, TimedEntry, EventOut}
-use Rattle.serf_snap.specs.EventLines.{events_in}
-use Rattle.serf_snap.specs.TimedEvent.{TimedEvent}
-use Rattle.serf_agent.specs.KeptTexts.{IsTold, event_entry, whatever}
-use Rattle.serf_wire.specs.Bytes.{AreBytes}
-use Rattle.serf_model.specs.Below.{Below}
-use Rattle.serf_model.specs.declared.action.Action.{Action}
-use Rattle.serf_model.specs.declared.action.Act.{Act}
-use Rattle.serf_model.specs.declared.action.Action.TheVariants.{Inject, Of}
+use Rattle.serf_model.proofs.Names.{Bool, List, None, Option, Some, [], ap, arith, cond, false, inl, inr, length, map, refl, set, subst, sym, true, ℕ, ◌++◌, ◌-◌, ◌<◌, ◌==◌, ◌^◌, ◌∙◌, ◌∷◌, ◌≡◌, ◌≢◌, ◌⊎◌, eq-eqb, eqb-false, eqb-true, true≢false, append-nil, get_or-map, length-map, map-append, All-cons, All-map, All-nil, All-weaker, filter-append, recursion_from_All, AllByRecursion, filter, flat_map, option_map, All, AllPairs, slice_get, AreBytes, EventBody, events_in, TimedEvent, event_of, TimedEntry, Past, IsTold, event_entry, whatever, Config, EventOut, Below, is_restarted, Applied, Cluster, IdealNode, Run, Stepped, after, applied, apply, event_line, injects, on_agent, step, with_handed, events_given, IsRepresentable, BringsTold, BringsToldBy, CanTell, CanTellAct, NoneKeeps, tailed_by, Turn, actor_of, entered_by, event_in, events_to, fired_at, fired_by, given_by, is_agent, packet_given, queries_at, sent_in, turns_by, Act, Action, Inject, Of, Answer, EventLine}
 use Rattle.serf_model.specs.declared.action.Act.TheVariants as acts
-use Rattle.serf_model.specs.declared.line.Answer.{Answer}
 use Rattle.serf_model.specs.declared.line.Answer.TheVariants as lines
-use Rattle.serf_model.specs.declared.line.EventLine.{EventLine}
-use Rattle.serf_model.specs.Bounds.{is_restarted}
-use Rattle.serf_model.specs.HandOuts.{events_given}
-use Rattle.serf_model.specs.Tails.{BringsTold, BringsToldBy, CanTell, CanTellAct, NoneKeeps, tailed_by}
-use Rattle.serf_model.specs.Cluster.{IdealNode, Cluster, Applied, Stepped, Run, apply, applied, injects, on_agent, step, after, event_line, with_handed}
-use Rattle.serf_model.specs.Trace.{Turn, fired_at, fired_by, actor_of, is_agent, turns_by, event_in, events_to, queries_at, entered_by, given_by, packet_given, sent_in}
 use Rattle.serf_model.proofs.StepCases.{step-cases}
 use Rattle.serf_model.proofs.TurnLaws.{flat_map-push}
 use Rattle.serf_model.proofs.HistoryGrowth.{Keeps, keeps-apply}
 use Rattle.serf_model.proofs.PerTimeBound.{Enters, enters-entries, entries, out_in}
-use Rattle.serf_model.specs.Ready.{IsRepresentable}
 use Rattle.serf_model.proofs.Effects.{representable-apply}
 use Rattle.serf_model.proofs.PacketsHave.{Carries, brought, given-sent}
 use Rattle.serf_model.proofs.Reopenings.{Begins}

@@ -1,17 +1,8 @@
 -- Which events the text of an agent says that keeps its events: after each call those that it said before, and those that were
 -- handed out.
-use Rattle.serf_model.proofs.Names.{◌≡◌, ℕ, ◌-◌, ◌^◌, ◌<◌, inl, inr, Bool, true, false, nat_le, nat_lt, cond, List, [], ◌∷◌, ◌++◌, Option, Some, None, IsSome, refl, sym, ap, subst, ◌∙◌, map, All, option_map, map-append, All-nil, All-cons, All-head, All-tail, All-append, All-map, EventBody, TimedEntry, SlotOf, slots_of, ClockKind, clock_line, is_whole, last_line, FailurePlan, SnapshotView, Writing, Kept, Failed, IsObservable, MayWrite, note_fails, compaction_of, written, IdealAgent, Past, of_life, view_of, Call, Ends, Notes, Replaces, ended}
-use Rattle.std.specs.Prelude.{IfSome, MatchBool}
+use Rattle.serf_model.proofs.Names.{Bool, IsSome, List, None, Option, Some, [], ap, cond, false, inl, inr, map, nat_le, nat_lt, refl, subst, sym, true, ℕ, ◌++◌, ◌-◌, ◌<◌, ◌^◌, ◌∙◌, ◌∷◌, ◌≡◌, map-append, All-append, All-cons, All-head, All-map, All-nil, All-tail, option_map, All, IfSome, MatchBool, EventBody, clock_line, is_whole, FailurePlan, events_in, is_event_wanted, kept_clock_line, least_line, query_line, kept_bytes, Failed, IsObservable, KeepsEither, Kept, MayWrite, SnapshotView, Writing, compaction_of, last_line, note_fails, written, TimedEvent, timed_event, ClockKind, SlotOf, TimedEntry, slots_of, Call, Ends, MayEnd, Notes, Replaces, ended, IdealAgent, Past, AreTold, held_from, held_in, kept_lines, lines_told, IsTold, event_entry, kept_events, line_of_event, whatever, text_with, of_life, view_of, Below}
 use Rattle.serf_snap.specs.declared.kind.ClockKind.TheVariants as kinds
-use Rattle.serf_snap.specs.EventLines.{events_in, is_event_wanted, kept_clock_line, least_line, query_line}
-use Rattle.serf_snap.specs.KeptNotes.{kept_bytes}
-use Rattle.serf_snap.specs.Notes.{KeepsEither}
-use Rattle.serf_snap.specs.TimedEvent.{TimedEvent, timed_event}
-use Rattle.serf_agent.specs.Calls.{MayEnd}
-use Rattle.serf_agent.specs.KeptLines.{AreTold, held_from, held_in, kept_lines, least_told, lines_told}
-use Rattle.serf_agent.specs.KeptTexts.{IsTold, event_entry, kept_events, line_of_event, whatever}
-use Rattle.serf_agent.specs.Told.{text_with}
-use Rattle.serf_model.specs.Below.{Below}
+use Rattle.serf_agent.specs.KeptLines.{least_told}
 use Rattle.serf_model.proofs.PacketEvents.{in-life, slots-each}
 
 -- a text is whole, and each event that it says has P

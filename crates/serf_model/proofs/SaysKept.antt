@@ -1,34 +1,11 @@
 -- What each action leaves of the events that its agent has entered, and that its text says.
-use Rattle.serf_model.proofs.Names.{◌≡◌, ◌&&◌, ℕ, ◌-◌, ◌^◌, ◌<◌, ◌≤◌, Bool, true, false, nat_lt, cond, List, [], ◌++◌, Option, Some, None, IsSome, unwrap_or, Result, Ok, Err, refl, sym, subst, arith, map, All, slice_get, All-nil, All-head, ltb-false, WireFault, EventBody, decoded, Message, PushPull, Query, QueryResponse, user_event, query, query_response, push_pull, foreign, TimedEntry, event_of, Writing, Kept, Failed, planned, ended, will, fresh_device, answers, Config, EventOut, FireFault, IdealAgent, OpenQuery, Outcome, QueryFault, Reason, ReceiveFault, BelowMinimum, admission, answer_ignore_reason, asked_at, fire_fault, fired_as, handed_by, is_ack, is_full, query_admission, query_at, query_fault, query_fired_as, query_received_as, receive_read, received_as, response_received_as, response_received_at, texts_len, view_of}
+use Rattle.serf_model.proofs.Names.{Bool, Err, IsSome, List, None, Ok, Option, Result, Some, [], arith, cond, false, map, nat_lt, refl, subst, sym, true, unwrap_or, ℕ, ◌&&◌, ◌++◌, ◌-◌, ◌<◌, ◌^◌, ◌≡◌, ◌≤◌, ltb-false, All-head, All-nil, All, slice_get, decoded, Message, PushPull, Query, QueryResponse, foreign, push_pull, query, query_response, user_event, WireFault, EventBody, sealed, Device, fresh_device, least_line, query_line, Failed, Kept, Writing, TimedEvent, event_of, TimedEntry, MayEnd, answers, ended, planned, will, admission, fire, fire_fault, fired_as, received_as, texts_len, told_event, IdealAgent, with_config, kept_lines, IsDurable, IsMessageTold, MayGoOn, IsTold, event_entry, kept_events, line_of_event, whatever, Asks, Closes, Compacts, Fires, Gets, Hears, Opens, Saves, Takes, events_out, fired_entries, answer_ignore_reason, asked_at, counts_where, is_ack, is_full, query_admission, query_at, query_fault, query_fired_as, query_received_as, response_received_as, response_received_at, told_query, receive, receive_read, compact, handed_by, hear, heard_by, save, told_least, told_lines, view_of, Config, OpenQuery, EventOut, FireFault, Fired, Outcome, QueryFault, Reason, BelowMinimum, Oversize, ReceiveFault, Below, IdealNode, apply, delivers, fire_gives, receive_gives, reopened, text_after, IsRepresentable, CanTellAct, tailed_by, given_by, Act, Of}
 use Rattle.serf_snap.specs.declared.kind.ClockKind.TheVariants as kinds
 use Rattle.serf_snap.specs.declared.snapshot.NoteFault.TheVariants as notes
-use Rattle.serf_snap.specs.Clocks.{sealed}
-use Rattle.serf_snap.specs.EventLines.{least_line, query_line}
-use Rattle.serf_snap.specs.TimedEvent.{TimedEvent}
 use Rattle.serf_agent.specs.declared.outcome.Outcome.TheVariants as outcomes
-use Rattle.serf_agent.specs.declared.outcome.Reason.TheVariants.{Oversize}
 use Rattle.serf_agent.specs.declared.outcome.ReceiveFault.TheVariants as receives
-use Rattle.serf_agent.specs.Calls.{MayEnd}
-use Rattle.serf_agent.specs.Events.{told_event}
-use Rattle.serf_agent.specs.KeptLives.{IsDurable, IsMessageTold, MayGoOn}
-use Rattle.serf_agent.specs.KeptLines.{kept_lines}
-use Rattle.serf_agent.specs.KeptTexts.{IsTold, event_entry, kept_events, line_of_event, whatever}
-use Rattle.serf_agent.specs.Queries.{counts_where, told_query}
-use Rattle.serf_agent.specs.Receive.{receive}
-use Rattle.serf_agent.specs.States.{compact, hear, heard_by, save, told_least, told_lines}
-use Rattle.serf_agent.specs.Lives.{Act as LifeAct, Fires, Asks, Gets, Hears, Takes, Saves, Compacts, Closes, Opens, after, events_out, fired_entries}
-use Rattle.serf_agent.specs.Ideal.{with_config}
-use Rattle.serf_agent.specs.Events.{fire}
-use Rattle.serf_agent.specs.declared.outcome.Fired.{Fired}
-use Rattle.serf_snap.specs.Device.{Device}
-use Rattle.serf_model.specs.Below.{Below}
-use Rattle.serf_model.specs.declared.action.Act.{Act}
+use Rattle.serf_agent.specs.Lives.{Act as LifeAct, after}
 use Rattle.serf_model.specs.declared.action.Act.TheVariants as acts
-use Rattle.serf_model.specs.declared.action.Action.TheVariants.{Of}
-use Rattle.serf_model.specs.Cluster.{IdealNode, apply, delivers, fire_gives, receive_gives, reopened, text_after}
-use Rattle.serf_model.specs.Ready.{IsRepresentable}
-use Rattle.serf_model.specs.Tails.{CanTellAct, tailed_by}
-use Rattle.serf_model.specs.Trace.{given_by}
 use Rattle.serf_model.proofs.CallsKept.{may-fire}
 use Rattle.serf_model.proofs.DurableKept.{durable-planned, durable-step}
 use Rattle.serf_model.proofs.LifeActs.{FitsAct, Keeping, Outs, acts-keep, outs-split}

@@ -1,14 +1,6 @@
 -- What is ignored as seen was handed to the agent before.
-use Rattle.serf_model.proofs.Names.{suc, ◌≡◌, ◌⊎◌, inl, inr, ◌++◌, map, filter, All, All-contains, All-contains_itself, All-map, All-weaker, Contains-append_left, Contains-append_right, Config, EventOut, TimedEntry, eq-eqb, ℕ, ◌==◌, ◌&&◌, ◌||◌, ◌+◌, nat_lt, nat_le, Bool, true, false, cond, List, [], ◌∷◌, Option, Some, None, Ok, refl, sym, ap, subst, ◌∙◌, arith, Contains, slice_get, list_any, and_parts, eqb-true, bytes_eq-Decides, EventBody, decoded, UserEvent, user_event, event_of, same_texts, count_at, Reason, BelowMinimum, TooOld, Seen, TimeFull, admission, texts_len, IdealAgent, Past, of_life, was_ever_entered, observed}
-use Rattle.serf_model.specs.Below.{Below}
-use Rattle.serf_model.specs.declared.action.Action.{Action}
-use Rattle.serf_model.specs.declared.action.Act.{Act}
-use Rattle.serf_model.specs.declared.action.Action.TheVariants.{Of}
+use Rattle.serf_model.proofs.Names.{Bool, List, None, Ok, Option, Some, [], ap, arith, cond, false, inl, inr, map, nat_le, nat_lt, refl, subst, suc, sym, true, ℕ, ◌&&◌, ◌++◌, ◌+◌, ◌==◌, ◌||◌, ◌∙◌, ◌∷◌, ◌≡◌, ◌⊎◌, and_parts, eq-eqb, eqb-true, All-contains, All-contains_itself, All-map, All-weaker, Contains-append_left, Contains-append_right, bytes_eq-Decides, filter, list_any, All, Contains, slice_get, observed, decoded, UserEvent, user_event, EventBody, event_of, same_texts, TimedEntry, count_at, admission, texts_len, IdealAgent, Past, of_life, was_ever_entered, Config, EventOut, Reason, BelowMinimum, Seen, TimeFull, TooOld, Below, Applied, Cluster, IdealNode, Run, after, applied, apply, event_line, start, step, SeenWasHanded, SeenWasHandedOrTailed, IsRepresentable, NoneKeeps, tailed_by, tailed_in, tails_to, Turn, actor_of, event_in, events_to, given_by, is_agent, turns_by, Act, Action, Of, EventLine}
 use Rattle.serf_model.specs.declared.line.Answer.TheVariants as lines
-use Rattle.serf_model.specs.declared.line.EventLine.{EventLine}
-use Rattle.serf_model.specs.Cluster.{Applied, IdealNode, Cluster, Run, applied, apply, after, event_line, start, step}
-use Rattle.serf_model.specs.Promises.{SeenWasHanded, SeenWasHandedOrTailed}
-use Rattle.serf_model.specs.Trace.{Turn, actor_of, event_in, events_to, is_agent, turns_by, given_by}
 use Rattle.serf_model.proofs.Effects.{Effect, IsIdle, counts, effect, hears}
 use Rattle.serf_model.proofs.StepCases.{step-cases}
 use Rattle.serf_model.proofs.TurnLaws.{all-in, at_each_nil, at_each_push}
@@ -19,8 +11,6 @@ use Rattle.serf_model.proofs.PerAgent.{by-more, by-now, each-start, each_in-step
 use Rattle.serf_model.proofs.RunLaws.{CanTellIt, IsAfter, all-at, events_to-push, lines-same, settings-at, tells-at}
 use Rattle.serf_model.proofs.Spreading.{says-weaker}
 use Rattle.serf_model.proofs.StartLaws.{says-first}
-use Rattle.serf_model.specs.Ready.{IsRepresentable}
-use Rattle.serf_model.specs.Tails.{NoneKeeps, tailed_by, tailed_in, tails_to}
 
 -- ---- what was entered
 

@@ -1,20 +1,10 @@
 -- Which acks and responses each action of an agent sends.
-use Rattle.serf_model.proofs.Names.{◌≡◌, ℕ, ◌-◌, ◌^◌, ◌<◌, ◌≤◌, nat_lt, Bool, true, false, cond, List, [], ◌∷◌, ◌++◌, length, Option, Some, None, Result, Ok, refl, sym, ap, subst, ◌∙◌, arith, slice_get, not, option_to_list, and_parts, leb-true, ltb-false, flat_map-append, whole_at, WireFault, EventBody, canonical, decoded, Message, PushPull, Query, QueryResponse, query, query_response, push_pull, IsRangedResponse, event_of, event_packet, Config, Handed, ack_flag, ack_packet, all_pass, handed_query, has_flag, no_broadcast_flag, response_packet, state_of, view_of}
+use Rattle.serf_model.proofs.Names.{Bool, List, None, Ok, Option, Result, Some, [], ap, arith, cond, false, length, nat_lt, refl, subst, sym, true, ℕ, ◌++◌, ◌-◌, ◌<◌, ◌^◌, ◌∙◌, ◌∷◌, ◌≡◌, ◌≤◌, and_parts, leb-true, ltb-false, flat_map-append, option_to_list, not, slice_get, whole_at, canonical, decoded, Message, PushPull, Query, QueryResponse, push_pull, query, query_response, IsRangedResponse, WireFault, EventBody, event_of, event_packet, Handed, ack_flag, ack_packet, all_pass, handed_query, has_flag, no_broadcast_flag, response_packet, state_of, view_of, Config, answer_brought, answers_in, Below, Applied, Done, IdealNode, apply, IsRepresentable, HasSizes, given_by, Act, Action, Of, Answer}
 use Rattle.serf_wire.specs.declared.layout.MessageType.TheVariants as types
 use Rattle.serf_model.proofs.ReadCases.{read_has}
 use Rattle.serf_agent.specs.declared.outcome.RespondFault.TheVariants as responding
-use Rattle.serf_model.specs.Below.{Below}
-use Rattle.serf_model.specs.declared.action.Action.{Action}
-use Rattle.serf_model.specs.declared.action.Act.{Act}
 use Rattle.serf_model.specs.declared.action.Act.TheVariants as acts
-use Rattle.serf_model.specs.declared.action.Action.TheVariants.{Of}
-use Rattle.serf_model.specs.declared.line.Answer.{Answer}
 use Rattle.serf_model.specs.declared.line.Answer.TheVariants as lines
-use Rattle.serf_model.specs.AnswerPromises.{answer_brought, answers_in}
-use Rattle.serf_model.specs.Cluster.{Applied, Done, IdealNode, apply}
-use Rattle.serf_model.specs.Ready.{IsRepresentable}
-use Rattle.serf_model.specs.Sizes.{HasSizes}
-use Rattle.serf_model.specs.Trace.{given_by}
 use Rattle.serf_model.proofs.Effects.{Effect, asks, effect, fires, hears, is_asked, passes_on, replies, tells, as_message}
 use Rattle.serf_model.proofs.CallsKept.{may-ask, response_limit-short}
 use Rattle.serf_model.proofs.PerTimeBound.{none-if}

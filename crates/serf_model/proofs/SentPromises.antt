@@ -1,8 +1,5 @@
 -- What an open query holds stands in answers that were sent.
-use Rattle.serf_model.proofs.Names.{◌≡◌, ℕ, ◌==◌, Bool, true, false, cond, List, [], ◌∷◌, ◌++◌, Result, Ok, refl, sym, ap, subst, ◌∙◌, append_assoc, All, Contains, flat_map, option_to_list, eqb-true, flat_map-append, All-nil, All-cons, All-append, All-filter, All-head, All-map, All-tail, All-weaker, Contains-append_left, filter_passes, WireFault, decoded, Message, QueryResponse, query_response, Response, OpenQuery, is_ack}
-use Rattle.serf_model.specs.AnswerPromises.{CountedSent, HoldsSent, IsSentTo, OpenQueriesSent, answer_brought, answers_in, counted_at, counted_by, is_counted, response_held, to_time}
-use Rattle.serf_model.specs.Cluster.{Run}
-use Rattle.serf_model.specs.Trace.{Turn, actor_of, is_agent, sent_in, turns_by}
+use Rattle.serf_model.proofs.Names.{Bool, List, Ok, Result, [], ap, append_assoc, cond, false, refl, subst, sym, true, ℕ, ◌++◌, ◌==◌, ◌∙◌, ◌∷◌, ◌≡◌, eqb-true, flat_map-append, All-append, All-cons, All-filter, All-head, All-map, All-nil, All-tail, All-weaker, Contains-append_left, filter_passes, flat_map, option_to_list, All, Contains, decoded, Message, QueryResponse, query_response, WireFault, is_ack, Response, OpenQuery, CountedSent, HoldsSent, IsSentTo, OpenQueriesSent, answer_brought, answers_in, counted_at, counted_by, is_counted, response_held, to_time, Run, Turn, actor_of, is_agent, sent_in, turns_by}
 use Rattle.serf_model.proofs.CountingPromises.{IsCounting}
 use Rattle.serf_model.proofs.OpenQueryContents.{IsOpen}
 

@@ -1,11 +1,5 @@
 -- Each agent has its settings, at each step.
-use Rattle.serf_model.proofs.Names.{◌≡◌, ℕ, true, List, [], ◌∷◌, ◌∙◌, Some, sym, ap, slice_get, All, AllByRecursion, All-nil, All-cons, recursion_from_All, Config, is_sound}
-use Rattle.serf_model.specs.Below.{Below}
-use Rattle.serf_model.specs.declared.action.Action.{Action}
-use Rattle.serf_model.specs.declared.action.Action.TheVariants.{Of}
-use Rattle.serf_model.specs.Cluster.{IdealNode, Run, after, apply, start}
-use Rattle.serf_model.specs.Runs.{AreConfigs, HasShortQueries}
-use Rattle.serf_model.specs.Trace.{Turn, given_by}
+use Rattle.serf_model.proofs.Names.{List, Some, [], ap, sym, true, ℕ, ◌∙◌, ◌∷◌, ◌≡◌, All-cons, All-nil, recursion_from_All, AllByRecursion, All, slice_get, is_sound, Config, Below, IdealNode, Run, after, apply, start, AreConfigs, HasShortQueries, Turn, given_by, Action, Of}
 use Rattle.serf_model.proofs.CallsKept.{query_limit-short}
 use Rattle.serf_model.proofs.Effects.{effect, settings-kept}
 use Rattle.serf_model.proofs.PerAgent.{Each, each-start, each-step}

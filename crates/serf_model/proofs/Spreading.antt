@@ -1,13 +1,5 @@
 -- What all events have that agents entered, that their texts say where they keep events, and that packets carry.
-use Rattle.serf_model.proofs.Names.{◌≡◌, ℕ, true, List, [], ◌∷◌, Some, All, AllByRecursion, slice_get, All-nil, All-cons, All-append, All-weaker, EventBody, TimedEntry, IdealAgent, Past}
-use Rattle.serf_agent.specs.KeptTexts.{kept_events, whatever}
-use Rattle.serf_model.specs.Below.{Below}
-use Rattle.serf_model.specs.declared.action.Act.{Act}
-use Rattle.serf_model.specs.declared.action.Action.TheVariants.{Of}
-use Rattle.serf_model.specs.Cluster.{Applied, Cluster, IdealNode, applied, apply, injects, with_handed}
-use Rattle.serf_model.specs.Ready.{IsRepresentable}
-use Rattle.serf_model.specs.Tails.{CanTellAct, tailed_by}
-use Rattle.serf_model.specs.Trace.{events_in_packet, fired_by, given_by}
+use Rattle.serf_model.proofs.Names.{List, Some, [], true, ℕ, ◌∷◌, ◌≡◌, All-append, All-cons, All-nil, All-weaker, AllByRecursion, All, slice_get, EventBody, TimedEntry, IdealAgent, Past, kept_events, whatever, Below, Applied, Cluster, IdealNode, applied, apply, injects, with_handed, IsRepresentable, CanTellAct, tailed_by, events_in_packet, fired_by, given_by, Act, Of}
 use Rattle.serf_model.proofs.Effects.{effect}
 use Rattle.serf_model.proofs.HistoryGrowth.{Says, says-more}
 use Rattle.serf_model.proofs.PacketsHave.{AllHave, Carries, given-sent, packets-have}

@@ -1,9 +1,5 @@
 -- A cluster that has done nothing.
-use Rattle.serf_model.proofs.Names.{◌≡◌, inr, sym, ap, subst, Contains, All, All-nil, EventBody, TimedEntry, Past, unopened, opened, fresh_device, ◌+◌, ◌≤◌, nat_lt, Bool, true, false, cond, List, [], ◌∷◌, Some, None, refl, arith, map, length, not, slice_get, AllByRecursion, position_or_len, ltb-false, Config, is_sound}
-use Rattle.serf_model.specs.Below.{Below}
-use Rattle.serf_model.specs.Cluster.{first_node, opened_first, start}
-use Rattle.serf_model.specs.Ready.{AreRepresentable, IsRepresentable}
-use Rattle.serf_model.specs.Runs.{AreConfigs, NoneBadIsSound}
+use Rattle.serf_model.proofs.Names.{Bool, List, None, Some, [], ap, arith, cond, false, inr, length, map, nat_lt, refl, subst, sym, true, ◌+◌, ◌∷◌, ◌≡◌, ◌≤◌, ltb-false, All-nil, AllByRecursion, position_or_len, All, Contains, not, slice_get, EventBody, fresh_device, opened, TimedEntry, is_sound, Past, unopened, Config, Below, first_node, opened_first, start, AreRepresentable, IsRepresentable, AreConfigs, NoneBadIsSound}
 use Rattle.serf_model.proofs.HistoryGrowth.{Says}
 use Rattle.serf_model.proofs.InvariantKept.{first-events, representable-opened_first}
 use Rattle.serf_model.proofs.PacketsHave.{Carries}

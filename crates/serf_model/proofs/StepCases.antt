@@ -1,9 +1,6 @@
 -- A step of a cluster, by who acts.
-use Rattle.serf_model.proofs.Names.{◌≡◌, ℕ, List, Option, Some, None, refl, slice_get}
-use Rattle.serf_model.specs.declared.action.Act.{Act}
-use Rattle.serf_model.specs.declared.action.Action.{Action}
+use Rattle.serf_model.proofs.Names.{List, None, Option, Some, refl, ℕ, ◌≡◌, slice_get, Cluster, IdealNode, Stepped, applied, apply, injects, on_agent, step, Act, Action}
 use Rattle.serf_model.specs.declared.action.Action.TheVariants as actions
-use Rattle.serf_model.specs.Cluster.{Cluster, IdealNode, Stepped, applied, apply, injects, on_agent, step}
 
 -- no agent acts, or one that there isn't, or one that there is
 pub step-cases : (P : Stepped → Type 0) (c : Cluster) (action : Action) → ((bytes : List ℕ) → P (injects c bytes))

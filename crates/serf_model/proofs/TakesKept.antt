@@ -1,28 +1,9 @@
 -- An agent that keeps its events goes on taking what is new and within its window, whatever it does: of events, and of queries.
-use Rattle.serf_model.proofs.Names.{◌≡◌, ◌&&◌, ◌∙◌, inl, inr, ℕ, ◌+◌, ◌<◌, ◌≤◌, Bool, true, false, cond, List, [], ◌++◌, Option, Some, None, unwrap_or, Result, Ok, refl, sym, subst, ap, arith, All, Contains, slice_get, All-append, All-contains, All-contains_itself, All-nil, All-weaker, WireFault, EventBody, decoded, Message, PushPull, push_pull, TimedEntry, event_of, is_whole, Writing, Kept, FailurePlan, fresh_device, Config, planned, ended, IdealAgent, Past, EventOut, MergeFault, events_of, merge_refusal, receive_one, handed_by}
-use Rattle.std.proofs.lemmas.Bool.{cases_lt}
-use Rattle.serf_snap.specs.EventLines.{least_in}
-use Rattle.serf_agent.specs.Events.{fire}
-use Rattle.serf_agent.specs.Kept.{HasMet, IsFull, IsMet, KeepsSettings, TellsNoneAbove, stood_after}
-use Rattle.serf_agent.specs.Ideal.{Track}
-use Rattle.serf_snap.specs.Device.{Device}
-use Rattle.serf_agent.specs.KeptLives.{IsDurable, MayGoOn}
-use Rattle.serf_agent.specs.KeptTexts.{whatever}
-use Rattle.serf_agent.specs.Lives.{Act as LifeAct, Takes, Opens, after}
-use Rattle.serf_agent.specs.States.{hear, heard_by, told_least}
-use Rattle.serf_agent.specs.Taking.{IsOpenAt, TakesOrFull, TakingLaws}
-use Rattle.serf_agent.specs.TrackOf.{TrackOf, event_track, query_track}
-use Rattle.serf_model.specs.Below.{Below}
-use Rattle.serf_model.specs.declared.action.Act.{Act}
+use Rattle.serf_model.proofs.Names.{Bool, List, None, Ok, Option, Result, Some, [], ap, arith, cond, false, inl, inr, refl, subst, sym, true, unwrap_or, ℕ, ◌&&◌, ◌++◌, ◌+◌, ◌<◌, ◌∙◌, ◌≡◌, ◌≤◌, cases_lt, All-append, All-contains, All-contains_itself, All-nil, All-weaker, All, Contains, slice_get, decoded, Message, PushPull, push_pull, WireFault, EventBody, is_whole, Device, FailurePlan, fresh_device, least_in, Kept, Writing, event_of, TimedEntry, ended, planned, fire, IdealAgent, Past, Track, HasMet, IsFull, IsMet, KeepsSettings, TellsNoneAbove, stood_after, IsDurable, MayGoOn, whatever, Opens, Takes, events_of, handed_by, hear, heard_by, merge_refusal, receive_one, told_least, IsOpenAt, TakesOrFull, TakingLaws, TrackOf, event_track, query_track, Config, EventOut, MergeFault, Below, IdealNode, apply, merges_as, merges_events, merges_given, merges_heard, text_after, with_plan, is_stopped, least_told_by, state_clock, IsRepresentable, tailed_by, given_by, Act, Of}
+use Rattle.serf_agent.specs.Lives.{Act as LifeAct, after}
 use Rattle.serf_model.specs.declared.action.Act.TheVariants as acts
-use Rattle.serf_model.specs.declared.action.Action.TheVariants.{Of}
 use Rattle.serf_model.specs.declared.line.Answer.TheVariants as answers
 use Rattle.serf_model.specs.declared.line.Refusal.TheVariants as refusals
-use Rattle.serf_model.specs.Cluster.{IdealNode, apply, merges_as, merges_events, merges_given, merges_heard, text_after, with_plan}
-use Rattle.serf_model.specs.NotMissed.{is_stopped, least_told_by, state_clock}
-use Rattle.serf_model.specs.Ready.{IsRepresentable}
-use Rattle.serf_model.specs.Tails.{tailed_by}
-use Rattle.serf_model.specs.Trace.{given_by}
 use Rattle.serf_model.proofs.CallsKept.{kept-or-failed}
 use Rattle.serf_model.proofs.DurableKept.{durable-planned, durable-step}
 use Rattle.serf_model.proofs.LifeActs.{FitsAct, Keeping, Outs, Splits, nothing-splits, outs-split}

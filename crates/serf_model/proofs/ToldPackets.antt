@@ -1,9 +1,5 @@
 -- What a packet of bytes carries can be told in lines.
-use Rattle.serf_model.proofs.Names.{◌≡◌, ℕ, List, [], ◌∷◌, Result, Ok, Err, refl, All, AllByRecursion, All-nil, All-cons, All-append, WireFault, EventBody, decoded, Message, user_event, query, query_response, push_pull, foreign, event_of, TimedEntry, SlotContent, empty, held, events_of, events_of_slot}
-use Rattle.serf_wire.specs.Bytes.{AreBytes, EventsHaveBytes, HasBytes, SlotHasBytes}
-use Rattle.serf_wire.specs.Laws.{DecodesBytes}
-use Rattle.serf_agent.specs.KeptTexts.{IsTold}
-use Rattle.serf_model.specs.Trace.{events_brought, events_in_packet}
+use Rattle.serf_model.proofs.Names.{Err, List, Ok, Result, [], refl, ℕ, ◌∷◌, ◌≡◌, All-append, All-cons, All-nil, AllByRecursion, All, AreBytes, EventsHaveBytes, HasBytes, SlotHasBytes, decoded, DecodesBytes, Message, foreign, push_pull, query, query_response, user_event, SlotContent, empty, held, WireFault, EventBody, event_of, TimedEntry, IsTold, events_of, events_of_slot, events_brought, events_in_packet}
 
 abbrev Told : TimedEntry EventBody → Type 0
 Told e = IsTold e.key

@@ -1,8 +1,5 @@
 -- The turns of a run are read off its actions and its trace.
-use Rattle.serf_model.proofs.Names.{suc, None, ◌≡◌, ℕ, ◌+◌, List, [], ◌∷◌, ◌++◌, refl, sym, ap, ◌∙◌, map, length, take, drop, append_assoc, length-append, fold, append-nil, map-append}
-use Rattle.serf_model.specs.declared.action.Action.{Action}
-use Rattle.serf_model.specs.Cluster.{Cluster, Run, applied, apply, injects, on_agent, step, after, trace_of, numbers_from}
-use Rattle.serf_model.specs.Trace.{Turn, AtEach, sent_in, turns_from, turns_of, packet_given}
+use Rattle.serf_model.proofs.Names.{List, None, [], ap, append_assoc, drop, length, length-append, map, refl, suc, sym, take, ℕ, ◌++◌, ◌+◌, ◌∙◌, ◌∷◌, ◌≡◌, append-nil, map-append, fold, Cluster, Run, after, applied, apply, injects, numbers_from, on_agent, step, trace_of, AtEach, Turn, packet_given, sent_in, turns_from, turns_of, Action}
 use Rattle.serf_model.proofs.StepCases.{step-cases}
 use Rattle.serf_model.proofs.TurnLaws.{at_each_nil, at_each_push, flat_map-push}
 use Rattle.serf_model.proofs.RunLaws.{turn-action, turn-given}

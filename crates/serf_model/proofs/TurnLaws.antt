@@ -1,6 +1,5 @@
 -- Lists of turns that grow.
-use Rattle.serf_model.proofs.Names.{sym, All, Contains, All-contains_itself, All-weaker, Contains-append_left, Contains-append_right, ◌≡◌, List, [], ◌∷◌, ◌++◌, refl, ap, subst, ◌∙◌, ◌⊎◌, inl, inr, AllByRecursion, fold, flat_map, append-nil, flat_map-append}
-use Rattle.serf_model.specs.Trace.{Turn, AtEach}
+use Rattle.serf_model.proofs.Names.{List, [], ap, inl, inr, refl, subst, sym, ◌++◌, ◌∙◌, ◌∷◌, ◌≡◌, ◌⊎◌, append-nil, flat_map-append, All-contains_itself, All-weaker, Contains-append_left, Contains-append_right, AllByRecursion, flat_map, fold, All, Contains, AtEach, Turn}
 
 -- what each step keeps holds in the end
 pub fold_keeps : {A B : Type 0} (P : B → Type 0) (f : B → A → B) (b : B) (xs : List A) → P b → ((c : B) (x : A) → P c → P (f c x)) → P (fold f b xs)

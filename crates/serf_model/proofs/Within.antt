@@ -1,5 +1,5 @@
 -- A list that is within another, and has no two equal.
-use Rattle.serf_model.proofs.Names.{zero, suc, ◌≡◌, ◌≢◌, ℕ, ◌<◌, ◌+◌, ◌⊎◌, inl, inr, List, [], ◌∷◌, ◌++◌, refl, sym, ap, subst, ◌∙◌, arith, length, length-append, get_or, append_assoc, All, AllPairs, Contains, append-nil, All-contains, All-push, All-weaker, Contains-append_left, Contains-push, all_pairs_push}
+use Rattle.serf_model.proofs.Names.{List, [], ap, append_assoc, arith, get_or, inl, inr, length, length-append, refl, subst, suc, sym, zero, ℕ, ◌++◌, ◌+◌, ◌<◌, ◌∙◌, ◌∷◌, ◌≡◌, ◌≢◌, ◌⊎◌, append-nil, All-contains, All-push, All-weaker, Contains-append_left, Contains-push, all_pairs_push, All, AllPairs, Contains}
 
 -- the last of a list without equal pairs differs from the others
 last-at : {X : Type 0} (ys : List X) (x d : X) → get_or (ys ++ x ∷ []) (length ys) d ≡ x

@@ -1,26 +1,11 @@
 -- For each promise a small list of turns that breaks it, and the proof that the promise refuses this list. A definition
 -- that is changed so that it promises nothing doesn't pass here.
-use Rattle.serf_model.proofs.Names.{◌≡◌, ◌≢◌, ℕ, ◌<◌, ◌≤◌, ◌+◌, inl, inr, Bool, true, false, List, [], ◌∷◌, ◌++◌, Option, Some, None, Ok, refl, sym, ap, subst, ◌∙◌, arith, cond, observed, length, map, pos, All, All-cons, All-nil, AllPairs, Contains, not, slice_get, slice_index_or, option_to_list, WireFault, EventBody, decoded, Message, PushPull, Query, QueryResponse, UserEvent, push_pull, query, query_response, user_event, events_of, event_of, TimedEntry, count_at, eq-eqb, of_life, Config, OpenQuery, QueryParams, deadline_of, is_ack, query_at}
+use Rattle.serf_model.proofs.Names.{Bool, List, None, Ok, Option, Some, [], ap, arith, cond, false, inl, inr, length, map, refl, subst, sym, true, ℕ, ◌++◌, ◌+◌, ◌<◌, ◌∙◌, ◌∷◌, ◌≡◌, ◌≢◌, ◌≤◌, eq-eqb, All-cons, All-nil, slice_index_or, option_to_list, All, AllPairs, Contains, not, pos, slice_get, observed, decoded, Message, PushPull, Query, QueryResponse, UserEvent, push_pull, query, query_response, user_event, WireFault, EventBody, event_of, TimedEntry, count_at, texts_len, HasMet, IsMet, deadline_of, is_ack, query_at, events_of, of_life, Config, OpenQuery, QueryParams, AckedOnce, AnswersMade, CountedInTime, CountedOnce, CountedSent, HoldsCounted, HoldsSent, IsAwaited, IsMade, IsSentTo, OpenQueriesHold, OpenQueriesSent, RepliedOnce, acked, answer_brought, injected, life_of, query_answered, replied, reply_deadline, EventsBounded, QueriesBounded, WindowsBounded, IdealNode, HandsOutEntered, HandsOutGiven, MessagesFired, NewIsHanded, OnlyToActor, messages_fired, query_message, IsToCome, QueriesKept, clock_told, events_shown, least_told, queries_shown, query_clock_told, query_least_told, Held, HeldOrTailed, Later, Once, OnlyFired, OnlyFiredOrTailed, QueryFired, QueryHandedOnce, QueryLater, QueryOnce, WasFired, WasFiredOrTailed, QueryOnlyFired, WasQueried, actor_keeps, keeps, tail_events, tailed_by, tailed_in, tails_to, Turn, actor_of, events_brought, query_brought, Action, Of, Answer, EventLine, HandedLine}
 use Rattle.std.specs.Prelude.{Result, filter}
 use Rattle.serf_agent.specs.declared.outcome.Reason.TheVariants as reasons
-use Rattle.serf_agent.specs.Events.{texts_len}
-use Rattle.serf_agent.specs.Kept.{HasMet, IsMet}
-use Rattle.serf_model.specs.declared.action.Action.{Action}
 use Rattle.serf_model.specs.declared.action.Act.TheVariants as acts
-use Rattle.serf_model.specs.declared.action.Action.TheVariants.{Of}
-use Rattle.serf_model.specs.declared.line.Answer.{Answer}
 use Rattle.serf_model.specs.declared.line.Answer.TheVariants as answers
-use Rattle.serf_model.specs.declared.line.EventLine.{EventLine}
-use Rattle.serf_model.specs.declared.line.HandedLine.{HandedLine}
-use Rattle.serf_model.specs.AnswerPromises.{AckedOnce, AnswersMade, CountedInTime, CountedOnce, CountedSent, HoldsCounted, HoldsSent, IsAwaited, IsMade, IsSentTo, OpenQueriesHold, OpenQueriesSent, RepliedOnce, acked, answer_brought, injected, life_of, query_answered, replied, reply_deadline}
-use Rattle.serf_model.specs.Bounds.{EventsBounded, QueriesBounded, WindowsBounded}
-use Rattle.serf_model.specs.Cluster.{IdealNode}
-use Rattle.serf_model.specs.HandOuts.{HandsOutEntered, HandsOutGiven, MessagesFired, NewIsHanded, OnlyToActor, messages_fired, query_message}
-use Rattle.serf_model.specs.NotMissed.{IsToCome, Kept, QueriesKept, clock_told, events_shown, least_told, queries_shown, query_clock_told, query_least_told}
-use Rattle.serf_model.specs.Promises.{Held, HeldOrTailed, Later, Once, OnlyFired, OnlyFiredOrTailed, WasFiredOrTailed, QueryFired, QueryHandedOnce, QueryLater, QueryOnce, WasFired}
-use Rattle.serf_model.specs.Queried.{QueryOnlyFired, WasQueried}
-use Rattle.serf_model.specs.Tails.{actor_keeps, keeps, tail_events, tailed_by, tailed_in, tails_to}
-use Rattle.serf_model.specs.Trace.{Turn, actor_of, events_brought, query_brought}
+use Rattle.serf_model.specs.NotMissed.{Kept}
 
 -- ---- turns
 

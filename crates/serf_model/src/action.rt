@@ -1,4 +1,4 @@
-//! What is done in a cluster.
+//! Actions: what is done in a cluster, one after another.
 
 ghost use Rattle.std.specs.Prelude.{◌≡◌, IfOk, slice_get};
 ghost use Rattle.std.specs.Option.{option_copied};
@@ -22,15 +22,15 @@ pub enum SinkCall {
     ReplaceNew,
 }
 
-/// What is done in a cluster. Agents are numbered from 0 in the order of their settings.
+/// What is done in a cluster at one turn. Agents are numbered from 0 in the order of their settings.
 pub enum Action {
-    /// Bytes are sent that no agent made.
+    /// The packet `bytes`, which no agent made, is sent.
     Inject { bytes: Bytes },
-    /// The agent of this number acts.
+    /// Agent number `agent` does `act`.
     Of { agent: u64, act: Act },
 }
 
-/// Written out, so that a crate above need not prove anew that each part can be let go.
+/// Written out, so that a crate above need not prove again that the fields can be dropped.
 impl Drop for Action {
     fn drop(self) {
         match self {
@@ -50,46 +50,47 @@ pub enum Act {
         /// Whether the event may be coalesced with others of its name.
         coalesce: bool,
     },
-    /// It is given a packet. Any packet can be given to any agent, any number of times; one that is never given is lost.
+    /// It is given packet number `packet` at `now`. Any packet can be given to any agent, any number of times; one that
+    /// is never given is lost.
     Deliver {
         packet: u64,
         now: u64,
     },
     /// It sends its whole state, as a push/pull.
     State,
-    /// It merges the state that a packet brings; where it joins, it may pass over what was fired before.
+    /// It merges the state in packet number `packet`; where it joins (`join`), it may pass over what was fired before.
     Merge {
         packet: u64,
         join: bool,
     },
     /// It fires a query.
     Query(Boxed<NewQuery>),
-    /// It answers a query that was handed to it in this life.
+    /// It answers query number `handed` of those that were handed to it in this life, at `now`, with `payload`.
     Respond {
         handed: u64,
         now: u64,
         payload: Bytes,
     },
-    /// It is opened again on what its sink keeps and a tail: what a call that was cut off had appended.
+    /// It is opened again on what its sink keeps and `tail`: what a call that was cut off had appended.
     Restart {
         tail: Bytes,
     },
-    /// The call of its sink with this number, counted from 1 from now on, is to fail; with 0 none is.
+    /// Call number `count` of the kind `call` of its sink, counted from 1 from now on, is to fail; with 0 none is.
     Break {
         call: SinkCall,
         count: u64,
     },
-    /// It closes its open queries that are past their deadlines.
+    /// It closes its open queries that are past their deadlines at `now`.
     Close {
         now: u64,
     },
-    /// It notes its member clock.
+    /// It writes the line of its member clock to its snapshot.
     Save,
     /// It replaces its snapshot's text by its last lines.
     Compact,
 }
 
-/// Written out, so that a crate above need not prove anew that each part can be let go.
+/// Written out, so that a crate above need not prove again that the fields can be dropped.
 impl Drop for Act {
     fn drop(self) {
         match self {
@@ -115,7 +116,7 @@ impl Drop for Act {
 }
 
 impl Action {
-    /// The number of the agent that acts; no agent injects. Takes no memory.
+    /// The number of the agent that acts; `None` where bytes are injected. Takes no memory.
     pub fn actor(&self) -> Option<u64>
         ensures { result ≡ actor_of self.now }
     {
@@ -209,7 +210,7 @@ impl Act {
     }
 }
 
-/// The packet `number` of those in `sent`, from 0 on, if there is one. Takes no memory.
+/// Packet number `number` of `sent`, from 0 on, if there is one. Takes no memory.
 pub fn packet_at(sent: &[Bytes], number: u64) -> Option<&[u8]>
     ensures { option_copied result ≡ slice_get sent.now number }
 {

@@ -1,11 +1,11 @@
-//! A value in a place of its own, so that what has it stays small.
+//! A value in a block of memory of its own, so that the type that has it stays small.
 
 ghost use Rattle.std.specs.Prelude.{◌≡◌, IfOk};
 
 use std::alloc::{AllocError, Global};
 use std::marker::Model;
 
-/// A value in a place of its own.
+/// A value in a block of memory of its own.
 ///
 /// Contracts see the value.
 #[derive(Drop)]
@@ -20,7 +20,7 @@ impl<T> Model for Boxed<T> {
 }
 
 impl<T: Drop> Boxed<T> {
-    /// Takes the value to a place of its own, or is `AllocError` where there is no memory for it.
+    /// Moves `value` to a block of its own, or is `AllocError` where there is no memory for it.
     pub fn new(alloc: Global, value: T) -> Result<Boxed<T>, AllocError>
         ensures { IfOk result (λ boxed. boxed ≡ value) }
     {
@@ -30,7 +30,7 @@ impl<T: Drop> Boxed<T> {
 }
 
 impl<T> Boxed<T> {
-    /// The value. Takes no memory.
+    /// The value, lent for reading. Takes no memory.
     pub fn get(&self) -> &T
         ensures { result.now ≡ self.now }
     {

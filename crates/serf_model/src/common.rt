@@ -1,4 +1,4 @@
-//! Which turns rest on no rule of this project's own.
+//! Which turns are common: they rest on no rule of this project's own.
 
 ghost use Rattle.std.specs.Prelude.{◌≡◌, ◌&&◌};
 ghost use Rattle.serf_model.specs.Common.{is_common_answer, is_common_reason, is_common_refusal, restarts_commonly};
@@ -9,14 +9,14 @@ use crate::action::{Act, Action};
 use crate::line::{Answer, Line, Refusal};
 use serf_agent::{Config, Reason};
 
-/// Whether Serf ignores for this reason too.
+/// Whether Serf too ignores a packet for `reason`.
 fn is_common_reason(reason: Reason) -> bool
     ensures { result ≡ is_common_reason reason }
 {
     !matches!(reason, Reason::Oversize | Reason::TimeFull)
 }
 
-/// Whether Serf refuses so too.
+/// Whether Serf too refuses an action by `refusal`.
 fn is_common_refusal(refusal: Refusal) -> bool
     ensures { result ≡ is_common_refusal refusal }
 {
@@ -30,7 +30,7 @@ fn is_common_refusal(refusal: Refusal) -> bool
     }
 }
 
-/// Whether an answer rests on no rule of this project's own.
+/// Whether `answer` rests on no rule of this project's own.
 fn is_common_answer(answer: Answer) -> bool
     ensures { result ≡ is_common_answer answer }
 {
@@ -43,7 +43,7 @@ fn is_common_answer(answer: Answer) -> bool
     }
 }
 
-/// Whether an action, of an agent that keeps its events over a restart or doesn't (`keeps`), is no restart on such a rule.
+/// Whether `action` is no restart, or a common one: its agent doesn't keep its events (`keeps`), and its tail is empty.
 fn restarts_commonly(keeps: bool, action: &Action) -> bool
     ensures { result ≡ restarts_commonly keeps action.now }
 {
@@ -56,7 +56,7 @@ fn restarts_commonly(keeps: bool, action: &Action) -> bool
     }
 }
 
-/// Whether the turn of an action and its line rests on no rule of this project's own, where the turns before it don't
+/// Whether the turn of `action` and `line` rests on no rule of this project's own, where the turns before it don't
 /// either. `keeps` says whether the agent that acts keeps its events over a restart. Takes no memory.
 pub fn is_common_turn(keeps: bool, action: &Action, line: &Line) -> bool
     ensures { result ≡ (is_common_answer line.now.answer && restarts_commonly keeps action.now) }
@@ -64,7 +64,8 @@ pub fn is_common_turn(keeps: bool, action: &Action, line: &Line) -> bool
     is_common_answer(line.answer) && restarts_commonly(keeps, action)
 }
 
-/// Whether the agent that acts keeps its events over a restart, by these settings. No agent injects. Takes no memory.
+/// Whether the agent that does `action` keeps its events over a restart, by the agents' settings `configs`; false where
+/// bytes are injected. Takes no memory.
 pub fn actor_keeps(configs: &[Config], action: &Action) -> bool
     ensures { result ≡ actor_keeps configs.now (actor_of action.now) }
 {

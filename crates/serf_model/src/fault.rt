@@ -6,10 +6,10 @@ use thiserror::Error;
 /// Why a cluster isn't made: the first that holds.
 #[derive(Clone, Copy, Debug, PartialEq, Eq, Error)]
 pub enum NewFault {
-    /// The agent of this number has the name of an earlier one. It is the first such agent.
+    /// An agent has the name of an earlier one: the number, from 0 on, of the first such agent.
     #[error("the agent {0} has the name of an earlier one")]
     NameTwice(u64),
-    /// The settings of the agent of this number are out of bounds. It is the first such agent.
+    /// An agent's settings are out of bounds: the number, from 0 on, of the first such agent.
     #[error("the settings of the agent {0} are out of bounds")]
     BadConfig(u64),
     #[error("out of memory")]
@@ -19,10 +19,10 @@ pub enum NewFault {
 /// Why a run isn't whole: the first that holds.
 #[derive(Drop)]
 pub enum RunFault {
-    /// The agent of this number has the name of an earlier one. It is the first such agent. Nothing was done.
+    /// An agent has the name of an earlier one: the number, from 0 on, of the first such agent. Nothing was done.
     NameTwice(u64),
-    /// The settings of the agent of this number are out of bounds. It is the first such agent. Nothing was done.
+    /// An agent's settings are out of bounds: the number, from 0 on, of the first such agent. Nothing was done.
     BadConfig(u64),
-    /// Memory ran out. This is the trace of the actions that were done before.
+    /// Memory ran out: the trace of the actions that were done before.
     OutOfMemory(Trace),
 }

@@ -1,4 +1,5 @@
-//! What holds of every run of the model, as clauses of functions that do nothing.
+//! Laws: what holds of every run of the model, as clauses of functions that do nothing. Code that needs a law calls its
+//! function, and the prover has the clauses then.
 
 ghost use Rattle.std.specs.Prelude.{◌≡◌, ◌++◌, ℕ, Bool, true, List, [], Option, Some, All, slice_get};
 ghost use Rattle.serf_snap.specs.Device.{fresh_device};
@@ -36,33 +37,33 @@ use serf_snap::{
 use serf_window::slot_laws;
 use serf_wire::{canonical_packets, decoded_ranges, decoded_texts, exact_decoding};
 
-/// What the crates below promise, as far as a run rests on it. Does nothing.
+/// Tells the prover what the crates below promise, as far as the promises of a run rest on it. Does nothing.
 fn laws_below()
     ensures { Below }
 {
-    exact_decoding();
-    decoded_ranges();
-    canonical_packets();
-    slot_laws();
-    text_laws();
-    short_packets();
-    sound_steps();
-    event_line_laws();
-    kept_note_laws();
-    least_time_laws();
-    read_laws();
-    said_laws();
-    said_query_laws();
-    kept_text_laws();
-    keeping_laws();
-    kept_life_promises();
+    exact_decoding(); // decoding gives just the message that bytes spell, or their first fault
+    decoded_ranges(); // decoded numbers have their types' sizes
+    canonical_packets(); // a canonical packet spells its message
+    slot_laws(); // the slots of windows
+    text_laws(); // the clocks that a snapshot's text says
+    short_packets(); // no text in an agent's packet is too long for its header
+    sound_steps(); // agents stay sound, and admit nothing a second time
+    event_line_laws(); // a snapshot's line of an event reads back as it was written
+    kept_note_laws(); // snapshots that keep events say what their sinks keep
+    least_time_laws(); // the minimums that a snapshot's text says
+    read_laws(); // what is read of a snapshot's text can be written again
+    said_laws(); // which events a snapshot's text says
+    said_query_laws(); // which queries a snapshot's text says
+    kept_text_laws(); // what a snapshot's text keeps of what was handed out
+    keeping_laws(); // tracks that are kept over a restart
+    kept_life_promises(); // what agents that keep their events promise over restarts
 }
 
 /// Every run keeps every promise, whatever its settings and its actions are. Does nothing.
 ///
 /// `promises` says them all at once, of agents that can make a cluster and of actions whose numbers have their types'
-/// sizes (`HasSizes`). Where an agent keeps its events, what the actions bring has to be such as a line can tell: texts of
-/// bytes, and IDs of queries below 2^32 (`CanTell`). The other clauses say each promise by itself, of what it rests on.
+/// sizes (`HasSizes`). Where an agent keeps its events, a snapshot's line has to be able to tell what the actions
+/// bring: texts of bytes, and IDs of queries below 2^32 (`CanTell`). The other clauses say each promise by itself.
 pub fn run_promises()
     ensures promises { (configs : List Config) (actions : List Action) → AreConfigs configs
         → CanTell configs actions → All HasSizes actions
@@ -101,7 +102,7 @@ pub fn run_promises()
         → All HasShortQueries configs → All HasSizes actions
         → QueryOnlyFired (run_of configs actions).turns }
 
-    // What they keep of what is handed out, and of queries as messages.
+    // What the turns keep of what is handed out, and of queries as messages.
     ensures only_to_actor { (configs : List Config) (actions : List Action)
         → OnlyToActor (run_of configs actions).turns }
     ensures hands_out_given { (configs : List Config) (actions : List Action)
@@ -114,7 +115,7 @@ pub fn run_promises()
         → All HasShortQueries configs → All HasSizes actions
         → MessagesFired configs (run_of configs actions).turns }
 
-    // What they keep of acks and responses.
+    // What the turns keep of acks and responses.
     ensures counted_once { (configs : List Config) (actions : List Action) → AreConfigs configs
         → CanTell configs actions → CountedOnce (run_of configs actions).turns }
     ensures counted_in_time { (configs : List Config) (actions : List Action) → AreConfigs configs
@@ -140,12 +141,12 @@ pub fn run_promises()
         → AreConfigs configs → CanTell configs actions
         → WindowsBounded (run_of configs actions) }
 
-    // After it the agents' open queries hold what was counted.
+    // After a run the agents' open queries hold what was counted.
     ensures open_queries { (configs : List Config) (actions : List Action) → AreConfigs configs
         → CanTell configs actions → OpenQueriesHold (run_of configs actions) }
 {
-    laws_below();
-    slot_laws();
+    laws_below(); // what the promises of a run rest on
+    slot_laws(); // the slots of queries, which the laws below leave out
 }
 
 /// The turns of a run are what its actions and its trace show, whatever actions come after. Does nothing.
@@ -165,9 +166,10 @@ pub fn agents_alone()
         → IsAlone config a (turns_by a (run_of configs actions).turns) m }
 {}
 
-/// The agents of a cluster that has done nothing are representable, and what an agent does leaves it representable, where it
-/// can tell what that brings. An agent before its first life is sound. What a representable agent's sink keeps has the times
-/// of all that entered, and all that its next life needs, whatever tail comes after. Does nothing.
+/// The agents of a cluster that has done nothing are representable, and what an agent does leaves it representable,
+/// where its snapshot's lines can tell what the act brings. An agent before its first life is sound. What a
+/// representable agent's sink keeps has the times of all that entered, and all that its next life needs, whatever tail
+/// comes after. Does nothing.
 pub fn representable_agents()
     ensures start { (configs : List Config) → AreConfigs configs
         → AreRepresentable (start configs).cluster }

@@ -1,4 +1,4 @@
-//! What comes of an action.
+//! The lines of a trace: what comes of each action.
 
 ghost use Rattle.std.specs.Prelude.{◌≡◌};
 
@@ -46,15 +46,15 @@ pub enum Answer {
     Fired(Time),
     /// A delivered event was new: it was handed out and sent on.
     New,
-    /// A delivered query was new.
+    /// A delivered query was new, and was taken.
     Query,
-    /// A delivered ack was counted.
+    /// A delivered ack was counted for its open query.
     Ack,
-    /// A delivered response was counted.
+    /// A delivered response was counted for its open query.
     Response,
-    /// A delivered packet was ignored.
+    /// A delivered packet was ignored, for this reason.
     Ignored(Reason),
-    /// A message of this type was delivered, which isn't read.
+    /// A message was delivered whose type, this byte, isn't read.
     Foreign(u8),
     /// A push/pull was delivered, which is for merging.
     PushPull,
@@ -66,27 +66,27 @@ pub enum Answer {
     Queried(Time),
     /// A query was answered.
     Replied,
-    /// The sink is to fail.
+    /// It is planned that a call of the sink fails.
     Broken,
-    /// The bytes were sent.
+    /// The injected bytes were sent.
     Injected,
-    /// The member clock is noted.
+    /// The line of the member clock was written.
     Saved,
     /// The snapshot's text has its last lines alone.
     Compacted,
-    /// The agent was opened again, and these are its clocks.
+    /// The agent was opened again: where its three clocks stand then.
     Restarted {
         member_clock: u64,
         event_clock: u64,
         query_clock: u64,
     },
-    /// So many open queries were closed.
+    /// Open queries were closed: how many of them.
     Closed(u64),
-    /// Nothing was done, or not all of it.
+    /// The action was refused: nothing was done, or not all of it.
     Refused(Refusal),
 }
 
-/// An event that was handed out to the agent of this number.
+/// An event that was handed out to agent number `agent`.
 #[derive(Drop)]
 pub struct EventLine {
     pub agent: u64,
@@ -96,7 +96,7 @@ pub struct EventLine {
     pub coalesce: bool,
 }
 
-/// A query that was handed out to the agent of this number.
+/// A query that was handed out to agent number `agent`.
 #[derive(Drop)]
 pub struct HandedLine {
     pub agent: u64,
@@ -108,18 +108,18 @@ pub struct HandedLine {
     pub payload: Bytes,
 }
 
-/// What came of one action.
+/// What came of one action: its line of the trace.
 pub struct Line {
     pub answer: Answer,
     /// The numbers of the packets that were sent, in order.
     pub sent: Numbers,
     /// The events that were handed out, in order.
     pub events: EventLines,
-    /// The query that was handed out, in a place of its own, so that a line without one is small.
+    /// The query that was handed out, if any, in a block of its own, so that a line without one is small.
     pub handed: Option<Boxed<HandedLine>>,
 }
 
-/// Written out, so that a crate above need not prove anew that each part can be let go.
+/// Written out, so that a crate above need not prove again that the fields can be dropped.
 impl Drop for Line {
     fn drop(self) {
         let Line {

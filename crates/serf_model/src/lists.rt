@@ -3,7 +3,7 @@
 use crate::line::{EventLine, Line};
 use serf_agent::List;
 
-/// Numbers of packets in order.
+/// Numbers of packets, in order; packets are numbered from 0 as they are sent.
 pub type Numbers = List<u64>;
 
 /// Events that were handed out, in order.

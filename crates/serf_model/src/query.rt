@@ -1,4 +1,4 @@
-//! A query that an agent fires.
+//! A query that an agent is to fire.
 
 ghost use Rattle.std.specs.Prelude.{◌≡◌, IfOk};
 
@@ -6,7 +6,7 @@ use serf_agent::{BytesList, QueryParams};
 use serf_wire::Bytes;
 use std::alloc::{AllocError, Global};
 
-/// A query before it is fired.
+/// A query before it is fired; `params` say who is asked, and how answers are to come.
 #[derive(Drop)]
 pub struct NewQuery {
     /// When it is fired, in nanoseconds.
@@ -32,7 +32,7 @@ impl NewQuery {
     }
 }
 
-/// A copy of byte lists.
+/// A copy of the byte lists `lists`, or `AllocError` where there is no memory for it.
 fn copy_lists(alloc: Global, lists: &[Bytes]) -> Result<BytesList, AllocError>
     ensures { IfOk result (λ copies. copies ≡ lists.now) }
 {
@@ -43,7 +43,7 @@ fn copy_lists(alloc: Global, lists: &[Bytes]) -> Result<BytesList, AllocError>
     Ok(BytesList::from_vec(copies))
 }
 
-/// A copy of how a query is fired.
+/// A copy of `params`, by which a query is fired, or `AllocError` where there is no memory for it.
 fn copy_params(alloc: Global, params: &QueryParams) -> Result<QueryParams, AllocError>
     ensures { IfOk result (λ copy. copy ≡ params.now) }
 {

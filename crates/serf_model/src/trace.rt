@@ -1,9 +1,9 @@
-//! What a run gives.
+//! The trace of a run.
 
 use crate::lists::Lines;
 use serf_agent::BytesList;
 
-/// What a run gives: a line for each action, and all packets that were sent, numbered from 0.
+/// What a run gives: a line for each action, in order, and all packets that were sent, numbered from 0.
 #[derive(Drop)]
 pub struct Trace {
     pub lines: Lines,

@@ -1,8 +1,5 @@
 -- What the appenders write spells the value.
-use Rattle.serf_pack.proofs.Names.{FitsSigned, ℕ, ◌+◌, ◌<◌, ◌^◌, List, ◌++◌, length, Bool, true, false, ℤ, pos, negsuc, refl, arith, w64, ints}
-use Rattle.serf_pack.specs.Tree.{nil, flag, int, raw, array, pairs, Items, Pairs}
-use Rattle.serf_pack.specs.Packs.{Packs, PackItems, PackPairs, item_count, pair_count}
-use Rattle.serf_pack.specs.Canonical.{map_head, array_head, raw_head, raw_bytes, uint_bytes, int_bytes, flag_bytes, nil_bytes}
+use Rattle.serf_pack.proofs.Names.{Bool, FitsSigned, List, arith, false, length, negsuc, pos, refl, true, ℕ, ℤ, ◌++◌, ◌+◌, ◌<◌, ◌^◌, ints, w64, array_head, flag_bytes, int_bytes, map_head, nil_bytes, raw_bytes, raw_head, uint_bytes, PackItems, PackPairs, Packs, item_count, pair_count, Items, Pairs, array, flag, int, nil, pairs, raw}
 use Rattle.serf_pack.proofs.Canonical.{map_head_is, array_head_is, raw_head_is, uint_is, negative_is}
 
 pub nil_packs : (d p : ℕ) → Packs (nil p) d p nil_bytes

@@ -1,15 +1,6 @@
 -- What breaks is refused, with that fault.
-use Rattle.serf_pack.proofs.Names.{◌≡◌, ℕ, zero, suc, ◌+◌, ◌-◌, ◌<◌, ◌≤◌, List, [], ◌∷◌, ◌++◌, length, true, nat_lt, Ok, Err, refl, ap, subst, ◌∙◌, arith, append_assoc, length-append, lt-ltb}
-use Rattle.serf_pack.specs.declared.fault.PackFault.{PackFault}
+use Rattle.serf_pack.proofs.Names.{Err, List, Ok, [], ap, append_assoc, arith, length, length-append, nat_lt, refl, subst, suc, true, zero, ℕ, ◌++◌, ◌+◌, ◌-◌, ◌<◌, ◌∙◌, ◌∷◌, ◌≡◌, ◌≤◌, lt-ltb, Breaks, at_end, deep_array, deep_map, in_array, in_key, in_value, short_number, short_raw, unsupported, PackItems, PackPairs, Packs, item_count, pair_count, Reader, head_by, place, head_at, items_at, pairs_at, value_at, row_of, Items, Pairs, Tree, item, no_items, no_pairs, pair, PackFault, Field, Row, Number, Unsupported}
 use Rattle.serf_pack.specs.declared.fault.PackFault.TheVariants as faults
-use Rattle.serf_pack.specs.declared.head.Field.{Field}
-use Rattle.serf_pack.specs.declared.head.Row.{Row}
-use Rattle.serf_pack.specs.declared.head.Row.TheVariants.{Number, Unsupported}
-use Rattle.serf_pack.specs.Tree.{Tree, Items, no_items, item, Pairs, no_pairs, pair}
-use Rattle.serf_pack.specs.Table.{row_of}
-use Rattle.serf_pack.specs.Reading.{Reader, place, head_by, head_at, items_at, pairs_at, value_at}
-use Rattle.serf_pack.specs.Packs.{item_count, pair_count, Packs, PackItems, PackPairs}
-use Rattle.serf_pack.specs.Breaks.{Breaks, at_end, unsupported, short_number, short_raw, deep_array, deep_map, in_array, in_key, in_value}
 use Rattle.serf_pack.proofs.ByHead.{refuse_head, refuse_raw, refuse_deep_array, refuse_deep_map, refuse_array, refuse_map}
 use Rattle.serf_pack.proofs.SpelledIsRead.{head_read, value_read, part}
 

@@ -1,10 +1,7 @@
 -- What reading a value gives, by its head.
-use Rattle.serf_pack.proofs.Names.{◌≡◌, ℕ, zero, suc, ◌-◌, ◌<◌, ◌≤◌, List, length, take, drop, Bool, true, false, nat_lt, ℤ, Ok, Err, refl, arith, le-ltb, lt-ltb}
-use Rattle.serf_pack.specs.declared.fault.PackFault.{PackFault}
+use Rattle.serf_pack.proofs.Names.{Bool, Err, List, Ok, arith, drop, false, length, nat_lt, refl, suc, take, true, zero, ℕ, ℤ, ◌-◌, ◌<◌, ◌≡◌, ◌≤◌, le-ltb, lt-ltb, place, head_at, items_at, pairs_at, value_at, Items, Pairs, array, flag, int, nil, pairs, raw, PackFault}
 use Rattle.serf_pack.specs.declared.fault.PackFault.TheVariants as faults
 use Rattle.serf_pack.specs.declared.head.Head.TheVariants as heads
-use Rattle.serf_pack.specs.Tree.{nil, flag, int, raw, array, pairs, Items, Pairs}
-use Rattle.serf_pack.specs.Reading.{place, head_at, items_at, pairs_at, value_at}
 
 module _ (depth_left total : ℕ) (bytes rest : List ℕ) where
   -- ---- what is read

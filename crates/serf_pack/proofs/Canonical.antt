@@ -1,13 +1,7 @@
 -- The canonical spellings are spellings.
-use Rattle.serf_pack.proofs.Names.{◌≡◌, ℕ, ◌+◌, ◌*◌, ◌-◌, ◌<◌, ◌≤◌, ◌^◌, List, [], ◌∷◌, true, false, cond, nat_lt, ℤ, pos, negsuc, ◌-ℤ◌, refl, sym, ap, subst, ◌∙◌, arith, append-nil, lt-ltb, le-ltb, ltb-true, ltb-false, nat_tests, big_number, big_bytes, low_bytes, twos_complement, w64, ints, big_number-reads_back, length-bytes_high_first}
-use Rattle.serf_pack.specs.declared.head.Head.{Head}
+use Rattle.serf_pack.proofs.Names.{List, [], ap, append-nil, arith, cond, false, nat_lt, negsuc, pos, refl, subst, sym, true, ℕ, ℤ, ◌*◌, ◌+◌, ◌-ℤ◌, ◌-◌, ◌<◌, ◌^◌, ◌∙◌, ◌∷◌, ◌≡◌, ◌≤◌, le-ltb, lt-ltb, ltb-false, ltb-true, nat_tests, ints, w64, big_bytes, big_number, low_bytes, twos_complement, big_number-reads_back, length-bytes_high_first, array_head, map_head, negative_bytes, raw_head, uint_bytes, IsHead, meaning_of, row_of, Field, Head, Number, Whole}
 use Rattle.serf_pack.specs.declared.head.Head.TheVariants as heads
-use Rattle.serf_pack.specs.declared.head.Field.{Field}
 use Rattle.serf_pack.specs.declared.head.Field.TheVariants as fields
-use Rattle.serf_pack.specs.declared.head.Row.TheVariants.{Whole, Number}
-use Rattle.serf_pack.specs.Table.{row_of, meaning_of}
-use Rattle.serf_pack.specs.Packs.{IsHead}
-use Rattle.serf_pack.specs.Canonical.{map_head, array_head, raw_head, uint_bytes, negative_bytes}
 
 number_back : (w x : ℕ) → x < 256 ^ w → big_number w (big_bytes w x) ≡ x
 number_back w x lt = ap (big_number w) (sym (append-nil (big_bytes w x))) ∙ big_number-reads_back w x [] lt

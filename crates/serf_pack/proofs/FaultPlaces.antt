@@ -1,7 +1,5 @@
 -- A fault's place is in the input, or at its end.
-use Rattle.serf_pack.proofs.Names.{ℕ, ◌+◌, ◌≤◌, List, ◌++◌, length, ap, arith, length-append}
-use Rattle.serf_pack.specs.declared.fault.PackFault.{PackFault}
-use Rattle.serf_pack.specs.Breaks.{Breaks, at_end, unsupported, short_number, short_raw, deep_array, deep_map, in_array, in_key, in_value, IsFaulty, breaks, trails, fault_place}
+use Rattle.serf_pack.proofs.Names.{List, ap, arith, length, length-append, ℕ, ◌++◌, ◌+◌, ◌≤◌, Breaks, IsFaulty, at_end, breaks, deep_array, deep_map, fault_place, in_array, in_key, in_value, short_number, short_raw, trails, unsupported, PackFault}
 
 break_within : (d p : ℕ) (bytes : List ℕ) (f : PackFault) → Breaks d p bytes f → fault_place f ≤ p + length bytes
 break_within d p bytes f (at_end _ _ _ _ e fault) = omega (arith, ap fault_place fault)

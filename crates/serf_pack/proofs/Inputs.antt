@@ -1,11 +1,5 @@
 -- The whole input: it is spelled where it is read, and faulty where it is refused.
-use Rattle.serf_pack.proofs.Names.{◌≡◌, ℕ, ◌+◌, ◌<◌, ◌≤◌, List, [], ◌++◌, length, Bool, true, false, cond, eqb, Result, Ok, Err, refl, sym, ap, subst, ◌∙◌, arith, append-nil, length-append, inl, inr, IfOk, IfErr, IsOkAnd, eqb-true, nat_tests, nil_from_length}
-use Rattle.serf_pack.specs.declared.fault.PackFault.{PackFault}
-use Rattle.serf_pack.specs.declared.fault.PackFault.TheVariants.{Trailing}
-use Rattle.serf_pack.specs.Tree.{Tree}
-use Rattle.serf_pack.specs.Reading.{Gives, place, value_at, whole_at}
-use Rattle.serf_pack.specs.Packs.{Packs}
-use Rattle.serf_pack.specs.Breaks.{Breaks, IsFaulty, breaks, trails, fault_place}
+use Rattle.serf_pack.proofs.Names.{Bool, Err, List, Ok, Result, [], ap, append-nil, arith, cond, eqb, false, inl, inr, length, length-append, refl, subst, sym, true, ℕ, ◌++◌, ◌+◌, ◌<◌, ◌∙◌, ◌≡◌, ◌≤◌, eqb-true, nat_tests, nil_from_length, IfErr, IfOk, IsOkAnd, Breaks, IsFaulty, breaks, fault_place, trails, Packs, Gives, place, value_at, whole_at, Tree, PackFault, Trailing}
 use Rattle.serf_pack.proofs.SpelledIsRead.{value_read}
 use Rattle.serf_pack.proofs.Steps.{done, refused, bind_ok, bind_err}
 use Rattle.serf_pack.proofs.ReadIsSpelled.{value_back}

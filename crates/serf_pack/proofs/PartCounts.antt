@@ -1,9 +1,5 @@
 -- A walk gives as many parts as its head says.
-use Rattle.serf_pack.proofs.Names.{◌≡◌, ℕ, zero, suc, List, length, is_ok, true, Result, Ok, Err, refl, sym, ap, ◌∙◌}
-use Rattle.serf_pack.specs.declared.fault.PackFault.{PackFault}
-use Rattle.serf_pack.specs.Tree.{Tree, Items, no_items, item, Pairs, no_pairs, pair}
-use Rattle.serf_pack.specs.Reading.{Reader, ◌>>=◌, items_at, pairs_at, items_or_none, pairs_or_none}
-use Rattle.serf_pack.specs.View.{item_list, pair_list}
+use Rattle.serf_pack.proofs.Names.{Err, List, Ok, Result, ap, is_ok, length, refl, suc, sym, true, zero, ℕ, ◌∙◌, ◌≡◌, Reader, items_or_none, pairs_or_none, ◌>>=◌, items_at, pairs_at, Items, Pairs, Tree, item, no_items, no_pairs, pair, item_list, pair_list, PackFault}
 use Rattle.serf_pack.proofs.Steps.{bind_ok, ok_is}
 
 items_of_ok : (value : Reader Tree) (n : ℕ) (bytes : List ℕ) (x : Items × List ℕ) → items_at value n bytes ≡ Ok x → length (item_list x.0) ≡ n

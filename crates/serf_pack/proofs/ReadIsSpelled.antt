@@ -1,17 +1,8 @@
 -- What is read is spelled.
-use Rattle.serf_pack.proofs.Names.{◌≡◌, ℕ, zero, suc, ◌+◌, ◌<◌, ◌≤◌, List, [], ◌∷◌, ◌++◌, length, take, drop, cond, nat_lt, Ok, Err, refl, sym, ap, subst, ◌∙◌, arith, append_assoc, length-append, ltb-false, length-take, big_number, big_from-append}
+use Rattle.serf_pack.proofs.Names.{Err, List, Ok, [], ap, append_assoc, arith, cond, drop, length, length-append, nat_lt, refl, subst, suc, sym, take, zero, ℕ, ◌++◌, ◌+◌, ◌<◌, ◌∙◌, ◌∷◌, ◌≡◌, ◌≤◌, ltb-false, length-take, big_number, big_from-append, BeginsWith, IsField, IsHead, PackItems, PackPairs, Packs, item_count, pair_count, Reader, head_by, parts_by, place, too_deep, ◌>>=◌, head_at, items_at, pairs_at, value_at, meaning_of, row_of, Items, Pairs, Tree, array, flag, int, item, nil, no_items, no_pairs, pair, pairs, raw, Truncated, Head, Row, Number, Unsupported, Whole}
 use Rattle.std.proofs.lemmas.List.{take-append-drop}
-use Rattle.serf_pack.specs.declared.fault.PackFault.TheVariants.{Truncated}
-use Rattle.serf_pack.specs.declared.head.Head.{Head}
 use Rattle.serf_pack.specs.declared.head.Head.TheVariants as heads
-use Rattle.serf_pack.specs.declared.head.Row.{Row}
-use Rattle.serf_pack.specs.declared.head.Row.TheVariants.{Whole, Number, Unsupported}
-use Rattle.serf_pack.specs.Tree.{Tree, nil, flag, int, raw, array, pairs, Items, no_items, item, Pairs, no_pairs, pair}
-use Rattle.serf_pack.specs.Table.{row_of, meaning_of}
-use Rattle.serf_pack.specs.Reading.{Reader, ◌>>=◌, place, head_by, head_at, items_at, pairs_at, value_at, parts_by, too_deep}
 use Rattle.serf_pack.proofs.Steps.{done, ok_is, bind_ok, guard_ok}
-use Rattle.serf_pack.specs.Laws.{BeginsWith}
-use Rattle.serf_pack.specs.Packs.{IsField, IsHead, item_count, pair_count, Packs, PackItems, PackPairs}
 
 -- ---- heads
 

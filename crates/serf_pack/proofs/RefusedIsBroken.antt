@@ -1,18 +1,7 @@
 -- What is refused breaks, with that fault.
-use Rattle.serf_pack.proofs.Names.{◌≡◌, ℕ, zero, suc, ◌+◌, ◌<◌, ◌≤◌, List, [], ◌∷◌, ◌++◌, length, take, drop, cond, nat_lt, Result, Ok, Err, refl, sym, ap, subst, ◌∙◌, arith, append_assoc, length-append, ◌⊎◌, inl, inr, ltb-true, big_number}
-use Rattle.serf_pack.specs.declared.fault.PackFault.{PackFault}
-use Rattle.serf_pack.specs.declared.fault.PackFault.TheVariants.{Truncated}
-use Rattle.serf_pack.specs.declared.head.Head.{Head}
+use Rattle.serf_pack.proofs.Names.{Err, List, Ok, Result, [], ap, append_assoc, arith, cond, drop, inl, inr, length, length-append, nat_lt, refl, subst, suc, sym, take, zero, ℕ, ◌++◌, ◌+◌, ◌<◌, ◌∙◌, ◌∷◌, ◌≡◌, ◌≤◌, ◌⊎◌, ltb-true, big_number, Breaks, at_end, deep_array, deep_map, in_array, in_key, in_value, short_number, short_raw, unsupported, BeginsWith, PackItems, PackPairs, Packs, item_count, pair_count, Reader, head_by, parts_by, place, too_deep, ◌>>=◌, head_at, items_at, pairs_at, value_at, meaning_of, row_of, Items, Pairs, Tree, array, item, no_items, no_pairs, pair, pairs, raw, PackFault, Truncated, Head, Row, Number, Unsupported, Whole}
 use Rattle.serf_pack.specs.declared.head.Head.TheVariants as heads
-use Rattle.serf_pack.specs.declared.head.Row.{Row}
-use Rattle.serf_pack.specs.declared.head.Row.TheVariants.{Whole, Number, Unsupported}
-use Rattle.serf_pack.specs.Tree.{Tree, raw, array, pairs, Items, no_items, item, Pairs, no_pairs, pair}
-use Rattle.serf_pack.specs.Table.{row_of, meaning_of}
-use Rattle.serf_pack.specs.Reading.{Reader, ◌>>=◌, place, head_by, head_at, items_at, pairs_at, value_at, parts_by, too_deep}
-use Rattle.serf_pack.specs.Packs.{item_count, pair_count, Packs, PackItems, PackPairs}
-use Rattle.serf_pack.specs.Breaks.{Breaks, at_end, unsupported, short_number, short_raw, deep_array, deep_map, in_array, in_key, in_value}
 use Rattle.serf_pack.proofs.Steps.{fault_is, bind_err, guard_err}
-use Rattle.serf_pack.specs.Laws.{BeginsWith}
 use Rattle.serf_pack.proofs.ReadIsSpelled.{IsTrueReader, head_back, moved, value_back}
 
 -- ---- heads

@@ -1,10 +1,6 @@
 -- What is read with room for some arrays and maps inside one another is read with more room too.
-use Rattle.serf_pack.proofs.Names.{◌≡◌, ℕ, zero, suc, ◌≤◌, List, Result, Ok, Err, refl, arith}
-use Rattle.serf_pack.specs.declared.fault.PackFault.{PackFault}
-use Rattle.serf_pack.specs.declared.head.Head.{Head}
+use Rattle.serf_pack.proofs.Names.{Err, List, Ok, Result, arith, refl, suc, zero, ℕ, ◌≡◌, ◌≤◌, Reader, parts_by, place, too_deep, ◌>>=◌, head_at, items_at, pairs_at, value_at, Items, Pairs, Tree, array, item, pair, pairs, PackFault, Head}
 use Rattle.serf_pack.specs.declared.head.Head.TheVariants as heads
-use Rattle.serf_pack.specs.Tree.{Tree, array, pairs, Items, item, Pairs, pair}
-use Rattle.serf_pack.specs.Reading.{Reader, ◌>>=◌, place, head_at, items_at, pairs_at, parts_by, too_deep, value_at}
 
 -- what the first reader reads, the second reads so too
 abbrev ReadsAlso : {A : Type 0} → Reader A → Reader A → Type 0

@@ -1,15 +1,5 @@
 -- Going over a value's parts reads them.
-use Rattle.serf_pack.proofs.Names.{◌≡◌, ℕ, zero, suc, ◌+◌, ◌-◌, ◌<◌, ◌≤◌, List, [], ◌∷◌, length, take, drop, slice_index_or, Bool, false, nat_lt, ℤ, Result, Ok, Err, refl, sym, ap, ◌∙◌, arith, le-ltb, take_all, big_number}
-use Rattle.serf_pack.specs.declared.fault.PackFault.{PackFault}
-use Rattle.serf_pack.specs.declared.fault.PackFault.TheVariants.{Truncated, TooDeep}
-use Rattle.serf_pack.specs.declared.head.Head.{Head}
-use Rattle.serf_pack.specs.declared.head.Field.{Field}
-use Rattle.serf_pack.specs.declared.head.Row.{Row}
-use Rattle.serf_pack.specs.declared.head.Row.TheVariants.{Whole, Number}
-use Rattle.serf_pack.specs.declared.head.Head.TheVariants.{Nil, Flag, Int, Raw, Array, Map}
-use Rattle.serf_pack.specs.Tree.{Tree, array, pairs, item, pair}
-use Rattle.serf_pack.specs.Table.{row_of, meaning_of}
-use Rattle.serf_pack.specs.Reading.{Reader, ◌>>=◌, place, head_by, head_at, items_at, pairs_at, value_at, rest_of}
+use Rattle.serf_pack.proofs.Names.{Bool, Err, List, Ok, Result, [], ap, arith, drop, false, length, nat_lt, refl, slice_index_or, suc, sym, take, zero, ℕ, ℤ, ◌+◌, ◌-◌, ◌<◌, ◌∙◌, ◌∷◌, ◌≡◌, ◌≤◌, le-ltb, take_all, big_number, Reader, head_by, place, rest_of, ◌>>=◌, head_at, items_at, pairs_at, value_at, meaning_of, row_of, Tree, array, item, pair, pairs, PackFault, TooDeep, Truncated, Field, Head, Array, Flag, Int, Map, Nil, Raw, Row, Number, Whole}
 use Rattle.serf_pack.proofs.ByHead.{read_nil, read_flag, read_int, read_raw, refuse_head, refuse_raw, refuse_deep_array, refuse_deep_map}
 
 -- what is done to the value doesn't matter to the rest

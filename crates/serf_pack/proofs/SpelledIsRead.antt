@@ -1,14 +1,6 @@
 -- What is spelled is read.
-use Rattle.serf_pack.proofs.Names.{◌≡◌, ℕ, suc, ◌+◌, ◌-◌, ◌≤◌, List, [], ◌∷◌, ◌++◌, length, false, nat_lt, Ok, refl, ap, subst, ◌∙◌, arith, append_assoc, length-append, le-ltb, take_at, drop_at, big_number, big_from-append}
-use Rattle.serf_pack.specs.declared.head.Head.{Head}
+use Rattle.serf_pack.proofs.Names.{List, Ok, [], ap, append_assoc, arith, false, length, length-append, nat_lt, refl, subst, suc, ℕ, ◌++◌, ◌+◌, ◌-◌, ◌∙◌, ◌∷◌, ◌≡◌, ◌≤◌, le-ltb, drop_at, take_at, big_number, big_from-append, BeginsWith, IsField, IsHead, PackItems, PackPairs, Packs, item_count, pair_count, Reader, head_by, place, head_at, items_at, pairs_at, value_at, row_of, Items, Pairs, Tree, array, flag, int, item, nil, no_items, no_pairs, pair, pairs, raw, Head, Row, Number, Unsupported, Whole}
 use Rattle.serf_pack.specs.declared.head.Head.TheVariants as heads
-use Rattle.serf_pack.specs.declared.head.Row.{Row}
-use Rattle.serf_pack.specs.declared.head.Row.TheVariants.{Whole, Number, Unsupported}
-use Rattle.serf_pack.specs.Tree.{Tree, nil, flag, int, raw, array, pairs, Items, no_items, item, Pairs, no_pairs, pair}
-use Rattle.serf_pack.specs.Table.{row_of}
-use Rattle.serf_pack.specs.Reading.{Reader, place, head_by, head_at, items_at, pairs_at, value_at}
-use Rattle.serf_pack.specs.Laws.{BeginsWith}
-use Rattle.serf_pack.specs.Packs.{IsField, IsHead, item_count, pair_count, Packs, PackItems, PackPairs}
 use Rattle.serf_pack.proofs.ByHead.{read_nil, read_flag, read_int, read_raw, read_array, read_map}
 
 field_read : (p : ℕ) (r : Row) (b : ℕ) (field rest : List ℕ) (h : Head) → IsField r field h → head_by p r b (field ++ rest) ≡ Ok (h, rest)

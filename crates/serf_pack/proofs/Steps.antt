@@ -1,7 +1,5 @@
 -- What the outcome of two steps of a reading says of each step.
-use Rattle.serf_pack.proofs.Names.{◌≡◌, Bool, true, false, cond, Result, Ok, Err, refl, ◌⊎◌, inl, inr}
-use Rattle.serf_pack.specs.declared.fault.PackFault.{PackFault}
-use Rattle.serf_pack.specs.Reading.{◌>>=◌}
+use Rattle.serf_pack.proofs.Names.{Bool, Err, Ok, Result, cond, false, inl, inr, refl, true, ◌≡◌, ◌⊎◌, ◌>>=◌, PackFault}
 
 -- Ok and Err with the type of the other one settled
 abbrev pub done : {A : Type 0} → A → Result A PackFault

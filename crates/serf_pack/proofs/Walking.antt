@@ -1,10 +1,5 @@
 -- One part of a checked value after another.
-use Rattle.serf_pack.proofs.Names.{◌≡◌, ℕ, zero, suc, ◌-◌, ◌<◌, List, [], ◌∷◌, length, false, cond, eqb, Result, Ok, Err, refl, ap, subst, ◌∙◌, arith, nat_tests}
-use Rattle.serf_pack.specs.declared.fault.PackFault.{PackFault}
-use Rattle.serf_pack.specs.declared.fault.PackFault.TheVariants.{Trailing}
-use Rattle.serf_pack.specs.Tree.{Tree, Items, item, Pairs, pair}
-use Rattle.serf_pack.specs.Reading.{Reader, ◌>>=◌, place, items_at, pairs_at, value_at, whole_at, rest_of, value_or_nil, items_or_none, pairs_or_none}
-use Rattle.serf_pack.specs.View.{item_list, pair_list}
+use Rattle.serf_pack.proofs.Names.{Err, List, Ok, Result, [], ap, arith, cond, eqb, false, length, refl, subst, suc, zero, ℕ, ◌-◌, ◌<◌, ◌∙◌, ◌∷◌, ◌≡◌, nat_tests, Reader, items_or_none, pairs_or_none, place, rest_of, value_or_nil, ◌>>=◌, items_at, pairs_at, value_at, whole_at, Items, Pairs, Tree, item, pair, item_list, pair_list, PackFault, Trailing}
 use Rattle.serf_pack.proofs.Steps.{done}
 use Rattle.serf_pack.proofs.Viewing.{IsGood}
 

@@ -1,3 +1,4 @@
+pub mod Names
 pub mod LinesBack
 pub mod ListLaws
 pub mod MessagesBack

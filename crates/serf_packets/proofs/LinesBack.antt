@@ -1,18 +1,5 @@
 -- The lines of a message's text, cut again.
-use Rattle.std.proofs.Common.{◌≡◌, ◌++◌, ◌<◌, ◌^◌, ◌∙◌, ℕ, ℤ, List, [], ◌∷◌, Bool, true, false, Some, refl, sym, ap, append_assoc, arith, decimal, map}
-use Rattle.std.proofs.lemmas.Bool.{and_parts}
-use Rattle.std.proofs.lemmas.Grind.{common_steps}
-use Rattle.std.proofs.lemmas.List.{append-nil}
-use Rattle.std.proofs.lemmas.List.Elements.{All-append, All-cons, All-nil}
-use Rattle.std.proofs.lemmas.List.Splits.{slice_split_at, slice_split_none}
-use Rattle.std.specs.Fmt.{signed_decimal}
-use Rattle.std.specs.List.{All, AllByRecursion, flat_map, list_all, slice_split}
-use Rattle.std.specs.Prelude.{◌==◌}
-use Rattle.std.specs.Str.{bytes_eq}
-use Rattle.serf_wire.specs.Fields.{fits}
-use Rattle.serf_text.specs.TextParts.{flag_line, flag_text, hex_line, hex_text, number_line, signed_line, with_hex, with_number}
-use Rattle.serf_packets.specs.Meant.{bytes_meant}
-use Rattle.serf_packets.specs.Rows.{RowText, row_in, row_of_parts, rows_in, rows_of}
+use Rattle.serf_packets.proofs.Names.{Bool, List, Some, [], ap, append_assoc, arith, decimal, false, map, refl, sym, true, ℕ, ℤ, ◌++◌, ◌<◌, ◌^◌, ◌∙◌, ◌∷◌, ◌≡◌, and_parts, common_steps, append-nil, All-append, All-cons, All-nil, slice_split_at, slice_split_none, signed_decimal, All, AllByRecursion, flat_map, list_all, slice_split, ◌==◌, bytes_eq, fits, flag_text, flag_line, hex_line, hex_text, number_line, signed_line, with_hex, with_number, bytes_meant, RowText, row_in, row_of_parts, rows_in, rows_of}
 use Rattle.serf_packets.proofs.PacketBytes.{AreBytes}
 use Rattle.serf_packets.proofs.WordsBack.{IsPlain, bytes_back, is_plain, plain_bytes, plain_number, plain_signed}
 

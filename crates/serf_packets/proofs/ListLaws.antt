@@ -1,9 +1,5 @@
 -- What two texts have in common, and the last slot of a list, changed.
-use Rattle.std.proofs.Common.{◌≡◌, ◌∙◌, ◌++◌, ◌∷◌, [], ℕ, List, refl, sym, ap, map}
-use Rattle.std.proofs.lemmas.List.{map-append}
-use Rattle.serf_wire.specs.Slots.{SlotContent}
-use Rattle.serf_packets.specs.Encoded.{common}
-use Rattle.serf_packets.specs.Meant.{on_last}
+use Rattle.serf_packets.proofs.Names.{List, [], ap, map, refl, sym, ℕ, ◌++◌, ◌∙◌, ◌∷◌, ◌≡◌, map-append, SlotContent, common, on_last}
 
 pub common_nothing : (xs : List ℕ) → common xs [] ≡ 0
 common_nothing [] = refl

@@ -1,16 +1,5 @@
 -- The texts of messages, read back: of all but a push/pull.
-use Rattle.std.proofs.Common.{◌≡◌, ◌++◌, ◌<◌, ◌∙◌, ℕ, List, [], ◌∷◌, Bool, true, false, Some, refl, ap, arith, codes, decimal, map}
-use Rattle.std.specs.Fmt.{signed_decimal}
-use Rattle.std.specs.List.{AllByRecursion}
-use Rattle.std.specs.Str.{bytes_eq}
-use Rattle.serf_pack.specs.Canonical.{flag_bytes, int_bytes, map_head, raw_bytes, uint_bytes}
-use Rattle.serf_wire.specs.Canonical.{canonical, entry, list_bytes}
-use Rattle.serf_wire.specs.Message.{Query, QueryResponse, UserEvent, foreign, query, query_response, user_event}
-use Rattle.serf_wire.specs.Ranges.{IsRangedQuery, IsRangedResponse}
-use Rattle.serf_text.specs.MessageText.{answer_lines, asker_lines, content_lines, handling_lines, identity_lines, limit_lines, message_text, query_head, relay_line, response_name}
-use Rattle.serf_text.specs.TextParts.{flag_text, hex_text}
-use Rattle.serf_packets.specs.Meant.{event_meant, meant_by, message_meant, query_meant, response_meant}
-use Rattle.serf_packets.specs.Rows.{RowText, rows_in, value_of}
+use Rattle.serf_packets.proofs.Names.{Bool, List, Some, [], ap, arith, codes, decimal, false, map, refl, true, ℕ, ◌++◌, ◌<◌, ◌∙◌, ◌∷◌, ◌≡◌, signed_decimal, AllByRecursion, bytes_eq, flag_bytes, int_bytes, map_head, raw_bytes, uint_bytes, entry, list_bytes, canonical, Query, QueryResponse, UserEvent, foreign, query, query_response, user_event, IsRangedQuery, IsRangedResponse, message_text, answer_lines, asker_lines, content_lines, handling_lines, identity_lines, limit_lines, query_head, relay_line, response_name, flag_text, hex_text, message_meant, event_meant, meant_by, query_meant, response_meant, RowText, rows_in, value_of}
 use Rattle.serf_packets.proofs.LinesBack.{Reads, ◌▸◌, at_end, no_row, past, reads_flag, reads_hex, reads_kind, reads_number, reads_signed, reads_texts, row, text_row, texts_back}
 use Rattle.serf_packets.proofs.PacketBytes.{AreBytes, field_bytes, parts_bytes, texts_bytes}
 use Rattle.serf_packets.proofs.TakenLaws.{ReadsBack}

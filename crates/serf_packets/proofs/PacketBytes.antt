@@ -1,9 +1,5 @@
 -- The bytes of a packet, and of the texts in it.
-use Rattle.std.proofs.Common.{◌++◌, ℕ, zero, suc, List, [], ◌∷◌, length, arith}
-use Rattle.std.specs.List.{AllByRecursion, flat_map, fold}
-use Rattle.hex.specs.Hex.{IsBytes}
-use Rattle.serf_pack.specs.Canonical.{array_head, raw_bytes, raw_head}
-use Rattle.serf_wire.specs.Canonical.{entry, list_bytes}
+use Rattle.serf_packets.proofs.Names.{List, [], arith, length, suc, zero, ℕ, ◌++◌, ◌∷◌, AllByRecursion, flat_map, fold, IsBytes, array_head, raw_bytes, raw_head, entry, list_bytes}
 
 pub record AreBytes (xs : List ℕ) : Type 0 where
   pub each : IsBytes xs

@@ -1,20 +1,5 @@
 -- The text of a push/pull, read back.
-use Rattle.std.proofs.Common.{◌≡◌, ◌++◌, ◌+◌, ◌<◌, ◌≤◌, ◌∙◌, ℕ, List, [], ◌∷◌, Bool, true, false, Some, length, refl, sym, ap, subst, append_assoc, arith, codes, decimal, map}
-use Rattle.std.proofs.lemmas.Grind.{common_steps}
-use Rattle.std.proofs.lemmas.List.{append-nil, length-map}
-use Rattle.std.proofs.lemmas.List.Folds.{flat_map-map}
-use Rattle.std.specs.List.{AllByRecursion, flat_map, fold, list_any}
-use Rattle.std.specs.Prelude.{nat_le, ◌||◌}
-use Rattle.serf_pack.specs.Canonical.{array_head, map_head, raw_bytes, uint_bytes}
-use Rattle.serf_wire.specs.declared.texts.EventBody.{EventBody}
-use Rattle.serf_wire.specs.Canonical.{canonical, entry, event_bytes, has_long, is_long, is_long_slot, list_bytes, slot_bytes, status_bytes, status_time_bytes}
-use Rattle.serf_wire.specs.Message.{PushPull, push_pull}
-use Rattle.serf_wire.specs.Ranges.{IsRangedPushPull, IsTimed}
-use Rattle.serf_wire.specs.Slots.{SlotContent, empty, held}
-use Rattle.serf_text.specs.MessageText.{buffer_lines, event_line, member_lines, message_text, push_pull_head, slot_lines, slots_lines, status_line}
-use Rattle.serf_text.specs.TextParts.{hex_text, with_hex, with_number}
-use Rattle.serf_packets.specs.Meant.{after_row, event_of_row, meant_by, member_meant, message_meant, on_last, push_pull_meant, slots_meant, texts_at, with_event}
-use Rattle.serf_packets.specs.Rows.{RowText, rows_of, value_of}
+use Rattle.serf_packets.proofs.Names.{Bool, List, Some, [], ap, append_assoc, arith, codes, decimal, false, length, map, refl, subst, sym, true, ℕ, ◌++◌, ◌+◌, ◌<◌, ◌∙◌, ◌∷◌, ◌≡◌, ◌≤◌, common_steps, append-nil, length-map, flat_map-map, AllByRecursion, flat_map, fold, list_any, nat_le, ◌||◌, array_head, map_head, raw_bytes, uint_bytes, entry, event_bytes, is_long, is_long_slot, list_bytes, slot_bytes, status_bytes, status_time_bytes, canonical, has_long, PushPull, push_pull, IsRangedPushPull, IsTimed, SlotContent, empty, held, EventBody, message_text, slots_lines, buffer_lines, event_line, member_lines, push_pull_head, slot_lines, status_line, hex_text, with_hex, with_number, after_row, event_of_row, member_meant, message_meant, on_last, slots_meant, texts_at, with_event, meant_by, push_pull_meant, RowText, rows_of, value_of}
 use Rattle.serf_packets.proofs.LinesBack.{Reads, ◌▸◌, at_end, list_back, no_row, past, reads_kind, reads_listed, reads_number, reads_texts, reads_triple, row, text_row, texts_back}
 use Rattle.serf_packets.proofs.PacketBytes.{AreBytes, field_bytes, front, items_bytes, parts_bytes, raw_text, texts_bytes}
 use Rattle.serf_packets.proofs.ListLaws.{last-on}

@@ -1,18 +1,6 @@
 -- Texts that are encoded to packets.
-use Rattle.std.proofs.Common.{◌≡◌, ◌∙◌, List, [], ℕ, Bool, true, false, cond, refl, sym, ap}
-use Rattle.std.specs.Prelude.{Option, Some, None, Result, Ok, Err}
-use Rattle.std.specs.Str.{bytes_eq}
-use Rattle.std.proofs.lemmas.Slice.Eq.{bytes_eq-Decides}
-use Rattle.hex.specs.Hex.{IsBytes}
-use Rattle.serf_wire.specs.declared.fault.WireFault.{WireFault}
-use Rattle.serf_wire.specs.Canonical.{canonical, has_long}
-use Rattle.serf_wire.specs.Decoded.{decoded}
-use Rattle.serf_wire.specs.Message.{Message}
-use Rattle.serf_wire.specs.Ranges.{InRange}
-use Rattle.serf_text.specs.MessageText.{message_text, text_or_fault}
-use Rattle.serf_packets.specs.Encoded.{encoded, encoded_by, other_line, packet_meant, packet_of, said_by}
-use Rattle.serf_packets.specs.Meant.{meant_by, message_meant}
-use Rattle.serf_packets.specs.Rows.{rows_in}
+use Rattle.serf_packets.proofs.Names.{Bool, List, [], ap, cond, false, refl, sym, true, ℕ, ◌∙◌, ◌≡◌, bytes_eq-Decides, Err, None, Option, Result, bytes_eq, IsBytes, canonical, has_long, decoded, Message, InRange, WireFault, message_text, text_or_fault, encoded_by, other_line, packet_meant, packet_of, said_by, encoded, message_meant, meant_by, rows_in}
+use Rattle.std.specs.Prelude.{Some, Ok}
 
 -- A text that is answered by a packet
 

@@ -1,14 +1,5 @@
 -- The text that a canonical packet is decoded to is encoded to this packet.
-use Rattle.std.proofs.Common.{◌≡◌, ◌∙◌, [], ◌∷◌, Ok, false, refl, sym, ap, subst}
-use Rattle.hex.specs.Hex.{IsBytes}
-use Rattle.serf_wire.specs.Canonical.{canonical, has_long, is_long_slot, slot_bytes, without_empty_slots, without_events}
-use Rattle.serf_wire.specs.Decoded.{decoded}
-use Rattle.serf_wire.specs.Laws.{CanonicalSpells, DecodesInRange, DecodesSpelled}
-use Rattle.serf_wire.specs.Message.{Message, foreign, push_pull, query, query_response, user_event}
-use Rattle.serf_wire.specs.Slots.{SlotContent, empty, held}
-use Rattle.serf_text.specs.MessageText.{message_text, text_or_fault}
-use Rattle.serf_packets.specs.Encoded.{encoded}
-use Rattle.serf_packets.specs.Taken.{TextsAreTaken, TextsTellApart}
+use Rattle.serf_packets.proofs.Names.{Ok, [], ap, false, refl, subst, sym, ◌∙◌, ◌∷◌, ◌≡◌, IsBytes, is_long_slot, slot_bytes, without_empty_slots, without_events, canonical, has_long, decoded, CanonicalSpells, DecodesInRange, DecodesSpelled, Message, foreign, push_pull, query, query_response, user_event, SlotContent, empty, held, message_text, text_or_fault, encoded, TextsAreTaken, TextsTellApart}
 use Rattle.serf_packets.proofs.MessagesBack.{event_back, foreign_back, query_back, response_back}
 use Rattle.serf_packets.proofs.StateBack.{IsUntold, push_pull_back, same_lengths, same_packet}
 use Rattle.serf_packets.proofs.TakenLaws.{IsReadBack, ReadsBack, one_packet, taken_back}

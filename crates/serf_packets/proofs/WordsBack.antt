@@ -1,20 +1,5 @@
 -- Words of a message's text, read back.
-use Rattle.std.proofs.Common.{◌≡◌, ◌-◌, ◌/◌, ◌%◌, ◌<◌, ◌≤◌, ◌^◌, ◌∙◌, ℕ, zero, suc, ℤ, pos, negsuc, List, [], ◌∷◌, length, Bool, true, false, Some, inl, inr, refl, sym, ap, subst, arith, rules, decimal}
-use Rattle.std.proofs.lemmas.Bool.{and_parts, cases_lt}
-use Rattle.std.proofs.lemmas.Fmt.{decimal_nonempty, digits_decimal, digits_value-decimal}
-use Rattle.std.proofs.lemmas.Grind.{common_steps}
-use Rattle.std.proofs.lemmas.Str.Parse.{IsNumeralModel, numerals_by_value}
-use Rattle.std.specs.Char.{is_ascii_digit}
-use Rattle.std.specs.Fmt.{signed_decimal}
-use Rattle.std.specs.List.{list_all}
-use Rattle.std.specs.Prelude.{nat_le, nat_lt, slice_index, unwrap_or, ◌&&◌, ◌==◌}
-use Rattle.std.specs.Str.Parse.{digits_value}
-use Rattle.hex.proofs.HexLemmas.{decode_of-encode_lower, length-encode_with}
-use Rattle.hex.specs.Hex.{IsBytes, encode_lower, encode_with, lower_digits}
-use Rattle.serf_wire.specs.Fields.{fits}
-use Rattle.serf_text.specs.TextParts.{hex_text}
-use Rattle.serf_text.specs.Words.{between, bytes_of, number_of}
-use Rattle.serf_packets.specs.Meant.{below_zero, bytes_meant, number_up_to, signed_meant}
+use Rattle.serf_packets.proofs.Names.{Bool, List, Some, [], ap, arith, decimal, false, inl, inr, length, negsuc, pos, refl, rules, subst, suc, sym, true, zero, ℕ, ℤ, ◌%◌, ◌-◌, ◌/◌, ◌<◌, ◌^◌, ◌∙◌, ◌∷◌, ◌≡◌, ◌≤◌, and_parts, cases_lt, decimal_nonempty, digits_decimal, digits_value-decimal, common_steps, IsNumeralModel, numerals_by_value, is_ascii_digit, signed_decimal, list_all, nat_le, nat_lt, slice_index, unwrap_or, ◌&&◌, ◌==◌, digits_value, decode_of-encode_lower, length-encode_with, IsBytes, encode_lower, lower_digits, encode_with, fits, hex_text, between, bytes_of, number_of, below_zero, bytes_meant, number_up_to, signed_meant}
 
 -- Numbers
 

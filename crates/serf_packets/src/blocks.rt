@@ -1,4 +1,4 @@
-//! Texts in bulk, with an empty line after each.
+//! Encodes texts in bulk: answers each block, the lines between two empty ones, by the packet of its message in hex.
 
 ghost use Rattle.std.specs.Prelude.{◌≡◌, ◌++◌, ◌<◌, ◌↔◌, [], Ok, List, ℕ, IfErr, IfOk, OnOk, IsTrue, length};
 ghost use Rattle.std.specs.Io.KnownBytes.{Appends, Consumes, IsAtEnd};
@@ -12,20 +12,20 @@ use serf_text::{LineJob, StreamFault, StreamLineFault, answer_lines, put_hex, pu
 use std::alloc::{AllocError, Global};
 use std::io::{Read, Write};
 
-/// What may be wrong with a line of texts: nothing, since a text that is refused is answered too. It is never met.
+/// The fault of a line of texts, which never comes: a text that is no message's is answered too.
 #[derive(Clone, Copy, Debug, PartialEq, Eq)]
 pub struct NeverBad;
 
 /// How the texts of a stream were answered.
 #[derive(Clone, Copy, Debug, PartialEq, Eq)]
 pub struct Blocks {
-    /// Whether one of them was refused.
+    /// Whether a text was refused.
     pub is_refused: bool,
     /// Whether the stream ends within a line, so that the text before its end has no answer.
     pub is_cut: bool,
 }
 
-/// Appends the answer to a text, and says whether it is refused.
+/// Appends to `out` the answer to `text`: its packet in hex, or `refused BadLine N`. Gives whether it is refused.
 fn put_answer(alloc: Global, text: &[u8], out: &mut Vec<u8>) -> Result<bool, AllocError>
     ensures text { OnOk result (out.new.items ≡ out.old.items ++ answer_text (encoded text.now)) }
     ensures refused { IfOk result (λ refused. refused ≡ is_fault (encoded text.now)) }
@@ -45,7 +45,7 @@ fn put_answer(alloc: Global, text: &[u8], out: &mut Vec<u8>) -> Result<bool, All
     Ok(refused)
 }
 
-/// Appends the answer to a block, where it has lines, and says whether it is refused.
+/// Appends to `out` the answer to `block`, the lines of a text; nothing where it is empty. Gives whether it is refused.
 fn put_block(alloc: Global, block: &[u8], out: &mut Vec<u8>) -> Result<bool, AllocError>
     ensures text { OnOk result (out.new.items ≡ out.old.items ++ block_answer block.now) }
     ensures refused { IfOk result (λ refused. refused ≡ refuses_block block.now) }
@@ -56,7 +56,8 @@ fn put_block(alloc: Global, block: &[u8], out: &mut Vec<u8>) -> Result<bool, All
     put_answer(alloc, block, out)
 }
 
-/// Collects the lines of a block, and answers it.
+/// Collects the lines of a text in `block`, and answers the text at the empty line after it. `is_refused` says whether a
+/// text was refused so far.
 #[derive(Drop)]
 struct BlockLines {
     block: Vec<u8>,
@@ -69,10 +70,12 @@ impl LineJob for BlockLines {
 
     type Fault = NeverBad;
 
+    // A job that read lines has the block after their last empty line, and whether a text before was refused.
     ghost follows = { λ job lines. reading_held job.block.items job.is_refused ≡ reading_of lines };
 
     ghost answer = { line_answer };
 
+    /// Adds `line` to the block; or where it is empty, puts the answer to the block into `text`, and begins a block.
     fn read_line(
         &mut self,
         alloc: Global,
@@ -98,9 +101,9 @@ impl LineJob for BlockLines {
 }
 
 /// Reads texts of messages, with an empty line after each, and writes the answer to each: its canonical packet in hex
-/// as [`encode_text`] has it, or in its place a line `refused BadLine N`, with the number of its bad line within it.
+/// as [`encode_text`] has it, or in its place `refused BadLine N`, where N is a line's number in the text, from 1 on.
 ///
-/// An empty line that has no line before it says nothing, and the end of the stream is the end of a line. The answers
+/// An empty line without a text before it has no answer, and the end of the stream is the end of a line. The answers
 /// to the texts that are over are written before more is read. A line may have 16,777,216 bytes, and there may be any
 /// number of texts.
 pub fn encode_blocks<R: Read, W: Write>(

@@ -1,4 +1,4 @@
-//! A text, and the packet of the message that it is the text of.
+//! Encodes the text of a message: gives its canonical packet, if the packet is decoded to this very text.
 
 ghost use Rattle.std.specs.Prelude.{◌≡◌, ◌+◌, ◌≤◌, ◌==◌, ℕ, Ok, Err, IfOk, codes, filter, length, take};
 ghost use Rattle.std.specs.Option.{option_map};
@@ -17,15 +17,15 @@ use thiserror::Error;
 /// Why a text has no packet.
 #[derive(Clone, Copy, Debug, PartialEq, Eq, Error)]
 pub enum EncodeTextFault {
-    /// It is the text of no message with a canonical packet: its line of this number, counted from 1, is the first that
-    /// isn't that of the message that its lines mean.
+    /// The text is of no canonical packet. Its first line, counted from 1, that differs from the text of the canonical
+    /// packet of the message that its lines mean; 1 where they mean none.
     #[error("line {0} is not that of a message's text")]
     BadLine(u64),
     #[error("out of memory")]
     OutOfMemory,
 }
 
-/// How many first bytes two texts have in common.
+/// How many bytes at their beginning `text` and `other` have in common.
 #[tactic(auto, using(crate::proofs::ListLaws::common_nothing))]
 fn common_len(text: &[u8], other: &[u8]) -> usize
     ensures count { result ≡ common text.now other.now }
@@ -38,7 +38,7 @@ fn common_len(text: &[u8], other: &[u8]) -> usize
     len
 }
 
-/// How many newlines a text has.
+/// How many newlines `text` has.
 fn count_newlines(text: &[u8]) -> usize
     ensures within { result ≤ length text.now }
     ensures count { result ≡ length (filter (λ b. b == 10) text.now) }
@@ -46,7 +46,7 @@ fn count_newlines(text: &[u8]) -> usize
     text.iter().filter(|b| **b == b'\n').count()
 }
 
-/// The number of the line in which a text first differs from another, counted from 1.
+/// The number of the first line of `text`, counted from 1, in which it differs from `other`.
 fn first_other_line(text: &[u8], other: &[u8]) -> u64
     ensures { result ≡ other_line text.now other.now }
 {
@@ -54,8 +54,8 @@ fn first_other_line(text: &[u8], other: &[u8]) -> u64
     count_newlines(&text[..len]) as u64 + 1
 }
 
-/// The text that a packet is decoded to; no bytes where it is refused.
-fn text_said(alloc: Global, packet: &[u8]) -> Result<Vec<u8>, AllocError>
+/// The text that `packet` is decoded to; no bytes where it is refused.
+fn text_of_packet(alloc: Global, packet: &[u8]) -> Result<Vec<u8>, AllocError>
     ensures { IfOk result (λ text. text.items ≡ said_by (text_or_fault (decoded packet.now))) }
 {
     match decode_text(alloc, packet) {
@@ -65,33 +65,33 @@ fn text_said(alloc: Global, packet: &[u8]) -> Result<Vec<u8>, AllocError>
     }
 }
 
-/// The packet of a text, by the definition.
+/// What [`encode_text`] gives, which promises more of it: the packet of `text`, or the first line that differs.
 #[tactic(auto, unfolding(crate::specs::Encoded::encoded))]
 fn encode_exactly(alloc: Global, text: &[u8]) -> Result<Vec<u8>, EncodeTextFault>
     ensures packet { IfOk result (λ packet. encoded text.now ≡ Ok packet.items) }
     ensures refused { (line : ℕ) → result ≡ Err (BadLine line) → encoded text.now ≡ Err line }
 {
-    let Ok(found) = packet_of_text(alloc, text) else {
+    let Ok(packet) = packet_of_text(alloc, text) else {
         return Err(EncodeTextFault::OutOfMemory);
     };
-    let Some(packet) = found else {
+    let Some(packet) = packet else {
         return Err(EncodeTextFault::BadLine(first_other_line(text, &[])));
     };
-    let Ok(said) = text_said(alloc, packet.as_slice()) else {
+    let Ok(decoded_text) = text_of_packet(alloc, packet.as_slice()) else {
         return Err(EncodeTextFault::OutOfMemory);
     };
-    if said.as_slice() == text {
+    if decoded_text.as_slice() == text {
         Ok(packet)
     } else {
-        Err(EncodeTextFault::BadLine(first_other_line(text, said.as_slice())))
+        Err(EncodeTextFault::BadLine(first_other_line(text, decoded_text.as_slice())))
     }
 }
 
-/// The canonical packet of the message that has this text, as [`serf_text::decode_text`] writes it.
+/// The canonical packet of the message whose text is `text`, as [`serf_text::decode_text`] writes it.
 ///
-/// A text that is no message's is a `BadLine`, and so is that of a message whose canonical packet has another text: a
-/// push/pull's slot of a time without events, which the canonical packet has as nil. The text that a canonical packet is
-/// decoded to is taken ([`crate::know_texts_taken`]).
+/// A text of no message is a `BadLine`, and so is a text whose message has a canonical packet of another text: one with a
+/// push/pull's slot of a time without events, which the canonical packet has as nil. Each text that a canonical packet
+/// is decoded to is encoded to this packet ([`crate::know_texts_taken`]).
 #[tactic(auto, using(crate::proofs::TakenLaws::decodes_to_text, crate::proofs::TakenLaws::is_canonical))]
 pub fn encode_text(alloc: Global, text: &[u8]) -> Result<Vec<u8>, EncodeTextFault>
     // The packet, or the first line for which there is none, is that of the definition.

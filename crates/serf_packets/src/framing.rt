@@ -1,10 +1,9 @@
-//! Packets of memberlist's own, and its framing, which stands around what Serf reads.
+//! Recognizes packets of memberlist, the library below Serf: its own messages, and those that stand around Serf's.
 
 ghost use Rattle.std.specs.Prelude.{◌≡◌};
 ghost use Rattle.serf_packets.specs.Framing.{framing_in, has_text as has_text_in, own_in};
 
-/// A message of memberlist, by its first byte: one that may stand around a message of Serf, or one of its own
-/// (memberlist's `net.go`).
+/// A kind of memberlist's messages, by the first byte (its `net.go`). All but `Probe` and `Rumour` have messages inside.
 #[derive(Clone, Copy, Debug, PartialEq, Eq)]
 pub enum Framing {
     /// 0 to 2, with the key `SeqNo` somewhere after: a ping, an indirect ping or an ack.
@@ -15,13 +14,13 @@ pub enum Framing {
     Compound,
     /// 8: a message of Serf stands after this byte.
     User,
-    /// 9: compressed.
+    /// 9: a compressed message stands after this byte.
     Compressed,
-    /// 12: a checksum comes before the message.
+    /// 12: a checksum stands after this byte, and then the message.
     Checksum,
 }
 
-/// Whether a text stands somewhere in the bytes.
+/// Whether `text` stands somewhere in `bytes`.
 fn has_text(text: &[u8], bytes: &[u8]) -> bool
     ensures { result ≡ has_text_in text.now bytes.now }
 {
@@ -37,7 +36,7 @@ fn has_text(text: &[u8], bytes: &[u8]) -> bool
     }
 }
 
-/// Memberlist's own message, where the key of all of its kind stands in it.
+/// `framing`, if `rest`, a packet without its first byte, has the `key` that all messages of this kind have; else `None`.
 fn own_of(framing: Framing, key: &[u8], rest: &[u8]) -> Option<Framing>
     ensures { result ≡ own_in framing key.now rest.now }
 {
@@ -48,8 +47,8 @@ fn own_of(framing: Framing, key: &[u8], rest: &[u8]) -> Option<Framing>
     }
 }
 
-/// The framing that a packet begins with, or that it is memberlist's own: first byte 7, 9 or 12, or 8 with the type of a
-/// Serf message (0 to 9) after it; or 0 to 5 with a key after it that all messages of memberlist of this type have.
+/// The kind of memberlist's message as which `packet` begins, if any: first byte 7, 9 or 12, or 8 with the type of a Serf
+/// message (0 to 9) after it; or 0 to 5 with a key after it that all messages of memberlist of this type have.
 ///
 /// 0 to 5, 7, 8 and 9 are also types of Serf's own messages, so a packet of Serf may be taken for memberlist's: a key
 /// response, a relay, or one with that key in a name or a payload. Takes no memory.

@@ -1,4 +1,4 @@
-//! Packets in hex, a line each.
+//! Decodes packets in bulk: answers each line of hex by the text of its packet's message.
 
 ghost use Rattle.std.specs.Prelude.{◌≡◌, ◌++◌, [], Ok, List, ℕ, IfErr, IfOk, OnOk, codes};
 ghost use Rattle.std.specs.List.{list_any};
@@ -18,18 +18,18 @@ use std::alloc::{AllocError, Global};
 use std::io::{Read, Write};
 use thiserror::Error;
 
-/// A line is not hex: it has a byte that is no hex digit, or an odd number of them.
+/// A line is not hex: it has a byte that is no hex digit, or an odd number of digits.
 #[derive(Clone, Copy, Debug, PartialEq, Eq, Error)]
 #[error("the line is not hex")]
 pub struct BadHex;
 
-/// Is told of each packet that begins as memberlist's framing, or is its own. What it does changes nothing of the answers.
+/// Is told of each packet that begins as a message of memberlist. What it does changes no answer.
 pub trait FramingNotes {
-    /// The packet in the line of this number, counted from 1, begins so. The number stops at 2^64 - 1.
+    /// The packet on line number `line`, counted from 1, begins as `framing`. The number stops at 2^64 - 1.
     fn framed(&mut self, line: u64, framing: Framing);
 }
 
-/// Appends the line that stands in the place of a message, and an empty line.
+/// Appends to `out` the answer to a packet that is refused: a line `refused` with `words`, its fault, and an empty line.
 fn put_refusal(alloc: Global, words: WireWords, out: &mut Vec<u8>) -> Result<(), AllocError>
     ensures { OnOk result (out.new.items ≡ out.old.items
         ++ (codes "refused " ++ wire_text words.fault ++ codes "\n\n")) }
@@ -38,7 +38,7 @@ fn put_refusal(alloc: Global, words: WireWords, out: &mut Vec<u8>) -> Result<(),
     out.extend_from_slice(text.as_bytes())
 }
 
-/// Appends the answer to a packet, and says whether it is refused.
+/// Appends to `out` the answer to `packet`: its text or its refusal, and an empty line. Gives whether it is refused.
 fn put_answer(alloc: Global, packet: &[u8], out: &mut Vec<u8>) -> Result<bool, AllocError>
     ensures text { OnOk result (out.new.items ≡ out.old.items ++ packet_answer packet.now) }
     ensures refused { IfOk result (λ refused. refused ≡ is_refused (decoded packet.now)) }
@@ -57,7 +57,8 @@ fn put_answer(alloc: Global, packet: &[u8], out: &mut Vec<u8>) -> Result<bool, A
     }
 }
 
-/// Answers packets, and keeps whether one was refused.
+/// Answers lines of hex, and tells `notes` of packets of memberlist. `number` is the next line's, counted from 1, and
+/// `is_refused` says whether a packet was refused so far.
 #[derive(Drop)]
 struct PacketLines<'a, N> {
     notes: &'a mut N,
@@ -72,10 +73,12 @@ impl<N: FramingNotes> LineJob for PacketLines<'_, N> {
 
     type Fault = BadHex;
 
+    // A job that answered lines knows whether a packet of theirs was refused.
     ghost follows = { λ job lines. job.is_refused ≡ list_any refuses_line lines };
 
     ghost answer = { line_answer };
 
+    /// Puts the answer to `line`, a packet in hex, into `text`, which is empty before.
     fn read_line(
         &mut self,
         alloc: Global,
@@ -106,11 +109,11 @@ impl<N: FramingNotes> LineJob for PacketLines<'_, N> {
 }
 
 /// Reads packets in hex, a line each, and writes the answer to each: its message's text as [`serf_text::decode_text`]
-/// has it, or in its place a line `refused FAULT`; and then an empty line. A line without bytes says nothing. On `Ok` it
-/// says whether a packet was refused.
+/// has it, or in its place a line `refused FAULT`; and then an empty line. A line without bytes has no answer. `Ok` has
+/// whether a packet was refused. `notes` is told of the packets that begin as a message of memberlist.
 ///
 /// The answers to the lines that are over are written before more is read. A line may have 16,777,216 bytes, and there
-/// may be any number of lines. A line that is not hex ends it, after the answers to those before.
+/// may be any number of lines. A line that is not hex ends the reading, after the answers to the lines before it.
 pub fn decode_lines<R: Read, W: Write, N: FramingNotes>(
     alloc: Global,
     reader: &mut R,

@@ -1,5 +1,5 @@
-//! Packets in bulk: a packet in hex a line in, the text of each out; and back, what `decode_text` writes of a message
-//! in, its canonical packet out.
+//! Packets in bulk, both ways: reads packets in hex, one on each line, and writes the text of each; and reads texts of
+//! messages, and writes the canonical packet of each (docs/SPEC.md, "The text of a packet").
 #![tactic(auto)]
 
 mod blocks;

@@ -1,4 +1,4 @@
-//! What the values of fields mean.
+//! Reads the values of fields. A bad value counts as 0 or empty: the text is refused later, when it is compared.
 
 ghost use Rattle.std.specs.Prelude.{◌≡◌, ◌≤◌, ◌<◌, ◌++◌, ◌∷◌, [], ℤ, pos, IfOk, OnOk, Some, map, filter};
 ghost use Rattle.std.specs.Str.{bytes_eq};
@@ -14,7 +14,7 @@ use serf_text::number;
 use serf_wire::Bytes;
 use std::alloc::{AllocError, Global};
 
-/// The number up to this one that a word says, or 0.
+/// The number that `word` says in decimal, if it is at most `top`; else 0.
 pub(crate) fn number_to(word: &[u8], top: u64) -> u64
     ensures said { result ≡ number_up_to top word.now }
     ensures within { result ≤ top }
@@ -25,17 +25,18 @@ pub(crate) fn number_to(word: &[u8], top: u64) -> u64
     }
 }
 
-/// The time that a word says, or 0.
+/// The Lamport time that `word` says in decimal, if it is one; else 0.
 pub(crate) fn time_in(word: &[u8]) -> Time
     ensures { result ≡ number_up_to last_time word.now }
 {
     match Time::new(number_to(word, u64::MAX - 1)) {
         Some(time) => time,
+        // A number below 2^64 - 1 is a time.
         None => unreachable!(),
     }
 }
 
-/// This number with a minus before it, from 64 bits with a sign; or 0.
+/// The number -`n`, if it fits into 64 bits with a sign; else 0.
 fn negated(n: u64) -> i64
     ensures { result ≡ below_zero n }
 {
@@ -45,7 +46,7 @@ fn negated(n: u64) -> i64
     -1 - ((n - 1) as i64)
 }
 
-/// The number with its sign that a word says, or 0.
+/// The number that `word` says in decimal, with or without a minus, if it fits into 64 bits with a sign; else 0.
 pub(crate) fn signed_in(word: &[u8]) -> i64
     ensures { result ≡ signed_meant word.now }
 {
@@ -55,7 +56,7 @@ pub(crate) fn signed_in(word: &[u8]) -> i64
     }
 }
 
-/// The bytes that a word says in hex, or none.
+/// The bytes that `word` says in hex; none where it is `-`, or is not hex.
 pub(crate) fn bytes_in(alloc: Global, word: &[u8]) -> Result<Bytes, AllocError>
     ensures { IfOk result (λ bytes. bytes ≡ bytes_meant word.now) }
 {
@@ -69,7 +70,7 @@ pub(crate) fn bytes_in(alloc: Global, word: &[u8]) -> Result<Bytes, AllocError>
     }
 }
 
-/// The number of a field.
+/// The number that the field `name` has in `rows`, if it is at most `top`; else 0.
 pub(crate) fn number_field(rows: &[Row], name: &[u8], top: u64) -> u64
     ensures said { result ≡ number_at top name.now (map row_seen rows.now) }
     ensures within { result ≤ top }
@@ -77,14 +78,14 @@ pub(crate) fn number_field(rows: &[Row], name: &[u8], top: u64) -> u64
     number_to(value(rows, name), top)
 }
 
-/// The bytes of a field.
+/// The bytes that the field `name` has in `rows`; none where it has no row, or no hex.
 pub(crate) fn bytes_field(alloc: Global, rows: &[Row], name: &[u8]) -> Result<Bytes, AllocError>
     ensures { IfOk result (λ bytes. bytes ≡ bytes_at name.now (map row_seen rows.now)) }
 {
     bytes_in(alloc, value(rows, name))
 }
 
-/// Puts what a line of this name says after the others.
+/// Adds to `texts` the bytes that `row` says, if it is of the field `name`.
 fn take_text(
     alloc: Global,
     texts: &mut Vec<Bytes>,
@@ -102,7 +103,7 @@ fn take_text(
     Ok(())
 }
 
-/// The bytes of all lines of this name.
+/// The bytes that each row of the field `name` says, in order.
 pub(crate) fn texts_field(
     alloc: Global,
     rows: &[Row],

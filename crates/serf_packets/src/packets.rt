@@ -1,4 +1,4 @@
-//! The packets of messages.
+//! The canonical packet of the message that a text means, by the rows of the text.
 
 ghost use Rattle.std.specs.Prelude.{◌≡◌, ◌∷◌, [], IfOk, MatchOption, Some, None, codes, map};
 ghost use Rattle.std.specs.Option.{option_map};
@@ -10,16 +10,16 @@ ghost use Rattle.serf_packets.specs.States.{IsPacketOf};
 
 use crate::meant::{bytes_field, number_field, signed_in, texts_field, time_in};
 use crate::row::{Row, rows_of_text, value};
-use crate::slots::encode_state;
+use crate::slots::push_pull_packet;
 use serf_wire::{
     Bytes, EncodeFault, Query, QueryResponse, UserEvent, encode_query, encode_response,
     encode_user_event,
 };
 use std::alloc::{AllocError, Global};
 
-/// The packet of a user event, from the rows of its text.
+/// The canonical packet of the user event that `rows` mean. A missing or bad field is 0 or empty.
 #[tactic(auto, unfolding(crate::specs::Meant::event_meant))]
-fn encode_event(alloc: Global, rows: &[Row]) -> Result<Vec<u8>, EncodeFault>
+fn event_packet(alloc: Global, rows: &[Row]) -> Result<Vec<u8>, EncodeFault>
     ensures { IsPacketOf (λ p. p.items) result (event_meant (map row_seen rows.now)) }
 {
     let name = bytes_field(alloc, rows, b"Name")?;
@@ -33,16 +33,16 @@ fn encode_event(alloc: Global, rows: &[Row]) -> Result<Vec<u8>, EncodeFault>
     encode_user_event(alloc, &event)
 }
 
-/// The packet of a query.
+/// The canonical packet of the query `parts`. A function of its own: [`query_packet`] is proved by its clause.
 fn write_query(alloc: Global, parts: &Query<&[Bytes]>) -> Result<Vec<u8>, EncodeFault>
     ensures { IsPacketOf (λ p. p.items) result (query (query_of parts.now)) }
 {
     encode_query(alloc, parts)
 }
 
-/// The packet of a query, from the rows of its text.
+/// The canonical packet of the query that `rows` mean. A missing or bad field is 0 or empty.
 #[tactic(auto, unfolding(crate::specs::Meant::query_meant))]
-fn encode_question(alloc: Global, rows: &[Row]) -> Result<Vec<u8>, EncodeFault>
+fn query_packet(alloc: Global, rows: &[Row]) -> Result<Vec<u8>, EncodeFault>
     ensures { IsPacketOf (λ p. p.items) result (query (query_meant (map row_seen rows.now))) }
 {
     let addr = bytes_field(alloc, rows, b"Addr")?;
@@ -66,26 +66,26 @@ fn encode_question(alloc: Global, rows: &[Row]) -> Result<Vec<u8>, EncodeFault>
     write_query(alloc, &parts)
 }
 
-/// The packet of an ack or a response, from the rows of its text.
+/// The canonical packet of the ack or the response that `rows` mean. A missing or bad field is 0 or empty.
 #[tactic(auto, unfolding(crate::specs::Meant::response_meant))]
-fn encode_answer(alloc: Global, rows: &[Row]) -> Result<Vec<u8>, EncodeFault>
+fn response_packet(alloc: Global, rows: &[Row]) -> Result<Vec<u8>, EncodeFault>
     ensures { IsPacketOf (λ p. p.items) result (response_meant (map row_seen rows.now)) }
 {
     let from = bytes_field(alloc, rows, b"From")?;
     let payload = bytes_field(alloc, rows, b"Payload")?;
-    let answer = QueryResponse {
+    let response = QueryResponse {
         time: number_field(rows, b"LTime", u64::MAX),
         id: number_field(rows, b"ID", 4_294_967_295) as u32,
         from: from.as_slice(),
         flags: number_field(rows, b"Flags", 4_294_967_295) as u32,
         payload: payload.as_slice(),
     };
-    encode_response(alloc, &answer)
+    encode_response(alloc, &response)
 }
 
-/// The packet of another message, from the rows of its text.
+/// The packet of a foreign message: one byte, its type, which the row `foreign` of `rows` says.
 #[tactic(auto, unfolding(serf_wire::specs::Canonical::canonical, serf_wire::specs::Canonical::has_long))]
-fn encode_foreign(alloc: Global, rows: &[Row]) -> Result<Vec<u8>, EncodeFault>
+fn foreign_packet(alloc: Global, rows: &[Row]) -> Result<Vec<u8>, EncodeFault>
     ensures { IsPacketOf (λ p. p.items) result
         (foreign (number_at 255 (codes "foreign") (map row_seen rows.now))) }
 {
@@ -93,29 +93,29 @@ fn encode_foreign(alloc: Global, rows: &[Row]) -> Result<Vec<u8>, EncodeFault>
     Ok(Vec::from_slice(alloc, &[kind])?)
 }
 
-/// The packet of the message that lines mean, by the first of them; `None` where they mean none.
+/// The canonical packet of the message that `rows` mean; `None` if `kind`, the name of the first row, is no message's.
 #[tactic(auto, unfolding(crate::specs::Meant::meant_by))]
-fn encode_kind(alloc: Global, kind: &[u8], rows: &[Row]) -> Option<Result<Vec<u8>, EncodeFault>>
+fn packet_of_kind(alloc: Global, kind: &[u8], rows: &[Row]) -> Option<Result<Vec<u8>, EncodeFault>>
     ensures { MatchOption result (meant_by kind.now (map row_seen rows.now) ≡ None)
         (λ packet. (m : Message) × (meant_by kind.now (map row_seen rows.now) ≡ Some m)
         × IsPacketOf (λ p. p.items) packet m) }
 {
     if kind == b"userEvent".as_slice() {
-        Some(encode_event(alloc, rows))
+        Some(event_packet(alloc, rows))
     } else if kind == b"query".as_slice() {
-        Some(encode_question(alloc, rows))
+        Some(query_packet(alloc, rows))
     } else if kind == b"queryResponse".as_slice() {
-        Some(encode_answer(alloc, rows))
+        Some(response_packet(alloc, rows))
     } else if kind == b"pushPull".as_slice() {
-        Some(encode_state(alloc, rows))
+        Some(push_pull_packet(alloc, rows))
     } else if kind == b"foreign".as_slice() {
-        Some(encode_foreign(alloc, rows))
+        Some(foreign_packet(alloc, rows))
     } else {
         None
     }
 }
 
-/// The packet of the message that a text means; `None` where it means none, or one that is too long for a packet.
+/// The canonical packet of the message that `text` means; `None` if it means none, or one that is too long for a packet.
 pub(crate) fn packet_of_text(alloc: Global, text: &[u8]) -> Result<Option<Vec<u8>>, AllocError>
     ensures { IfOk result (λ packet. option_map (λ p. p.items) packet ≡ packet_meant text.now) }
 {
@@ -124,7 +124,7 @@ pub(crate) fn packet_of_text(alloc: Global, text: &[u8]) -> Result<Option<Vec<u8
         Some(row) => row.name,
         None => &[],
     };
-    match encode_kind(alloc, kind, rows.as_slice()) {
+    match packet_of_kind(alloc, kind, rows.as_slice()) {
         Some(Ok(packet)) => Ok(Some(packet)),
         Some(Err(EncodeFault::TooLong)) | None => Ok(None),
         Some(Err(EncodeFault::OutOfMemory)) => Err(AllocError),

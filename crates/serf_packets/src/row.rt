@@ -1,4 +1,4 @@
-//! The lines of a text, cut at their spaces.
+//! The rows of a message's text: its lines, each cut at its spaces into the name of a field and its values.
 
 ghost use Rattle.std.specs.Prelude.{◌≡◌, Some, IfOk, drop, map, slice_get, unwrap_or, []};
 ghost use Rattle.std.specs.List.{find};
@@ -9,7 +9,7 @@ ghost use Rattle.serf_packets.specs.Rows.{parts_left, row_in, row_seen, rows_in,
 use serf_text::cut;
 use std::alloc::{AllocError, Global};
 
-/// A line: the name of a field, and its values. What is not there has no bytes.
+/// A line of a text, cut at its spaces: a field's name, its first value and its second. What is not there has no bytes.
 #[derive(Clone, Copy, Debug)]
 pub(crate) struct Row<'a> {
     pub(crate) name: &'a [u8],
@@ -17,7 +17,7 @@ pub(crate) struct Row<'a> {
     pub(crate) second: &'a [u8],
 }
 
-/// The next part of a line, and what is left after its space.
+/// The part of `line` before its first space, and the rest after it, if it has one. No bytes where there is no line.
 fn next_part(line: Option<&[u8]>) -> (&[u8], Option<&[u8]>)
     ensures part { result.0.now ≡ part 0 (parts_left (option_map (λ l. l.now) line.entry)) }
     ensures left { parts_left (option_map (λ l. l.now) result.1)
@@ -29,7 +29,7 @@ fn next_part(line: Option<&[u8]>) -> (&[u8], Option<&[u8]>)
     }
 }
 
-/// A line, cut at its spaces.
+/// The row of `line`: its first three parts between spaces.
 pub(crate) fn row_of(line: &[u8]) -> Row<'_>
     ensures { row_seen result ≡ row_in line.now }
 {
@@ -43,7 +43,7 @@ pub(crate) fn row_of(line: &[u8]) -> Row<'_>
     }
 }
 
-/// The lines of a text, each cut at its spaces.
+/// The rows of the lines of `text`, in order; the last line is what stands after the last newline, and may be empty.
 pub(crate) fn rows_of_text<'a>(alloc: Global, text: &'a [u8]) -> Result<Vec<Row<'a>>, AllocError>
     ensures { IfOk result (λ rows. map row_seen rows.items ≡ rows_in text.entry.now) }
 {
@@ -59,14 +59,14 @@ pub(crate) fn rows_of_text<'a>(alloc: Global, text: &'a [u8]) -> Result<Vec<Row<
     }
 }
 
-/// Whether a line has this name.
+/// Whether `row` is of the field `name`.
 pub(crate) fn is_named(row: &Row, name: &[u8]) -> bool
     ensures { result ≡ bytes_eq row.now.name.now name.now }
 {
     row.name == name
 }
 
-/// The first value of the first line of this name, or no bytes.
+/// The first value of the first of `rows` that is of the field `name`; no bytes where none is.
 pub(crate) fn value<'a>(rows: &[Row<'a>], name: &[u8]) -> &'a [u8]
     ensures { result.now ≡ value_of name.now (map row_seen rows.now) }
 {

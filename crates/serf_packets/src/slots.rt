@@ -1,4 +1,4 @@
-//! A push/pull's packet, from the lines of its text.
+//! The canonical packet of a push/pull, by the rows of its text.
 
 ghost use Rattle.std.specs.Prelude.{◌≡◌, ◌++◌, ◌∷◌, [], IfOk, OnOk, Some, map};
 ghost use Rattle.std.specs.List.{fold};
@@ -17,14 +17,14 @@ use serf_wire::{
 };
 use std::alloc::{AllocError, Global};
 
-/// A member's name and its time.
+/// A member of a push/pull: its name, and the Lamport time of its status.
 #[derive(Debug, Drop)]
 pub(crate) struct Member {
     pub(crate) name: Bytes,
     pub(crate) time: u64,
 }
 
-/// Puts the member that a line says after the others.
+/// Adds to `members` the member that `row` names, if it is a `status` row: `status NAME TIME`.
 fn take_member(alloc: Global, members: &mut Vec<Member>, row: &Row) -> Result<(), AllocError>
     ensures { OnOk result (map member_held members.new.items ≡ map member_held members.old.items
         ++ members_of (row_seen row.now ∷ [])) }
@@ -38,7 +38,7 @@ fn take_member(alloc: Global, members: &mut Vec<Member>, row: &Row) -> Result<()
     Ok(())
 }
 
-/// The members that the rows of a text name, with their status times.
+/// The members that the `status` rows of `rows` name, with their status times, in order.
 fn members_in(alloc: Global, rows: &[Row]) -> Result<Vec<Member>, AllocError>
     ensures { IfOk result (λ members. map member_held members.items
         ≡ members_of (map row_seen rows.now)) }
@@ -50,7 +50,7 @@ fn members_in(alloc: Global, rows: &[Row]) -> Result<Vec<Member>, AllocError>
     Ok(members)
 }
 
-/// Members with their status times, lent.
+/// The names and status times of `members`, lent, in the form that [`PushPullParts`] takes.
 fn lend_members<'a>(alloc: Global, members: &'a [Member]) -> Result<Vec<StatusTime<'a>>, AllocError>
     ensures { IfOk result (λ status. map status_of status.items
         ≡ map member_held members.entry.now) }
@@ -65,7 +65,7 @@ fn lend_members<'a>(alloc: Global, members: &'a [Member]) -> Result<Vec<StatusTi
     Ok(status)
 }
 
-/// Texts, lent.
+/// The bytes of each of `texts`, lent, in the form that [`PushPullParts`] takes.
 fn lend_texts<'a>(alloc: Global, texts: &'a [Bytes]) -> Result<Vec<&'a [u8]>, AllocError>
     ensures { IfOk result (λ lent. map (λ t. t.now) lent.items ≡ texts.entry.now) }
 {
@@ -76,7 +76,7 @@ fn lend_texts<'a>(alloc: Global, texts: &'a [Bytes]) -> Result<Vec<&'a [u8]>, Al
     Ok(lent)
 }
 
-/// Puts an event into the last slot, where there is one.
+/// Adds `event` to the last slot of `slots`; does nothing where there is none.
 #[tactic(auto, using(crate::proofs::ListLaws::last_changed))]
 fn add_event(slots: &mut Vec<Slot>, event: EventBody) -> Result<(), AllocError>
     ensures { OnOk result (map slot_content slots.new.items
@@ -91,7 +91,8 @@ fn add_event(slots: &mut Vec<Slot>, event: EventBody) -> Result<(), AllocError>
     Ok(())
 }
 
-/// Takes what a line says of the slots.
+/// Takes in `row`: `slot I TIME` begins a slot, and `event NAME PAYLOAD` adds an event to the last one. `slot I nil`
+/// begins a slot of time 0. Any other row changes nothing.
 fn take_slot(alloc: Global, slots: &mut Vec<Slot>, row: &Row) -> Result<(), AllocError>
     ensures { OnOk result (map slot_content slots.new.items
         ≡ after_row (map slot_content slots.old.items) (row_seen row.now)) }
@@ -112,7 +113,7 @@ fn take_slot(alloc: Global, slots: &mut Vec<Slot>, row: &Row) -> Result<(), Allo
     }
 }
 
-/// The slots that the rows of a text name.
+/// The slots that `rows` name, with their events, in order.
 fn slots_in(alloc: Global, rows: &[Row]) -> Result<Vec<Slot>, AllocError>
     ensures { IfOk result (λ slots. map slot_content slots.items
         ≡ slots_meant (map row_seen rows.now)) }
@@ -124,31 +125,31 @@ fn slots_in(alloc: Global, rows: &[Row]) -> Result<Vec<Slot>, AllocError>
     Ok(slots)
 }
 
-/// The packet of a push/pull.
+/// The canonical packet of the push/pull `parts`. A function of its own: [`push_pull_packet`] is proved by its clause.
 fn write_push_pull(alloc: Global, parts: &PushPullParts) -> Result<Vec<u8>, EncodeFault>
     ensures { IsPacketOf (λ p. p.items) result (push_pull (push_pull_of parts.now)) }
 {
     encode_push_pull(alloc, parts)
 }
 
-/// The packet of a push/pull.
+/// The canonical packet of the push/pull that `rows` mean, with their slots alone. A missing or bad field is 0 or empty.
 #[tactic(auto, unfolding(crate::specs::Meant::push_pull_meant))]
-pub(crate) fn encode_state(alloc: Global, rows: &[Row]) -> Result<Vec<u8>, EncodeFault>
+pub(crate) fn push_pull_packet(alloc: Global, rows: &[Row]) -> Result<Vec<u8>, EncodeFault>
     ensures { IsPacketOf (λ p. p.items) result
         (push_pull (push_pull_meant (map row_seen rows.now))) }
 {
     let members = members_in(alloc, rows)?;
     let status = lend_members(alloc, members.as_slice())?;
-    let texts = texts_field(alloc, rows, b"left")?;
-    let left = lend_texts(alloc, texts.as_slice())?;
+    let left_texts = texts_field(alloc, rows, b"left")?;
+    let left_members = lend_texts(alloc, left_texts.as_slice())?;
     let slots = slots_in(alloc, rows)?;
-    let buffer = LentSlots::of(slots.as_slice(), 0);
+    let lent_slots = LentSlots::of(slots.as_slice(), 0);
     let parts = PushPullParts {
         member_clock: number_field(rows, b"LTime", u64::MAX),
         status: status.as_slice(),
-        left: left.as_slice(),
+        left: left_members.as_slice(),
         event_clock: number_field(rows, b"EventLTime", u64::MAX),
-        slots: buffer,
+        slots: lent_slots,
         query_clock: number_field(rows, b"QueryLTime", u64::MAX),
     };
     write_push_pull(alloc, &parts)

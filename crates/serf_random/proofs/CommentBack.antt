@@ -1,19 +1,6 @@
 -- The text of a random schedule, whose first line is a comment, read back.
-use Rattle.std.proofs.Common.{◌≡◌, ◌+◌, ◌<◌, ◌≤◌, ◌^◌, ℕ, Bool, true, false, List, [], ◌∷◌, ◌++◌, length, Ok, refl, arith, length-append}
-use Rattle.std.specs.Prelude.{codes, decimal}
-use Rattle.std.specs.List.{AllByRecursion}
-use Rattle.std.proofs.lemmas.Fmt.{length-decimal-le}
-use Rattle.std.proofs.lemmas.List.Concat.{flat_map-append}
-use Rattle.serf_schedule.specs.Line.{Parsed}
-use Rattle.serf_schedule.specs.Schedule.{schedule_of}
-use Rattle.serf_schedule.specs.Comments.{CommentsAreSkipped, IsWord, NumbersAreWords}
-use Rattle.serf_random.specs.declared.ask.Ask.{Ask}
-use Rattle.serf_random.specs.declared.kind.Kind.{Kind}
+use Rattle.serf_random.proofs.Names.{Bool, List, Ok, [], arith, false, length, length-append, refl, true, ℕ, ◌++◌, ◌+◌, ◌<◌, ◌^◌, ◌∷◌, ◌≡◌, ◌≤◌, length-decimal-le, flat_map-append, AllByRecursion, codes, decimal, CommentsAreSkipped, IsWord, NumbersAreWords, Parsed, schedule_of, spaced, comment_words, rules_words, spread_of, asked_words, comment_text, seed_words, size_words, spread_words, HasNumbers, IsShort, is_rounds, kind_name, Ask, Kind}
 use Rattle.serf_random.specs.declared.kind.Kind.TheVariants as kinds
-use Rattle.serf_schedule.specs.ScheduleText.{spaced}
-use Rattle.serf_random.specs.Comment.{asked_words, comment_text, comment_words, rules_words, seed_words, size_words, spread_of, spread_words}
-use Rattle.serf_random.specs.Draft.{HasNumbers, IsShort}
-use Rattle.serf_random.specs.Kind.{is_rounds, kind_name}
 
 -- words of a line, which have so many bytes at most with a space before each
 record AreWords (most : ℕ) (words : List (List ℕ)) : Type 0 where

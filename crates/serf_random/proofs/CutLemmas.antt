@@ -1,24 +1,5 @@
 -- What is kept, as it grows action by action.
-use Rattle.std.proofs.Common.{◌≡◌, ◌∙◌, ℕ, Bool, true, false, ◌&&◌, List, [], ◌∷◌, ◌++◌, All, refl, sym, ap, subst}
-use Rattle.std.specs.List.{flat_map}
-use Rattle.std.specs.Prelude.{Option, Some, None, slice_get}
-use Rattle.std.proofs.lemmas.List.{flat_map_more}
-use Rattle.std.proofs.lemmas.List.Elements.{All-push}
-use Rattle.std.proofs.lemmas.List.Sums.{fold-append}
-use Rattle.serf_agent.specs.declared.config.Config.{Config}
-use Rattle.serf_model.specs.declared.action.Action.{Action}
-use Rattle.serf_model.specs.declared.action.Action.TheVariants.{Inject, Of}
-use Rattle.serf_model.specs.declared.line.Line.{Line}
-use Rattle.serf_model.specs.Cluster.{Cluster, IdealNode, Run, after, on_agent, run_of, start, step}
-use Rattle.serf_model.specs.Ready.{AreRepresentable}
-use Rattle.serf_world.specs.View.{IsViewed, TakesStep, WorldState}
-use Rattle.serf_model.specs.Common.{is_common_answer, restarts_commonly}
-use Rattle.serf_model.specs.Tails.{actor_keeps}
-use Rattle.serf_model.specs.Trace.{actor_of}
-use Rattle.serf_schedule.specs.Sayable.{IsSayable}
-use Rattle.serf_schedule.specs.ScheduleText.{action_text}
-use Rattle.serf_random.specs.Common.{IsCommon}
-use Rattle.serf_random.specs.Cut.{AddsLine, AddsNothing, AreKept, GoesOn, IsAlong, MayAdd}
+use Rattle.serf_random.proofs.Names.{All, Bool, List, [], ap, false, refl, subst, sym, true, ℕ, ◌&&◌, ◌++◌, ◌∙◌, ◌∷◌, ◌≡◌, flat_map_more, All-push, fold-append, flat_map, None, Option, Some, slice_get, Config, Cluster, IdealNode, Run, after, on_agent, run_of, start, step, is_common_answer, restarts_commonly, AreRepresentable, actor_keeps, actor_of, Action, Inject, Of, Line, IsViewed, TakesStep, WorldState, IsSayable, action_text, IsCommon, AddsLine, AddsNothing, AreKept, GoesOn, IsAlong, MayAdd}
 
 -- a turn is of the action that was done
 turn-action : (c : Cluster) (action : Action) → (step c action).turn.action ≡ action

@@ -1,14 +1,5 @@
 -- A schedule and its text, as both grow step by step.
-use Rattle.std.proofs.Common.{◌≡◌, ◌+◌, ◌≤◌, ◌∙◌, ℕ, List, [], ◌++◌, length-append, sym, ap, arith, append_assoc}
-use Rattle.std.specs.List.{flat_map}
-use Rattle.std.proofs.lemmas.List.{append-nil}
-use Rattle.std.proofs.lemmas.List.Concat.{flat_map-append}
-use Rattle.std.proofs.lemmas.List.Elements.{All-append, All-nil}
-use Rattle.serf_agent.specs.declared.config.Config.{Config}
-use Rattle.serf_model.specs.declared.action.Action.{Action}
-use Rattle.serf_schedule.specs.Sayable.{IsSayable}
-use Rattle.serf_schedule.specs.ScheduleText.{action_text, agent_text}
-use Rattle.serf_random.specs.Draft.{AddsActions, AddsAgents}
+use Rattle.serf_random.proofs.Names.{List, [], ap, append_assoc, arith, length-append, sym, ℕ, ◌++◌, ◌+◌, ◌∙◌, ◌≡◌, ◌≤◌, append-nil, flat_map-append, All-append, All-nil, flat_map, Config, Action, IsSayable, action_text, agent_text, AddsActions, AddsAgents}
 
 pub no_agents : (text : List ℕ) (agents : List Config) → AddsAgents text text agents agents
 no_agents text agents = record { added = []; agents = sym (append-nil agents); text = sym (append-nil text); short = λ s. s }

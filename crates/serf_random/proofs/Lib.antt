@@ -1,3 +1,4 @@
+pub mod Names
 pub mod CommentBack
 pub mod CutLemmas
 pub mod DraftLemmas

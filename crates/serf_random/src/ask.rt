@@ -26,26 +26,26 @@ pub const MAX_ROUNDS: u64 = 10_000;
 
 /// What a random schedule is asked for.
 ///
-/// The last three count for schedules of rounds alone ([`Kind::Rounds`]).
+/// `fanout`, `loss` and `rounds` count for schedules of rounds alone ([`Kind::Rounds`]).
 #[derive(Clone, Copy, PartialEq, Eq)]
 pub struct Ask {
-    /// The seed of its numbers.
+    /// The seed of the numbers by which the schedule is made.
     pub seed: u64,
     pub kind: Kind,
     /// How many agents it has: 0 stands for a number by the seed and the kind, and more than [`MAX_AGENTS`] (in rounds
-    /// [`MAX_ROUNDS_AGENTS`]) for those.
+    /// [`MAX_ROUNDS_AGENTS`]) for that many.
     pub agents: u64,
     /// How many actions it has at most.
     pub actions: u64,
-    /// To how many others an agent sends a packet in a round: more than [`MAX_FANOUT`] stand for those.
+    /// To how many others an agent sends a packet in a round: more than [`MAX_FANOUT`] stand for that many.
     pub fanout: u64,
     /// How many packets in a hundred are lost.
     pub loss: u64,
-    /// How many rounds it has: more than [`MAX_ROUNDS`] stand for those.
+    /// How many rounds it has: more than [`MAX_ROUNDS`] stand for that many.
     pub rounds: u64,
 }
 
-/// What is asked for has numbers of 64 bits. Does nothing.
+/// Tells the prover that the numbers of `ask` have 64 bits. Does nothing.
 pub(crate) fn know_numbers(ask: &Ask)
     ensures { HasNumbers ask.now }
 {
@@ -57,7 +57,7 @@ pub(crate) fn know_numbers(ask: &Ask)
     let _rounds = ask.rounds;
 }
 
-/// Appends a word and its number, with a space before each.
+/// Appends `word` and `number` to `out`, with a space before each.
 #[tactic(auto, unfolding(serf_text::specs::TextParts::with_number))]
 fn put_pair(out: &mut Vec<u8>, word: &[u8], number: u64) -> Result<(), AllocError>
     ensures { OnOk result (out.new.items ≡ out.old.items
@@ -67,7 +67,7 @@ fn put_pair(out: &mut Vec<u8>, word: &[u8], number: u64) -> Result<(), AllocErro
     put_with_number(out, word, number)
 }
 
-/// Appends the seed and the kind.
+/// Appends the seed and the kind of `ask` to `out`, as words.
 #[tactic(auto, unfolding(crate::specs::Comment::seed_words))]
 fn put_seed(out: &mut Vec<u8>, ask: &Ask) -> Result<(), AllocError>
     ensures { OnOk result (out.new.items ≡ out.old.items ++ spaced (seed_words ask.now)) }
@@ -77,7 +77,7 @@ fn put_seed(out: &mut Vec<u8>, ask: &Ask) -> Result<(), AllocError>
     out.extend_from_slice(ask.kind.name())
 }
 
-/// Appends how packets spread, where the kind goes by rounds.
+/// Appends to `out`, as words, how packets spread by `ask`, where its kind goes by rounds.
 #[tactic(auto, unfolding(crate::specs::Comment::spread_words))]
 fn put_spread(out: &mut Vec<u8>, ask: &Ask) -> Result<(), AllocError>
     ensures { OnOk result (out.new.items ≡ out.old.items ++ spaced (spread_words ask.now)) }
@@ -90,7 +90,7 @@ fn put_spread(out: &mut Vec<u8>, ask: &Ask) -> Result<(), AllocError>
     put_pair(out, b"--rounds", ask.rounds)
 }
 
-/// Appends all that was asked for.
+/// Appends all of `ask` to `out`, as words.
 #[tactic(auto, unfolding(crate::specs::Comment::asked_words, crate::specs::Comment::size_words))]
 fn put_asked(out: &mut Vec<u8>, ask: &Ask) -> Result<(), AllocError>
     ensures { OnOk result (out.new.items ≡ out.old.items ++ spaced (asked_words ask.now)) }
@@ -101,7 +101,7 @@ fn put_asked(out: &mut Vec<u8>, ask: &Ask) -> Result<(), AllocError>
     put_spread(out, ask)
 }
 
-/// Appends whose rules are kept, where these are Serf's own.
+/// Appends words to `out` which say that the schedule keeps to Serf's own rules, where it does (`is_common`).
 fn put_rules(out: &mut Vec<u8>, is_common: bool) -> Result<(), AllocError>
     ensures { OnOk result (out.new.items ≡ out.old.items ++ spaced (rules_words is_common)) }
 {
@@ -112,8 +112,8 @@ fn put_rules(out: &mut Vec<u8>, is_common: bool) -> Result<(), AllocError>
     }
 }
 
-/// Appends the comment that says what was asked for. It says whose rules are kept too, where these are Serf's own
-/// (`is_common`).
+/// Appends to `out` the comment that says `ask` and the generator's version, and that the schedule keeps to Serf's own
+/// rules, where it does (`is_common`).
 #[tactic(auto, unfolding(crate::specs::Comment::comment_text))]
 pub(crate) fn put_comment(out: &mut Vec<u8>, ask: &Ask, is_common: bool) -> Result<(), AllocError>
     ensures { OnOk result (out.new.items ≡ out.old.items ++ comment_text is_common ask.now) }

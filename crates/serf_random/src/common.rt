@@ -1,4 +1,4 @@
-//! A whole schedule that keeps to Serf's own rules.
+//! Makes a whole random schedule that keeps to Serf's own rules, and its text.
 
 ghost use Rattle.std.specs.Prelude.{◌≡◌, ◌≤◌, ◌+◌, ◌++◌, [], true, ℕ, IfOk, List, Ok, OnOk, length};
 ghost use Rattle.serf_schedule.specs.Schedule.{parsed_of, schedule_of};
@@ -20,11 +20,11 @@ use serf_text::MAX_SCHEDULE_BYTES;
 use serf_world::{Roster, World};
 use std::alloc::{AllocError, Global};
 
-/// How often actions are left out, at most: what is left runs otherwise, so that other turns may rest on a rule of our
-/// own then.
+/// In how many rounds actions are left out, at most: what is left runs otherwise than before, so that other turns may
+/// rest on a rule of this project's own then. (These rounds are no rounds of gossip.)
 const ROUNDS: u64 = 8;
 
-/// Does an action of a cluster of these agents, and keeps it where its turn is common.
+/// Does `action` in `world`, whose agents have the settings `configs`, and appends it to `kept` if its turn is common.
 fn keep_common(
     alloc: Global,
     configs: &[Config],
@@ -42,7 +42,7 @@ fn keep_common(
     Ok(())
 }
 
-/// The actions whose turns are common in the run of these.
+/// Those of `actions` whose turns are common where `agents` do all of `actions`.
 fn round(alloc: Global, agents: &Roster, actions: Vec<Action>) -> Result<Vec<Action>, AllocError>
     ensures few { IfOk result (λ kept. length kept.items ≤ length actions.items) }
 {
@@ -54,7 +54,7 @@ fn round(alloc: Global, agents: &Roster, actions: Vec<Action>) -> Result<Vec<Act
     Ok(kept)
 }
 
-/// The actions that are left after some rounds, in each of which those are left out whose turns aren't common.
+/// Those of `actions` that are left after some rounds, in each of which those are left out whose turns aren't common.
 fn in_rounds(
     alloc: Global,
     agents: &Roster,
@@ -73,7 +73,7 @@ fn in_rounds(
     Ok(kept)
 }
 
-/// Appends an action and its line, and says whether it did: not where the text would be too long.
+/// Appends `action` to `kept` and its line to `text`, and says whether it did: not where the text would be too long.
 fn add_line(text: &mut Vec<u8>, kept: &mut Vec<Action>, action: Action) -> Result<bool, AllocError>
     ensures { IfOk result (λ added.
         MayAdd added action text.old.items text.new.items kept.old.items kept.new.items) }
@@ -88,8 +88,8 @@ fn add_line(text: &mut Vec<u8>, kept: &mut Vec<Action>, action: Action) -> Resul
     Ok(true)
 }
 
-/// Does an action of a cluster of these agents, and appends it and its line where its turn is common. Says whether it
-/// did: another one may follow then.
+/// Does `action` in `world`, whose agents have the settings `configs`, and appends it to `kept` and its line to `text` if
+/// its turn is common. Says whether it did: another one may follow only then.
 fn add_turn(
     alloc: Global,
     configs: &[Config],
@@ -114,8 +114,8 @@ fn add_turn(
     add_line(text, kept, action)
 }
 
-/// Appends the lines of the first of these actions, up to one whose turn isn't common or whose line has no room, and
-/// gives them.
+/// The first of `actions`, up to one whose turn isn't common or whose line has no room, as `agents` do them; their lines
+/// are appended to `text`.
 fn add_common(
     alloc: Global,
     agents: &Roster,
@@ -143,7 +143,7 @@ fn add_common(
     Ok(kept)
 }
 
-/// Adds these agents and their lines, none of which keeps its events over a restart: that is a rule of this project's own.
+/// The `agents`, none of which now keeps its events over a restart, a rule of this project's own. `text` gets their lines.
 fn add_without_kept(alloc: Global, text: &mut Vec<u8>, agents: Roster) -> Result<Roster, AllocError>
     ensures { IfOk result (λ roster. AddsAgents text.old.items text.new.items [] roster) }
 {
@@ -158,13 +158,13 @@ fn add_without_kept(alloc: Global, text: &mut Vec<u8>, agents: Roster) -> Result
     Ok(roster)
 }
 
-/// A random schedule as it was asked for, of which what rests on a rule of this project's own is left out, and its text.
+/// A random schedule as `ask` asks for it, of which what rests on a rule of this project's own is left out, and its text.
 ///
 /// No agent keeps its events over a restart. Of the actions of [`random_schedule`] those are left out, in rounds,
 /// whose turns aren't common ([`serf_model::is_common_turn`]), and at last all from the first such on. The text begins
 /// with a comment that says what was asked for and whose rules are kept, and stands for just this schedule, so that it
-/// is never refused. It has at most so many actions as were asked for, and at most 16,777,216 bytes. `AllocError` comes
-/// where memory runs out. The watch is told of each action of [`random_schedule`].
+/// is never refused. It has at most as many actions as were asked for, and at most 16,777,216 bytes. `AllocError` comes
+/// where memory runs out. `watch` is told of each action of [`random_schedule`].
 pub fn common_schedule<T: Watch>(
     alloc: Global,
     ask: &Ask,
@@ -191,6 +191,7 @@ pub fn common_schedule<T: Watch>(
         agents,
         actions: kept,
     };
+    // (for the prover: the comment is skipped as the text is read, and the rest reads back as the schedule)
     comments_skipped();
     know_numbers(ask);
     know_read_back(&schedule);

@@ -1,4 +1,4 @@
-//! Numbers from a seed.
+//! Random numbers, all fixed by a seed, and what is chosen by them.
 
 ghost use Rattle.std.specs.Prelude.{◌≡◌, ◌==◌, ◌%◌, ◌<◌, if◌then◌else◌};
 ghost use Rattle.rand_xoshiro.specs.SplitMix64.{mix_u64};
@@ -25,7 +25,7 @@ impl Model for Dice {
 }
 
 impl Dice {
-    /// The numbers of a seed.
+    /// Dice whose numbers are those of `seed`.
     pub fn new(seed: u64) -> Dice
         ensures { result ≡ seed }
     {
@@ -42,7 +42,7 @@ impl Dice {
         self.words.next_word()
     }
 
-    /// The next number modulo a bound, or 0 where the bound is 0.
+    /// The next number modulo `bound`, which is below it; or 0 where it is 0.
     pub fn below(&mut self, bound: u64) -> u64
         ensures value { result ≡ (if bound == 0 then 0 else (mix_u64 self.old).0 % bound) }
         ensures state { self.new ≡ (mix_u64 self.old).1 }
@@ -51,12 +51,12 @@ impl Dice {
         if bound == 0 { 0 } else { number % bound }
     }
 
-    /// Whether the next number is 0 modulo this one.
+    /// Rolls whether something is done that is done one time in `bound`.
     pub(crate) fn one_in(&mut self, bound: u64) -> bool {
         self.below(bound) == 0
     }
 
-    /// A number at an edge of another one: itself, one less or one more.
+    /// `number` itself, one less or one more.
     pub(crate) fn near(&mut self, number: u64) -> u64 {
         match self.below(3) {
             0 => number,
@@ -65,10 +65,10 @@ impl Dice {
         }
     }
 
-    /// One of some things, or another one where there are none.
+    /// One of `things`, or `other` where there are none.
     pub(crate) fn pick<T: Copy>(&mut self, things: &[T], other: T) -> T {
-        let at = self.below(things.len() as u64);
-        match things.get(at as usize) {
+        let index = self.below(things.len() as u64);
+        match things.get(index as usize) {
             Some(thing) => *thing,
             None => other,
         }

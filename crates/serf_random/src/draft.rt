@@ -1,4 +1,4 @@
-//! A schedule and its text, as both grow, and what chooses the actions.
+//! A schedule and its text, as both grow line by line, and what chooses the actions.
 
 ghost use Rattle.std.specs.Prelude.{◌≡◌, [], IfOk, OnOk};
 ghost use Rattle.serf_random.specs.Draft.{AddsActions, AddsAgents};
@@ -10,7 +10,7 @@ use serf_text::MAX_SCHEDULE_BYTES;
 use serf_world::{Roster, RosterFault, World};
 use std::alloc::{AllocError, Global};
 
-/// Adds an agent and its line. Where it can't be added, or the text would be too long, both are as before.
+/// Adds an agent of `config` to `roster` and its line to `text`; neither where it can't be, or the text were too long.
 pub(crate) fn add_agent(
     alloc: Global,
     text: &mut Vec<u8>,
@@ -35,8 +35,8 @@ pub(crate) fn add_agent(
     }
 }
 
-/// Adds an action and its line, and says whether more may follow. Where the text would be too long, or a line can't say
-/// the action, both are as before.
+/// Adds `action` to `actions` and its line to `text`, and says whether more may follow: not where the text would be too
+/// long. There, and where a line can't say the action, both are as before.
 pub(crate) fn add_action(
     text: &mut Vec<u8>,
     actions: &mut Vec<Action>,
@@ -58,21 +58,21 @@ pub(crate) fn add_action(
     Ok(true)
 }
 
-/// What an agent does.
+/// The action by which agent number `agent` does `act`.
 pub(crate) fn done_by(agent: u64, act: Act) -> Action {
     Action::Of { agent, act }
 }
 
-/// What chooses one action after another.
+/// What chooses one action of a schedule after another.
 pub(crate) trait Course {
-    /// The next action in a cluster; `None` where there is no other.
+    /// The next action in the cluster `world`; `None` where there is no other.
     fn next_action(&mut self, world: &World) -> Result<Option<Action>, AllocError>;
 
-    /// Notes what an action came to.
+    /// Notes for later choices that `action` was done, and that `line` is its line of the trace.
     fn note(&mut self, action: &Action, line: &Line) -> Result<(), AllocError>;
 }
 
-/// Does the next action, adds it and its line, and says whether more may follow.
+/// Does the next action of `course` in `world`, adds it and its line ([`add_action`]), and says whether more may follow.
 fn add_next<C: Course>(
     alloc: Global,
     course: &mut C,
@@ -91,8 +91,8 @@ fn add_next<C: Course>(
     add_action(text, actions, action)
 }
 
-/// Follows a course in a cluster of these agents, and appends the lines of what was done: so many actions, or fewer where
-/// the course ends or the text would be too long. The watch is told of each.
+/// Does the actions of `course` in a cluster of `agents`, at most `most`, and fewer where it ends or the text would be
+/// too long. Gives them, appends their lines to `text`, and tells `watch` of each.
 pub(crate) fn add_course<C: Course, T: Watch>(
     alloc: Global,
     course: &mut C,

@@ -1,4 +1,4 @@
-//! What a random schedule is aimed at.
+//! What a random schedule is aimed at, and by which name a command line says it.
 
 ghost use Rattle.std.specs.Prelude.{◌≡◌};
 ghost use Rattle.std.specs.Str.{bytes_eq};
@@ -39,7 +39,7 @@ pub enum Kind {
     Rounds,
 }
 
-/// Whether a text is this name.
+/// Whether `text` is `name`.
 fn is_name(name: &[u8], text: &[u8]) -> bool
     ensures { result ≡ bytes_eq name.now text.now }
 {
@@ -70,7 +70,7 @@ impl Kind {
         }
     }
 
-    /// The kind of a name, where one has it.
+    /// The kind that has the name `name`; `None` where none has it.
     pub fn of_name(name: &[u8]) -> Option<Kind>
         ensures { result ≡ kind_of name.now }
     {
@@ -109,7 +109,7 @@ impl Kind {
         }
     }
 
-    /// Whether its schedules go by rounds, and so have a fanout, losses and a number of rounds.
+    /// Whether schedules of the kind go by rounds, and so have a fanout, losses and a number of rounds.
     pub fn is_rounds(self) -> bool
         ensures { result ≡ is_rounds self }
     {

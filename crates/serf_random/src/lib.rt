@@ -6,8 +6,8 @@
 //! Of the kind [`Kind::Rounds`] a schedule is gossip in the field's sense: agents send what is new to them to a few
 //! others, round by round.
 //!
-//! A schedule that keeps to Serf's own rules ([`common_schedule`]) comes of such a one: actions are left out whose turns
-//! rest on a rule of this project's own, so that every turn of its run is common.
+//! A schedule that keeps to Serf's own rules ([`common_schedule`]) is made of a random one: the actions are left out
+//! whose turns rest on a rule of this project's own, so that every turn of its run is common.
 #![tactic(auto)]
 
 mod ask;

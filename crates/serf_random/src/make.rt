@@ -1,4 +1,4 @@
-//! A whole random schedule.
+//! Makes a whole random schedule and its text: a comment, the agents, and what they do.
 
 ghost use Rattle.std.specs.Prelude.{◌≡◌, ◌≤◌, ◌++◌, [], All, IfOk, Ok, false, length};
 ghost use Rattle.std.specs.List.{flat_map};
@@ -25,7 +25,7 @@ pub struct Made {
     pub text: Vec<u8>,
 }
 
-/// Appends the lines of what is done in a cluster of these agents: so many actions, or fewer.
+/// The actions of a schedule as `ask` asks for it, in a cluster of `agents`; their lines are appended to `text`.
 fn add_actions<T: Watch>(
     alloc: Global,
     ask: &Ask,
@@ -36,22 +36,22 @@ fn add_actions<T: Watch>(
     ensures { IfOk result (λ actions.
         AddsActions ask.now.actions text.old.items text.new.items [] actions.items) }
 {
-    let many = agents.as_slice().len() as u64;
+    let agent_count = agents.as_slice().len() as u64;
     if ask.kind.is_rounds() {
-        let mut walk = Walk::new(alloc, ask, many);
+        let mut walk = Walk::new(alloc, ask, agent_count);
         add_course(alloc, &mut walk, agents, ask.actions, text, watch)
     } else {
-        let mut player = Player::new(alloc, ask, many);
+        let mut player = Player::new(alloc, ask, agent_count);
         add_course(alloc, &mut player, agents, ask.actions, text, watch)
     }
 }
 
-/// A random schedule as it was asked for, and its text.
+/// A random schedule as `ask` asks for it, and its text.
 ///
 /// The text begins with a comment that says what was asked for. It stands for just the settings and the actions that
-/// were made, so that it is never refused. It has at most so many actions as were asked for, and at most 16,777,216
+/// were made, so that it is never refused. It has at most as many actions as were asked for, and at most 16,777,216
 /// bytes: where the next action's line has no room, it ends. A schedule of rounds ends after its last round too.
-/// `AllocError` comes where memory runs out. The watch is told of each action.
+/// `AllocError` comes where memory runs out. `watch` is told of each action.
 pub fn random_schedule<T: Watch>(
     alloc: Global,
     ask: &Ask,
@@ -69,6 +69,7 @@ pub fn random_schedule<T: Watch>(
     let agents = add_agents(alloc, ask, &mut text)?;
     let actions = add_actions(alloc, ask, agents.try_clone(alloc)?, &mut text, watch)?;
     let schedule = Schedule { agents, actions };
+    // (for the prover: the comment is skipped as the text is read, and the rest reads back as the schedule)
     comments_skipped();
     know_numbers(ask);
     know_read_back(&schedule);

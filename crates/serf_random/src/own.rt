@@ -1,4 +1,4 @@
-//! What agents do of their own accord.
+//! What agents do of their own accord: the actions that need no stranger's packet.
 
 use crate::draft::done_by;
 use crate::kind::Kind;
@@ -14,8 +14,8 @@ use serf_wire::Bytes;
 use serf_world::World;
 use std::alloc::AllocError;
 
-/// Whether a text is to be about as long as its limit.
-fn is_long(player: &mut Player) -> bool {
+/// Rolls whether a text is to be about as long as its limit.
+fn roll_long(player: &mut Player) -> bool {
     match player.kind {
         Kind::Limits => !player.dice.one_in(3),
         Kind::Gossip => false,
@@ -23,8 +23,8 @@ fn is_long(player: &mut Player) -> bool {
     }
 }
 
-/// Whether a packet is to be as long as its limit, or nearly so.
-fn is_filled(player: &mut Player) -> bool {
+/// Rolls whether a packet is to be as long as its limit, or nearly so.
+fn roll_filled(player: &mut Player) -> bool {
     match player.kind {
         Kind::Spellings => player.dice.one_in(4),
         Kind::Mixed => player.dice.one_in(12),
@@ -32,28 +32,28 @@ fn is_filled(player: &mut Player) -> bool {
     }
 }
 
-/// A payload; now and then one that is about as long as a limit.
+/// A payload; now and then one that is about as long as `limit`, in bytes.
 fn payload_up_to(player: &mut Player, limit: u64) -> Result<Vec<u8>, AllocError> {
-    if is_long(player) {
+    if roll_long(player) {
         long_text(player, limit)
     } else {
         payload(player)
     }
 }
 
-/// The name and the payload of an event that an agent fires.
+/// The name and the payload of an event that agent number `agent` of `world` fires.
 fn event_texts(
     player: &mut Player,
     world: &World,
     agent: u64,
 ) -> Result<(Vec<u8>, Vec<u8>), AllocError> {
-    if is_filled(player) {
+    if roll_filled(player) {
         let name = name(player)?;
         let payload = filling(player, event_room(world, agent, &name))?;
         return Ok((name, payload));
     }
     let limit = match world.agent(agent) {
-        Some(one) => one.config().event_limit,
+        Some(firing_agent) => firing_agent.config().event_limit,
         None => 0,
     };
     let payload = payload_up_to(player, limit)?;
@@ -72,7 +72,7 @@ pub(crate) fn fire(player: &mut Player, world: &World) -> Result<Action, AllocEr
     Ok(done_by(agent, act))
 }
 
-/// How long a query is answered, and whom it asks.
+/// What a query has beside its texts: filters, flags and a timeout in nanoseconds; no address and no relays.
 fn query_params(player: &mut Player) -> Result<QueryParams, AllocError> {
     let timeout = player
         .dice
@@ -89,15 +89,18 @@ fn query_params(player: &mut Player) -> Result<QueryParams, AllocError> {
     })
 }
 
+/// How long a payload is, in bytes, with which a packet of a query or a response is about as long as its limit.
+const LONG_PAYLOAD: u64 = 970;
+
 /// An agent fires a query.
 pub(crate) fn ask(player: &mut Player, world: &World) -> Result<Action, AllocError> {
     let agent = player.agent();
     let moment = player.moment();
-    let mut payload = payload_up_to(player, 970)?;
+    let mut payload = payload_up_to(player, LONG_PAYLOAD)?;
     let params = query_params(player)?;
     let id = player.dice.pick(&[0, 1, 2, 3, u32::MAX], 0);
     let name = name(player)?;
-    if is_filled(player) {
+    if roll_filled(player) {
         payload = filling(player, query_room(world, agent, id, &name, &params))?;
     }
     let query = NewQuery {
@@ -113,7 +116,7 @@ pub(crate) fn ask(player: &mut Player, world: &World) -> Result<Action, AllocErr
 /// An agent answers a query: any of those that were handed to it, or the last one by a packet as long as its limit, or
 /// nearly so.
 pub(crate) fn respond(player: &mut Player, world: &World) -> Result<Action, AllocError> {
-    if is_filled(player) {
+    if roll_filled(player) {
         let last = player.last_handed;
         let payload = filling(player, response_room(world, &last))?;
         let act = Act::Respond {
@@ -123,7 +126,7 @@ pub(crate) fn respond(player: &mut Player, world: &World) -> Result<Action, Allo
         };
         return Ok(done_by(last.agent, act));
     }
-    let payload = payload_up_to(player, 970)?;
+    let payload = payload_up_to(player, LONG_PAYLOAD)?;
     let agent = player.agent();
     let act = Act::Respond {
         handed: player.dice.below(player.handed.saturating_add(1)),
@@ -133,7 +136,7 @@ pub(crate) fn respond(player: &mut Player, world: &World) -> Result<Action, Allo
     Ok(done_by(agent, act))
 }
 
-/// An agent is opened again on a tail. Where agents keep their events, it gets older packets again.
+/// An agent is opened again on a tail, as after a crash. Where agents keep their events, it gets older packets next.
 pub(crate) fn restart(player: &mut Player, world: &World) -> Result<Action, AllocError> {
     let agent = player.agent();
     player.tracks = tracks_of(world, agent);
@@ -149,7 +152,7 @@ pub(crate) fn restart(player: &mut Player, world: &World) -> Result<Action, Allo
     Ok(done_by(agent, Act::Restart { tail }))
 }
 
-/// A call of an agent's disk is to fail. Where agents keep their events, it joins another one next, one time in three.
+/// One of the next calls of an agent's disk is to fail. Where agents keep their events, it joins next, one time in three.
 pub(crate) fn fail(player: &mut Player) -> Action {
     let calls = [
         SinkCall::Append,
@@ -166,14 +169,14 @@ pub(crate) fn fail(player: &mut Player) -> Action {
     done_by(agent, Act::Break { call, count })
 }
 
-/// An agent closes its open queries.
+/// An agent closes its open queries that are past their deadlines.
 pub(crate) fn close(player: &mut Player) -> Action {
     let agent = player.agent();
     let now = player.moment();
     done_by(agent, Act::Close { now })
 }
 
-/// Notes the query that an action fired, where it fired one.
+/// Notes the query that `action` fired, where by its line `line` of the trace it fired one.
 pub(crate) fn note_query(player: &mut Player, action: &Action, line: &Line) {
     let Answer::Queried(time) = line.answer else {
         return;

@@ -5,7 +5,7 @@ use crate::value::{Field, LENGTHS, UNSUPPORTED, Value, most_of, put_canonical, w
 use std::alloc::{AllocError, Global};
 
 /// Keys that no message has.
-const UNKNOWN: [&[u8]; 7] = [
+const UNKNOWN_KEYS: [&[u8]; 7] = [
     b"Zone",
     b"Zone",
     b"ltime",
@@ -15,7 +15,7 @@ const UNKNOWN: [&[u8]; 7] = [
     b"a key of more than thirty-one bytes",
 ];
 
-/// Numbers at the ends of what fields take.
+/// Numbers at the ends of the ranges that fields take, and one more.
 const BOUNDS: [u64; 9] = [
     0xff,
     0x100,
@@ -28,7 +28,7 @@ const BOUNDS: [u64; 9] = [
     u64::MAX,
 ];
 
-/// Nine arrays in one another, one more than a packet may have.
+/// Nine arrays in one another, one level more than a packet may have.
 const DEEP: &[u8] = b"\x91\x91\x91\x91\x91\x91\x91\x91\x90";
 
 /// Values of all kinds that have no other within.
@@ -50,46 +50,47 @@ pub(crate) struct Pen {
     dice: Dice,
     /// Whether each value's form is chosen by the dice; it is the canonical one otherwise.
     is_free: bool,
+    /// The packet's bytes so far.
     out: Vec<u8>,
-    /// How many parts come before the one that has a fault in its place; `None` where none is to come.
-    faulty: Option<u64>,
-    /// The length at which the packet is cut; `None` where it is whole.
-    end: Option<usize>,
+    /// How many values, and beginnings of them, come before a fault; `None` where no fault is to come.
+    parts_before_fault: Option<u64>,
+    /// The length at which the packet is cut at last, in bytes; `None` where it stays whole.
+    cut_length: Option<usize>,
 }
 
 impl Pen {
-    /// A packet of this type, in canonical forms.
-    pub(crate) fn canonical(alloc: Global, kind: u8) -> Result<Pen, AllocError> {
+    /// The beginning of a packet in canonical forms: its type byte alone.
+    pub(crate) fn canonical(alloc: Global, type_byte: u8) -> Result<Pen, AllocError> {
         Ok(Pen {
             alloc,
             dice: Dice::new(0),
             is_free: false,
-            out: Vec::from_slice(alloc, &[kind])?,
-            faulty: None,
-            end: None,
+            out: Vec::from_slice(alloc, &[type_byte])?,
+            parts_before_fault: None,
+            cut_length: None,
         })
     }
 
-    /// A packet of this type, in forms that a seed chooses. It may have a fault behind so many parts.
+    /// The beginning of a packet in forms that `seed` chooses, with a fault after `parts_before_fault` values, if any.
     pub(crate) fn free(
         alloc: Global,
-        kind: u8,
+        type_byte: u8,
         seed: u64,
-        faulty: Option<u64>,
+        parts_before_fault: Option<u64>,
     ) -> Result<Pen, AllocError> {
         Ok(Pen {
             dice: Dice::new(seed),
             is_free: true,
-            faulty,
-            ..Pen::canonical(alloc, kind)?
+            parts_before_fault,
+            ..Pen::canonical(alloc, type_byte)?
         })
     }
 
-    /// The whole packet; now and then with a byte after it.
+    /// The bytes of the packet, cut where its fault is a cut; else now and then with a byte after it.
     pub(crate) fn finish(self) -> Result<Vec<u8>, AllocError> {
         let mut pen = self;
-        if let Some(end) = pen.end {
-            pen.out.truncate(end);
+        if let Some(length) = pen.cut_length {
+            pen.out.truncate(length);
         } else if pen.one_in(24) {
             let byte = pen.dice.below(256) as u8;
             pen.out.push(byte)?;
@@ -98,12 +99,12 @@ impl Pen {
         Ok(out)
     }
 
-    /// Whether what is done one time in so many is done here: never in a canonical packet.
+    /// Rolls whether something is done that is done one time in `bound`; never in a canonical packet.
     fn one_in(&mut self, bound: u64) -> bool {
         self.is_free && self.dice.one_in(bound)
     }
 
-    /// A head and the last bytes of a number after it, so many as it has room for.
+    /// Appends `head` and the last bytes of `number`, as many as stand after that head.
     fn put_wide(&mut self, head: u8, number: u64) -> Result<(), AllocError> {
         let bytes = number.to_be_bytes();
         self.out.push(head)?;
@@ -111,8 +112,7 @@ impl Pen {
             .extend_from_slice(&bytes[8usize.saturating_sub(width_of(head))..])
     }
 
-    /// Writes a value in one of its wide forms, if that has room for it, and says whether it did. One time in two it
-    /// does nothing.
+    /// Appends `value`, or its beginning, in a wide form that has room for it, one time in two; says whether it did.
     fn put_wide_form(&mut self, value: Value) -> Result<bool, AllocError> {
         let Some((heads, size, bits)) = value.wide_forms() else {
             return Ok(false);
@@ -128,24 +128,24 @@ impl Pen {
         Ok(true)
     }
 
-    /// Writes the fault where this part is the one to have it, and says whether it did; else counts the part.
-    fn is_faulty(&mut self) -> Result<bool, AllocError> {
-        match self.faulty {
+    /// Appends the fault in place of the next value, if it is due there, and says whether it did; else counts the value.
+    fn put_fault_if_due(&mut self) -> Result<bool, AllocError> {
+        match self.parts_before_fault {
             None => Ok(false),
             Some(0) => {
-                self.faulty = None;
+                self.parts_before_fault = None;
                 self.put_fault()?;
                 Ok(true)
             }
-            Some(left) => {
-                self.faulty = Some(left.saturating_sub(1));
+            Some(parts) => {
+                self.parts_before_fault = Some(parts.saturating_sub(1));
                 Ok(false)
             }
         }
     }
 
-    /// What is wrong in most places: the end, a byte that no message has, a length with too little after it, what is too
-    /// deep, or a value of another kind or out of range.
+    /// Appends what is wrong in most places: the packet's end, a byte that no message has, a length with too little
+    /// after it, arrays that are too deep, or a value of another kind or out of range.
     fn put_fault(&mut self) -> Result<(), AllocError> {
         let value = match self.dice.below(12) {
             0 | 1 => return self.cut(),
@@ -169,16 +169,16 @@ impl Pen {
         put_canonical(&mut self.out, value)
     }
 
-    /// Cuts the packet here, or some bytes further on within a number.
+    /// Has the packet cut here, or up to 8 bytes further on, within a number of 9 bytes that is appended.
     fn cut(&mut self) -> Result<(), AllocError> {
         let more = self.dice.below(9) as usize;
-        self.end = Some(self.out.len().saturating_add(more));
+        self.cut_length = Some(self.out.len().saturating_add(more));
         self.put_wide(0xcf, u64::MAX)
     }
 
-    /// Writes a value, or the head of one; now and then nil for one that is 0, false or empty.
+    /// Appends `value`, or its beginning; now and then nil for one that is 0, false or empty, or the fault.
     pub(crate) fn put(&mut self, value: Value) -> Result<(), AllocError> {
-        if self.is_faulty()? {
+        if self.put_fault_if_due()? {
             return Ok(());
         }
         if value.may_be_nil() && self.one_in(6) {
@@ -190,7 +190,7 @@ impl Pen {
         put_canonical(&mut self.out, value)
     }
 
-    /// Writes a key and its value, with all texts of an array of texts.
+    /// Appends `key` and its `value`, with all texts of an array of texts.
     pub(crate) fn put_field(&mut self, key: &[u8], value: Value) -> Result<(), AllocError> {
         self.put(Value::Key(key))?;
         self.put(value)?;
@@ -202,15 +202,15 @@ impl Pen {
         Ok(())
     }
 
-    /// A value of any kind that has no other within.
+    /// Appends a value of any kind that has no other within, one of [`LEAVES`].
     fn put_leaf(&mut self) -> Result<(), AllocError> {
         let leaf = self.dice.pick(&LEAVES, Value::Nil);
         self.put(leaf)
     }
 
-    /// A value of so many levels: arrays and maps in one another, as an item, a value or a key.
+    /// Appends a value of `levels` levels: arrays and maps in one another, as an item, a value or a key.
     fn put_nested(&mut self, levels: u64) -> Result<(), AllocError> {
-        let mut behind: u64 = 0;
+        let mut leaves_to_come: u64 = 0;
         for _level in 0..levels {
             match self.dice.below(4) {
                 0 => {
@@ -219,48 +219,48 @@ impl Pen {
                 }
                 1 => {
                     self.put(Value::Pairs(1))?;
-                    behind = behind.saturating_add(1);
+                    leaves_to_come = leaves_to_come.saturating_add(1);
                 }
                 2 => {
                     self.put(Value::Items(2))?;
-                    behind = behind.saturating_add(1);
+                    leaves_to_come = leaves_to_come.saturating_add(1);
                 }
                 _ => self.put(Value::Items(1))?,
             }
         }
-        for _value in 0..behind.saturating_add(1) {
+        for _leaf in 0..leaves_to_come.saturating_add(1) {
             self.put_leaf()?;
         }
         Ok(())
     }
 
-    /// A key that no message has, within so many levels, and a value: a plain one, or one of as many levels as there may
-    /// be, one less or one more.
+    /// Appends a key that no message has, within `depth` levels, and a value: a plain one, or one with which the packet
+    /// has as many levels as it may have, or one more or fewer.
     pub(crate) fn put_unknown(&mut self, depth: u64) -> Result<(), AllocError> {
-        let key = self.dice.pick(&UNKNOWN, b"Zone");
+        let key = self.dice.pick(&UNKNOWN_KEYS, b"Zone");
         self.put(Value::Key(key))?;
         let levels: u64 = self.dice.pick(&[0, 0, 1, 2, 7, 8, 8, 9], 0);
         self.put_nested(levels.saturating_sub(depth))
     }
 
-    /// In which order the fields of a map come, by their numbers, of so many. One that is no field's stands for a key
-    /// that no message has. Now and then a field is left out, or comes twice. In a canonical packet each comes once, in
-    /// order.
-    fn order(&mut self, fields: u64) -> Result<Vec<u64>, AllocError> {
+    /// In which order the `count` fields of a map come, by their numbers from 0 on; `count` stands for a key that no
+    /// message has. In a free packet such a key comes before one field in 10, one field in 24 is left out, and in one
+    /// map in 16 a field comes twice.
+    fn order(&mut self, count: u64) -> Result<Vec<u64>, AllocError> {
         let mut order = Vec::new(self.alloc);
         let first = if self.is_free {
-            self.dice.below(fields)
+            self.dice.below(count)
         } else {
             0
         };
-        for at in 0..fields {
+        for place in 0..count {
             if self.one_in(10) {
-                order.push(fields)?;
+                order.push(count)?;
             }
             if self.one_in(24) {
                 continue;
             }
-            order.push(first.saturating_add(at) % fields)?;
+            order.push(first.saturating_add(place) % count)?;
         }
         if self.one_in(16) {
             order.push(first)?;
@@ -268,18 +268,18 @@ impl Pen {
         Ok(order)
     }
 
-    /// The head of a map of so many fields; in which order they come ([`Pen::order`]).
-    pub(crate) fn put_head(&mut self, fields: u64) -> Result<Vec<u64>, AllocError> {
-        let order = self.order(fields)?;
+    /// Appends the beginning of a map of `count` fields, and gives in which order they are to come ([`Pen::order`]).
+    pub(crate) fn put_head(&mut self, count: u64) -> Result<Vec<u64>, AllocError> {
+        let order = self.order(count)?;
         self.put(Value::Pairs(order.len() as u64))?;
         Ok(order)
     }
 
-    /// The map of these fields, which stands in so many levels.
+    /// Appends a map of `fields`, in an order as [`Pen::order`] has it; the map's pairs are within `depth` levels.
     pub(crate) fn put_map(&mut self, fields: &[Field], depth: u64) -> Result<(), AllocError> {
         let order = self.put_head(fields.len() as u64)?;
-        for at in &order {
-            match fields.get(*at as usize) {
+        for number in &order {
+            match fields.get(*number as usize) {
                 Some((key, value)) => self.put_field(key, *value)?,
                 None => self.put_unknown(depth)?,
             }

@@ -1,4 +1,4 @@
-//! What is done next in a cluster, by where it stands.
+//! A player: it chooses one action of a cluster after another, aimed at the edges of what its agents decide next.
 
 use crate::ask::Ask;
 use crate::dice::Dice;
@@ -13,16 +13,16 @@ use serf_wire::Bytes;
 use serf_world::World;
 use std::alloc::{AllocError, Global};
 
-/// What follows an action: mostly the packet that it sent goes on.
+/// What is planned to follow an action, by the agent number `to`: mostly, the packet that the action sent goes to it.
 #[derive(Clone, Copy)]
 pub(crate) enum Next {
-    /// An agent gets the last packet.
+    /// The agent gets the last packet.
     Deliver { to: u64 },
-    /// An agent merges the last packet.
+    /// The agent merges the last packet, as one that joins if `join`.
     Merge { to: u64, join: bool },
-    /// An agent gets an older packet, and so many more behind it.
+    /// The agent gets an older packet, and `more` of them after it.
     Again { to: u64, more: u64 },
-    /// An agent sends its state, which this one joins then.
+    /// Some agent sends its state, and the agent `to` joins by it after that.
     Join { to: u64 },
 }
 
@@ -32,7 +32,7 @@ pub(crate) struct LastQuery {
     pub(crate) agent: u64,
     pub(crate) time: u64,
     pub(crate) id: u64,
-    /// The moment up to which answers are taken.
+    /// The moment up to which answers are taken, in nanoseconds.
     pub(crate) deadline: u64,
 }
 
@@ -40,13 +40,13 @@ pub(crate) struct LastQuery {
 #[derive(Clone, Copy)]
 pub(crate) struct LastHanded {
     pub(crate) agent: u64,
-    /// How many were handed to this agent before.
+    /// How many queries were handed to the agent before, in its life.
     pub(crate) index: u64,
     pub(crate) time: u64,
     pub(crate) id: u32,
 }
 
-/// What is known of a cluster beside what its agents know, so that what is done next aims at where it stands.
+/// What a player knows of its cluster beside what the agents know, and what it has planned.
 #[derive(Drop)]
 pub(crate) struct Player {
     pub(crate) alloc: Global,
@@ -54,26 +54,26 @@ pub(crate) struct Player {
     pub(crate) kind: Kind,
     /// How many agents the cluster has.
     agents: u64,
-    /// How many packets were sent.
+    /// How many packets were sent so far.
     sent: u64,
     /// The present moment, in nanoseconds.
     pub(crate) now: u64,
     pub(crate) next: Option<Next>,
-    /// The tracks at whose edges times are.
+    /// The tracks of an agent, at whose edges the times of a packet or a line are.
     pub(crate) tracks: Tracks,
-    /// The first packet that was not given to all agents, and how many got it.
+    /// The number of the first packet that not all agents got in turn, from 0 on, and how many got it.
     passed: (u64, u64),
     pub(crate) query: LastQuery,
     pub(crate) last_handed: LastHanded,
-    /// How many queries were handed to some agent in its life, at most.
+    /// The greatest number of queries that one agent was handed in a life.
     pub(crate) handed: u64,
 }
 
-/// The seed of a player's numbers: other ones than those of the settings.
+/// Mixed into the seed, so that a player draws other numbers than the settings do.
 const SALT: u64 = 0x5eed;
 
 impl Player {
-    /// What is known before the first action in a cluster of so many agents.
+    /// A player of a schedule as `ask` asks for it, before the first action in a cluster of `agents` agents.
     pub(crate) fn new(alloc: Global, ask: &Ask, agents: u64) -> Player {
         let query = LastQuery {
             agent: 0,
@@ -103,6 +103,7 @@ impl Player {
         }
     }
 
+    /// The action that was planned as `next`.
     fn follow(&mut self, next: Next) -> Action {
         let packet = self.sent.saturating_sub(1);
         match next {
@@ -113,19 +114,19 @@ impl Player {
         }
     }
 
-    /// An agent gets a packet.
+    /// Agent number `agent` gets packet number `packet`.
     fn deliver(&mut self, agent: u64, packet: u64) -> Action {
         let now = self.moment();
         done_by(agent, Act::Deliver { packet, now })
     }
 
-    /// An agent sends its state, which another one joins next.
+    /// An agent sends its state, and agent number `to` joins by it next.
     fn join(&mut self, to: u64) -> Action {
         self.next = Some(Next::Merge { to, join: true });
         done_by(self.agent(), Act::State)
     }
 
-    /// An agent gets an older packet, and more of them next.
+    /// Agent number `to` gets an older packet, and `more` of them after it.
     fn again(&mut self, to: u64, more: u64) -> Action {
         if more > 0 {
             self.next = Some(Next::Again {
@@ -137,6 +138,7 @@ impl Player {
         self.deliver(to, packet)
     }
 
+    /// The action by which `verb` is done in the cluster `world`.
     fn act(&mut self, world: &World, verb: Verb) -> Result<Action, AllocError> {
         match verb {
             Verb::Pass => Ok(self.pass()),
@@ -154,7 +156,7 @@ impl Player {
         }
     }
 
-    /// A stranger's packet, which an agent gets next.
+    /// A stranger sends a packet by `verb`, which an agent gets next.
     fn inject(&mut self, world: &World, verb: Verb) -> Result<Action, AllocError> {
         let kinds = [Verb::Event, Verb::Query, Verb::Answer, Verb::State];
         let message = match verb {
@@ -172,13 +174,14 @@ impl Player {
         })
     }
 
-    /// An agent gets a stranger's packet next, at the edges of its tracks.
-    fn aim(&mut self, world: &World, verb: Verb) {
-        let to = match verb {
+    /// Plans that an agent gets a stranger's packet next, or merges it where `message` is a state, and that times in the
+    /// packet are at the edges of the agent's tracks. An answer goes to the agent that fired the last query.
+    fn aim(&mut self, world: &World, message: Verb) {
+        let to = match message {
             Verb::Answer => self.query.agent,
             _ => self.agent(),
         };
-        let next = match verb {
+        let next = match message {
             Verb::State => Next::Merge {
                 to,
                 join: self.dice.one_in(2),
@@ -189,7 +192,7 @@ impl Player {
         self.tracks = tracks_of(world, to);
     }
 
-    /// The number of an agent, now and then of none.
+    /// The number of an agent; now and then one that no agent has.
     pub(crate) fn agent(&mut self) -> u64 {
         if self.dice.one_in(200) {
             return self.agents;
@@ -197,7 +200,7 @@ impl Player {
         self.dice.below(self.agents)
     }
 
-    /// A moment: the present one, or one at the last query's deadline.
+    /// A moment, in nanoseconds: mostly the present one, which goes on, or one near the last query's deadline.
     pub(crate) fn moment(&mut self) -> u64 {
         match self.dice.below(8) {
             0 | 1 => self.dice.near(self.query.deadline),
@@ -219,7 +222,7 @@ impl Player {
         self.edge(self.tracks.queries)
     }
 
-    /// A time at an edge of a track, now and then one near the greatest time.
+    /// A time at an edge of `track`, now and then one near the greatest time.
     fn edge(&mut self, track: Track) -> u64 {
         let is_great = match self.kind {
             Kind::Exhaustion => !self.dice.one_in(3),
@@ -232,7 +235,8 @@ impl Player {
         }
     }
 
-    /// The next packet goes to the next agent. In a gossip one in four is lost.
+    /// The first packet that not all agents got goes to the next agent; where all got it, one of the last packets goes
+    /// to any agent. In a gossip a packet is lost one time in four, and goes to the agent after that.
     fn pass(&mut self) -> Action {
         let (packet, got) = self.passed;
         let got = if self.kind == Kind::Gossip && self.dice.one_in(4) {
@@ -251,7 +255,7 @@ impl Player {
         self.deliver(got, packet)
     }
 
-    /// One of the last packets, now and then none.
+    /// The number of one of the last packets, now and then one that no packet has.
     fn recent(&mut self) -> u64 {
         if self.dice.one_in(100) {
             return self.sent;
@@ -262,7 +266,7 @@ impl Player {
             .saturating_sub(self.dice.below(back))
     }
 
-    /// One of the last packets, now and then one of all that were sent.
+    /// The number of one of the last packets, now and then of any that was sent.
     pub(crate) fn older(&mut self) -> u64 {
         if self.dice.one_in(6) {
             return self.dice.below(self.sent);
@@ -270,12 +274,14 @@ impl Player {
         self.recent()
     }
 
+    /// An agent gets one of the last packets.
     fn repeat(&mut self) -> Action {
         let agent = self.agent();
         let packet = self.recent();
         self.deliver(agent, packet)
     }
 
+    /// An agent merges one of the last packets, whatever it is.
     fn merge(&mut self) -> Action {
         let agent = self.agent();
         let packet = self.recent();
@@ -283,7 +289,7 @@ impl Player {
         done_by(agent, Act::Merge { packet, join })
     }
 
-    /// A push/pull. Where packets go round, only one time in four: gossip is far more frequent there.
+    /// An agent sends its state, which an agent merges next. In a gossip a packet goes on instead, three times in four.
     fn exchange(&mut self) -> Action {
         if self.kind == Kind::Gossip && !self.dice.one_in(4) {
             return self.pass();
@@ -310,6 +316,7 @@ impl Course for Player {
         Ok(Some(action))
     }
 
+    /// Notes the query that `action` fired, and the query that by `line` was handed out, where there is one.
     fn note(&mut self, action: &Action, line: &Line) -> Result<(), AllocError> {
         own::note_query(self, action, line);
         if let Some(handed) = &line.handed {

@@ -19,29 +19,29 @@ const PAYLOADS: [&[u8]; 5] = [b"", b"v1", b"v2", b"a", b"\x00\xff"];
 /// Lengths at which a size is refused, or a length is spelled wider.
 const EDGES: [u64; 9] = [31, 255, 470, 512, 970, 1_024, 9_100, 9_216, 65_535];
 
-/// The name of a node of one letter.
+/// A node's name of one letter, from `a` to `f`.
 pub(crate) fn letter(dice: &mut Dice) -> u8 {
     b'a'.saturating_add(dice.below(6) as u8)
 }
 
-/// A name for an event or a query.
+/// A name for an event or a query, one of [`NAMES`].
 pub(crate) fn name(player: &mut Player) -> Result<Vec<u8>, AllocError> {
     Vec::from_slice(player.alloc, player.dice.pick(&NAMES, b"a"))
 }
 
-/// A payload.
+/// A payload, one of [`PAYLOADS`].
 pub(crate) fn payload(player: &mut Player) -> Result<Vec<u8>, AllocError> {
     Vec::from_slice(player.alloc, player.dice.pick(&PAYLOADS, b""))
 }
 
-/// A text of so many bytes.
+/// A text of `len` bytes.
 fn text_of(alloc: Global, len: u64) -> Result<Vec<u8>, AllocError> {
     let mut text = Vec::new(alloc);
     text.resize(len as usize, b'x')?;
     Ok(text)
 }
 
-/// A text that is about as long as a limit, or as one of the edges where there is none.
+/// A text about as long as `limit`, in bytes; one time in three, and where `limit` is 0, as long as one of [`EDGES`].
 pub(crate) fn long_text(player: &mut Player, limit: u64) -> Result<Vec<u8>, AllocError> {
     let dice = &mut player.dice;
     let edge = if limit == 0 || dice.one_in(3) {
@@ -53,10 +53,10 @@ pub(crate) fn long_text(player: &mut Player, limit: u64) -> Result<Vec<u8>, Allo
     text_of(player.alloc, len)
 }
 
-/// The kinds of clock lines, as a snapshot has them.
-const LINES: [&[u8]; 3] = [b"clock: ", b"event-clock: ", b"query-clock: "];
+/// How the clock lines of a snapshot begin, by their kinds.
+const CLOCK_LINES: [&[u8]; 3] = [b"clock: ", b"event-clock: ", b"query-clock: "];
 
-/// What follows a snapshot's text after a crash.
+/// What may follow a snapshot's text after a crash, whole lines or torn ones.
 const TAILS: [&[u8]; 10] = [
     b"event-cl",
     b"\n",
@@ -70,14 +70,14 @@ const TAILS: [&[u8]; 10] = [
     b"clock: 4\nevent-clock: 3\nquery-clock: 2\n",
 ];
 
-/// A tail: none, a clock line near a time, whole or cut, or another text.
+/// What follows a snapshot's text after a crash: nothing, one of [`TAILS`], or a clock line near `time`, whole or cut.
 pub(crate) fn tail(player: &mut Player, time: u64) -> Result<Vec<u8>, AllocError> {
     let dice = &mut player.dice;
     match dice.below(6) {
         0 | 1 => Ok(Vec::new(player.alloc)),
         2 | 3 => Vec::from_slice(player.alloc, dice.pick(&TAILS, b"")),
         cut => {
-            let mut text = Vec::from_slice(player.alloc, dice.pick(&LINES, b""))?;
+            let mut text = Vec::from_slice(player.alloc, dice.pick(&CLOCK_LINES, b""))?;
             put_number(&mut text, dice.near(time))?;
             if cut == 4 {
                 text.extend_from_slice(b"\n")?;
@@ -87,7 +87,7 @@ pub(crate) fn tail(player: &mut Player, time: u64) -> Result<Vec<u8>, AllocError
     }
 }
 
-/// Some names, and what excludes every node.
+/// Filters of queries: some let nodes of given names pass, the others none.
 const FILTERS: [&[u8]; 8] = [
     b"\x00\x91\xa1a",
     b"\x00\x92\xa1a\xa1b",
@@ -99,7 +99,7 @@ const FILTERS: [&[u8]; 8] = [
     b"",
 ];
 
-/// Names in other forms, with a byte after them, cut, too deep, of another type, or not quite the agents' names.
+/// Filters of names in other forms, with a byte after them, cut, too deep, of another type, or not quite agents' names.
 const SPELLED: [&[u8]; 24] = [
     b"\x00\x91\xa1a\x00",
     b"\x00\x91\xa1b\x90",
@@ -127,7 +127,7 @@ const SPELLED: [&[u8]; 24] = [
     b"\x00\xdf\x00\x00\x00\x00",
 ];
 
-/// One filter: in the kinds that spell, one time in two in another form.
+/// A filter of a query: one of [`FILTERS`], or by the schedule's kind one of [`SPELLED`] one time in two.
 fn one_filter(player: &mut Player) -> &'static [u8] {
     let is_spelled = match player.kind {
         Kind::Spellings | Kind::Mixed => player.dice.one_in(2),
@@ -140,28 +140,32 @@ fn one_filter(player: &mut Player) -> &'static [u8] {
     }
 }
 
-/// The filters of a query: mostly none, else some names, or what excludes every node.
+/// The filters of a query: mostly none, else up to two ([`one_filter`]).
 pub(crate) fn filters(player: &mut Player) -> Result<BytesList, AllocError> {
     let mut list = BytesList::new(player.alloc);
     if !player.dice.one_in(4) {
         return Ok(list);
     }
     for _filter in 0..player.dice.below(3) {
-        let one = one_filter(player);
-        list.push(Bytes::copy_of(player.alloc, one)?)?;
+        let filter = one_filter(player);
+        list.push(Bytes::copy_of(player.alloc, filter)?)?;
     }
     Ok(list)
 }
 
-/// The greatest size of a received event's texts, in bytes.
+/// How many bytes the name and the payload of a received event may have together.
 const MAX_EVENT: u64 = 9_216;
 
-/// A payload with which a packet, of so many bytes where it is empty, has as many as its limit, one less or one more.
+/// The length of a packet whose payload is empty, and the greatest that it may have, both in bytes.
+pub(crate) type Room = (u128, u64);
+
+/// A payload with which a packet is as long as it may be, one byte less or one more.
 pub(crate) fn filling(
     player: &mut Player,
-    (empty, limit): (u128, u64),
+    (empty_length, limit): Room,
 ) -> Result<Vec<u8>, AllocError> {
-    let room = u128::from(limit).saturating_sub(empty).min(70_000) as u64;
+    let room = u128::from(limit).saturating_sub(empty_length).min(70_000) as u64;
+    // (the head of a payload of 32 bytes or more has two bytes more than that of an empty one)
     let len = if room < 32 {
         room
     } else {
@@ -170,8 +174,8 @@ pub(crate) fn filling(
     text_of(player.alloc, player.dice.near(len))
 }
 
-/// A payload; one time in so many one with which the texts have as many bytes as an event's may have, one less or one
-/// more.
+/// A payload of an event named `name`; one time in `bound` one with which its texts are together as long as they may be,
+/// one byte less or one more.
 pub(crate) fn payload_or_full(
     player: &mut Player,
     name: &[u8],
@@ -184,10 +188,10 @@ pub(crate) fn payload_or_full(
     text_of(player.alloc, player.dice.near(room))
 }
 
-/// The length of the packet of an event that an agent fires, where its payload is empty, and its limit.
-pub(crate) fn event_room(world: &World, agent: u64, name: &[u8]) -> (u128, u64) {
-    let (time, limit) = match world.agent(agent) {
-        Some(one) => (one.event_time(), one.config().event_limit),
+/// The room in the packet of an event named `name` that agent `agent_number` of `world` may fire next.
+pub(crate) fn event_room(world: &World, agent_number: u64, name: &[u8]) -> Room {
+    let (time, limit) = match world.agent(agent_number) {
+        Some(agent) => (agent.event_time(), agent.config().event_limit),
         None => (1, 0),
     };
     let Some(time) = Time::new(time) else {
@@ -202,19 +206,19 @@ pub(crate) fn event_room(world: &World, agent: u64, name: &[u8]) -> (u128, u64) 
     (user_event_len(&event), limit)
 }
 
-/// And that of a query.
+/// The room in the packet of a query of `id`, `name` and `params` that agent `agent_number` of `world` may fire next.
 pub(crate) fn query_room(
     world: &World,
-    agent: u64,
+    agent_number: u64,
     id: u32,
     name: &[u8],
     params: &QueryParams,
-) -> (u128, u64) {
-    let Some(one) = world.agent(agent) else {
+) -> Room {
+    let Some(agent) = world.agent(agent_number) else {
         return (0, DEFAULT_QUERY_LIMIT);
     };
-    let limit = one.config().query_limit;
-    let Some(time) = Time::new(one.query_time()) else {
+    let limit = agent.config().query_limit;
+    let Some(time) = Time::new(agent.query_time()) else {
         return (0, limit);
     };
     let query = Query {
@@ -222,7 +226,7 @@ pub(crate) fn query_room(
         id,
         addr: params.addr.as_slice(),
         port: params.port,
-        source: one.config().name.as_slice(),
+        source: agent.config().name.as_slice(),
         filters: params.filters.as_slice(),
         flags: 0,
         relay_factor: params.relay_factor,
@@ -233,17 +237,17 @@ pub(crate) fn query_room(
     (query_len(&query), limit)
 }
 
-/// And that of the response to the query that was handed out last.
-pub(crate) fn response_room(world: &World, last: &LastHanded) -> (u128, u64) {
-    let Some(one) = world.agent(last.agent) else {
+/// The room in the packet of the response to `last`, the query that was handed out last, by the agent that was handed it.
+pub(crate) fn response_room(world: &World, last: &LastHanded) -> Room {
+    let Some(agent) = world.agent(last.agent) else {
         return (0, DEFAULT_RESPONSE_LIMIT);
     };
     let response = QueryResponse {
         time: last.time,
         id: last.id,
-        from: one.config().name.as_slice(),
+        from: agent.config().name.as_slice(),
         flags: 0,
         payload: b"",
     };
-    (response_len(&response), one.config().response_limit)
+    (response_len(&response), agent.config().response_limit)
 }

@@ -1,4 +1,4 @@
-//! The settings of a random cluster's agents.
+//! The agents of a random cluster: how many they are, and the settings of each.
 
 ghost use Rattle.std.specs.Prelude.{◌≡◌, [], IfOk};
 ghost use Rattle.serf_random.specs.Draft.{AddsAgents};
@@ -13,7 +13,7 @@ use serf_wire::Bytes;
 use serf_world::Roster;
 use std::alloc::{AllocError, Global};
 
-/// How many times of events or of queries an agent keeps.
+/// How many slots an agent's window of events, or of queries, has; each holds the entries of one time.
 fn slots(dice: &mut Dice, kind: Kind) -> u64 {
     match kind {
         Kind::Tiny => dice.below(3).saturating_add(1),
@@ -23,7 +23,7 @@ fn slots(dice: &mut Dice, kind: Kind) -> u64 {
     }
 }
 
-/// How many events, or queries, of one time an agent takes.
+/// How many events, or queries, of one time an agent takes at most.
 fn per_time(dice: &mut Dice, kind: Kind) -> u64 {
     match kind {
         Kind::PerTime => dice.below(4).saturating_add(1),
@@ -33,7 +33,7 @@ fn per_time(dice: &mut Dice, kind: Kind) -> u64 {
     }
 }
 
-/// The greatest size of an event that an agent fires.
+/// The greatest length of the packet of an event that an agent fires, in bytes.
 fn event_limit(dice: &mut Dice, kind: Kind) -> u64 {
     match kind {
         Kind::Limits => dice.pick(&[0, 36, 37, 64, 512, 512, 1_024, 9_216, 9_216], 512),
@@ -42,7 +42,7 @@ fn event_limit(dice: &mut Dice, kind: Kind) -> u64 {
     }
 }
 
-/// How many names are counted among a query's acks, and among its responses.
+/// How many names are counted at most among a query's acks, and among its responses.
 fn responders(dice: &mut Dice, kind: Kind) -> u64 {
     match kind {
         Kind::Rounds => 1_024,
@@ -50,7 +50,7 @@ fn responders(dice: &mut Dice, kind: Kind) -> u64 {
     }
 }
 
-/// The name of the agent of a number: a letter, and after the 26th two. In rounds it has the number.
+/// The name of agent `number`, from 0 on: a letter, and two after the 26th agent. In rounds it is `n` and the number.
 fn node_name(alloc: Global, kind: Kind, number: u64) -> Result<Vec<u8>, AllocError> {
     if kind == Kind::Rounds {
         let mut name = Vec::from_slice(alloc, b"n")?;
@@ -65,7 +65,7 @@ fn node_name(alloc: Global, kind: Kind, number: u64) -> Result<Vec<u8>, AllocErr
     Ok(name)
 }
 
-/// An agent's settings. In rounds they are Serf's own, with smaller windows.
+/// The settings of agent `number`, from 0 on. In rounds they are Serf's own, with smaller windows.
 fn config(alloc: Global, dice: &mut Dice, kind: Kind, number: u64) -> Result<Config, AllocError> {
     Ok(Config {
         name: Bytes::from_vec(node_name(alloc, kind, number)?),
@@ -81,8 +81,8 @@ fn config(alloc: Global, dice: &mut Dice, kind: Kind, number: u64) -> Result<Con
     })
 }
 
-/// How many agents a cluster has.
-fn count(dice: &mut Dice, ask: &Ask) -> u64 {
+/// How many agents the cluster has that `ask` asks for.
+fn agent_count(dice: &mut Dice, ask: &Ask) -> u64 {
     match ask.kind {
         Kind::Rounds if ask.agents > 0 => ask.agents.min(MAX_ROUNDS_AGENTS),
         _ if ask.agents > 0 => ask.agents.min(MAX_AGENTS),
@@ -91,14 +91,14 @@ fn count(dice: &mut Dice, ask: &Ask) -> u64 {
     }
 }
 
-/// Makes the agents, and appends their lines.
+/// Makes the agents of the cluster that `ask` asks for, and appends their lines to `text`.
 pub(crate) fn add_agents(alloc: Global, ask: &Ask, text: &mut Vec<u8>) -> Result<Roster, AllocError>
     ensures { IfOk result (λ roster. AddsAgents text.old.items text.new.items [] roster) }
 {
     let mut dice = Dice::new(ask.seed);
     let mut roster = Roster::new(alloc);
-    let many = count(&mut dice, ask);
-    for number in 0..many {
+    let agents = agent_count(&mut dice, ask);
+    for number in 0..agents {
         let config = config(alloc, &mut dice, ask.kind, number)?;
         add_agent(alloc, text, &mut roster, config)?;
     }

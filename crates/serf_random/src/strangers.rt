@@ -11,7 +11,7 @@ use crate::verb::Verb;
 use serf_wire::Bytes;
 use std::alloc::{AllocError, Global};
 
-/// The type byte of a message (Serf's `messageType`).
+/// The type byte (Serf's `messageType`) of the message that `verb` names; that of an event for any other verb.
 fn message_type(verb: Verb) -> u8 {
     match verb {
         Verb::State => 2,
@@ -36,7 +36,7 @@ fn event_fields<'a>(
     ]
 }
 
-/// The fields of an ack or a response.
+/// The fields of an ack or a response, to the query that has the time `time` and the ID `id`.
 fn answer_fields<'a>(
     (time, id): (u64, u64),
     from: &'a [u8],
@@ -52,7 +52,7 @@ fn answer_fields<'a>(
     ]
 }
 
-/// A number; one time in five one at its edge.
+/// `number`, or one time in five it, one less or one more.
 fn or_near(dice: &mut Dice, number: u64) -> u64 {
     if dice.one_in(5) {
         dice.near(number)
@@ -68,7 +68,7 @@ fn answer_names(player: &mut Player) -> (u64, u64) {
     (time, or_near(&mut player.dice, last.id))
 }
 
-/// The field of a state's slot that has its events, so many.
+/// Appends the field of a state's slot that has its events, `count` of them.
 fn put_events(player: &mut Player, pen: &mut Pen, count: u64) -> Result<(), AllocError> {
     pen.put_field(b"Events", Value::Items(count))?;
     for _event in 0..count {
@@ -82,7 +82,7 @@ fn put_events(player: &mut Player, pen: &mut Pen, count: u64) -> Result<(), Allo
     Ok(())
 }
 
-/// The packet of a stranger to the agent that the player looks at.
+/// A stranger's packet, as `verb` says, with times at the edges of the tracks that the player has.
 pub(crate) fn stranger(
     player: &mut Player,
     sent: &[Bytes],
@@ -94,7 +94,7 @@ pub(crate) fn stranger(
     }
 }
 
-/// A packet in canonical forms.
+/// A stranger's packet in canonical forms, of the message that `verb` says.
 fn canonical(player: &mut Player, verb: Verb) -> Result<Vec<u8>, AllocError> {
     let mut pen = Pen::canonical(player.alloc, message_type(verb))?;
     match verb {
@@ -106,6 +106,7 @@ fn canonical(player: &mut Player, verb: Verb) -> Result<Vec<u8>, AllocError> {
     pen.finish()
 }
 
+/// Appends the map of an event; now and then its payload is long.
 fn put_event(player: &mut Player, pen: &mut Pen) -> Result<(), AllocError> {
     let time = player.event_edge();
     let name = name(player)?;
@@ -118,7 +119,7 @@ fn put_event(player: &mut Player, pen: &mut Pen) -> Result<(), AllocError> {
     pen.put_map(&event_fields(time, &name, &payload, coalesce), 1)
 }
 
-/// The fields of a query of this time, name and filters.
+/// The fields of a query of `time`, `name` and `filters`, and of an ID, flags and a timeout that `dice` choose.
 fn query_fields<'a>(
     dice: &mut Dice,
     time: u64,
@@ -139,6 +140,7 @@ fn query_fields<'a>(
     ]
 }
 
+/// Appends the map of a query.
 fn put_query(player: &mut Player, pen: &mut Pen) -> Result<(), AllocError> {
     let time = player.query_edge();
     let name = name(player)?;
@@ -147,6 +149,7 @@ fn put_query(player: &mut Player, pen: &mut Pen) -> Result<(), AllocError> {
     pen.put_map(&fields, 1)
 }
 
+/// Appends the map of an ack or a response to the last query, or to one near it.
 fn put_answer(player: &mut Player, pen: &mut Pen) -> Result<(), AllocError> {
     let names = answer_names(player);
     let from = [letter(&mut player.dice)];
@@ -155,7 +158,7 @@ fn put_answer(player: &mut Player, pen: &mut Pen) -> Result<(), AllocError> {
     pen.put_map(&answer_fields(names, &from, flags, &payload), 1)
 }
 
-/// The times of a state's slots, and how many events each has.
+/// The slots of a state: the time of each, and how many events it has.
 fn slots(player: &mut Player) -> Result<Vec<(u64, u64)>, AllocError> {
     let mut slots = Vec::new(player.alloc);
     for _slot in 0..player.dice.below(5) {
@@ -164,6 +167,7 @@ fn slots(player: &mut Player) -> Result<Vec<(u64, u64)>, AllocError> {
     Ok(slots)
 }
 
+/// Appends the map of a state.
 fn put_state(player: &mut Player, pen: &mut Pen) -> Result<(), AllocError> {
     let slots = slots(player)?;
     let clock = player.dice.below(20);
@@ -181,10 +185,10 @@ fn put_state(player: &mut Player, pen: &mut Pen) -> Result<(), AllocError> {
     pen.put_field(b"QueryLTime", Value::Number(query_clock))
 }
 
-/// One of the last packets, or a stranger's event, with a byte more, less or other.
+/// One of the last packets `sent`, or a stranger's event, that is cut, or has a byte more or another byte.
 fn spoil(player: &mut Player, sent: &[Bytes]) -> Result<Vec<u8>, AllocError> {
-    let at = (sent.len() as u64).saturating_sub(player.dice.below(8));
-    let mut packet = match sent.get(at as usize) {
+    let number = (sent.len() as u64).saturating_sub(player.dice.below(8));
+    let mut packet = match sent.get(number as usize) {
         Some(packet) => Vec::from_slice(player.alloc, packet.as_slice())?,
         None => canonical(player, Verb::Event)?,
     };
@@ -202,16 +206,16 @@ fn spoil(player: &mut Player, sent: &[Bytes]) -> Result<Vec<u8>, AllocError> {
     Ok(packet)
 }
 
-/// A stranger's packet, in any spelling, to the agent that the player looks at.
+/// A stranger's packet of the message that `verb` says, in any spelling, one time in three with a fault.
 pub(crate) fn spelled(player: &mut Player, verb: Verb) -> Result<Vec<u8>, AllocError> {
     let seed = player.dice.roll();
-    let faulty = if player.dice.one_in(3) {
+    let parts_before_fault = if player.dice.one_in(3) {
         let parts = player.dice.pick(&[4, 10, 24, 48], 10);
         Some(player.dice.below(parts))
     } else {
         None
     };
-    let mut pen = Pen::free(player.alloc, message_type(verb), seed, faulty)?;
+    let mut pen = Pen::free(player.alloc, message_type(verb), seed, parts_before_fault)?;
     match verb {
         Verb::State => spell_state(player, &mut pen)?,
         Verb::Query => spell_query(player, &mut pen)?,
@@ -221,7 +225,7 @@ pub(crate) fn spelled(player: &mut Player, verb: Verb) -> Result<Vec<u8>, AllocE
     pen.finish()
 }
 
-/// A packet of Serf's other messages, of no type that there is, or of a type alone, with some bytes after it.
+/// A type byte, of Serf's other messages, of no message or of any other, with up to three bytes; now and then no bytes.
 pub(crate) fn foreign(alloc: Global, dice: &mut Dice) -> Result<Vec<u8>, AllocError> {
     let kind = dice.pick(&[0, 1, 6, 7, 8, 9, 2, 3, 4, 5, 10, 127, 128, 255], 0);
     let mut packet = Vec::from_slice(alloc, &[kind])?;
@@ -234,6 +238,7 @@ pub(crate) fn foreign(alloc: Global, dice: &mut Dice) -> Result<Vec<u8>, AllocEr
     Ok(packet)
 }
 
+/// Appends the map of an event; now and then its texts are as long as they may be together.
 fn spell_event(player: &mut Player, pen: &mut Pen) -> Result<(), AllocError> {
     let name = name(player)?;
     let payload = payload_or_full(player, &name, 6)?;
@@ -257,7 +262,7 @@ const TIMEOUTS: [i64; 11] = [
     i64::MAX,
 ];
 
-/// The fields of a query of these texts and filters.
+/// All fields of a query of `name`, `payload` and `filters`, with numbers at the ends of their ranges.
 fn spelled_fields<'a>(
     player: &mut Player,
     name: &'a [u8],
@@ -286,6 +291,7 @@ fn spelled_fields<'a>(
     ]
 }
 
+/// Appends the map of a query, with all fields that it may have.
 fn spell_query(player: &mut Player, pen: &mut Pen) -> Result<(), AllocError> {
     let name = name(player)?;
     let payload = payload(player)?;
@@ -294,6 +300,7 @@ fn spell_query(player: &mut Player, pen: &mut Pen) -> Result<(), AllocError> {
     pen.put_map(&fields, 1)
 }
 
+/// Appends the map of an ack or a response to the last query, or now and then to one near it or to none.
 fn spell_answer(player: &mut Player, pen: &mut Pen) -> Result<(), AllocError> {
     let (last, id) = answer_names(player);
     let time = player
@@ -305,6 +312,7 @@ fn spell_answer(player: &mut Player, pen: &mut Pen) -> Result<(), AllocError> {
     pen.put_map(&answer_fields((time, id), &from, flags, &payload), 1)
 }
 
+/// Appends a state's slot: its time and its events, in any order, and keys that no slot has.
 fn spell_slot(player: &mut Player, pen: &mut Pen) -> Result<(), AllocError> {
     let order = pen.put_head(2)?;
     for at in &order {
@@ -320,7 +328,7 @@ fn spell_slot(player: &mut Player, pen: &mut Pen) -> Result<(), AllocError> {
     Ok(())
 }
 
-/// A state's slots, of which some are empty.
+/// Appends the field of a state that has its slots, of which some are nil.
 fn spell_slots(player: &mut Player, pen: &mut Pen) -> Result<(), AllocError> {
     let count = player.dice.below(4);
     pen.put_field(b"Events", Value::Items(count))?;
@@ -334,7 +342,7 @@ fn spell_slots(player: &mut Player, pen: &mut Pen) -> Result<(), AllocError> {
     Ok(())
 }
 
-/// The status times of some nodes, of which 0 may stand as nil.
+/// Appends the field of a state that has the status times of some nodes, of which 0 may stand as nil.
 fn put_statuses(dice: &mut Dice, pen: &mut Pen) -> Result<(), AllocError> {
     let count = dice.below(4);
     pen.put_field(b"StatusLTimes", Value::Pairs(count))?;
@@ -346,7 +354,7 @@ fn put_statuses(dice: &mut Dice, pen: &mut Pen) -> Result<(), AllocError> {
     Ok(())
 }
 
-/// Nodes that left.
+/// Appends the field of a state that has the nodes that left.
 fn put_left(dice: &mut Dice, pen: &mut Pen) -> Result<(), AllocError> {
     let count = dice.below(3);
     pen.put_field(b"LeftMembers", Value::Items(count))?;
@@ -357,6 +365,7 @@ fn put_left(dice: &mut Dice, pen: &mut Pen) -> Result<(), AllocError> {
     Ok(())
 }
 
+/// Appends the map of a state: its six fields, in any order, and keys that no state has.
 fn spell_state(player: &mut Player, pen: &mut Pen) -> Result<(), AllocError> {
     let order = pen.put_head(6)?;
     for at in &order {

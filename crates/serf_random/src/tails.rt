@@ -13,8 +13,8 @@ use std::alloc::AllocError;
 /// How many packets are looked at for an event, or for a query, at most.
 const LOOKS: u64 = 6;
 
-/// Lines that agents don't write, before and behind a time: with other digits or spaces, with `-` for no bytes, with a word
-/// more or less, of numbers out of range, and of no kind.
+/// Lines that agents don't write, as the texts before and after a time: with other digits or spaces, with `-` for no
+/// bytes, with a word more or less, of numbers out of range, and of no kind.
 const ODD_LINES: [(&[u8], &[u8]); 25] = [
     (b"#event 0", b" 61 7631\n"),
     (b"#event ", b" 6A 6b\n"),
@@ -43,15 +43,15 @@ const ODD_LINES: [(&[u8], &[u8]); 25] = [
     (b"#event 0 61 ", b"\n"),
 ];
 
-/// What an agent takes: an event of this time, name and payload, or a query of this time and ID.
+/// What an agent takes: an event, by its time, name and payload, or a query, by its time and ID.
 #[derive(Clone, Copy)]
 enum Taken<'a> {
     Event(Time, &'a [u8], &'a [u8]),
     Query(Time, u32),
 }
 
-/// What an agent that keeps its events writes as it takes an event or a query: now and then without the clock line in
-/// front.
+/// Appends to `text` what an agent that keeps its events writes as it takes `taken`; one time in two without the clock
+/// line in front.
 fn put_taken(dice: &mut Dice, text: &mut Vec<u8>, taken: &Taken) -> Result<(), AllocError> {
     let (kind, time) = match taken {
         Taken::Event(time, ..) => (ClockKind::Event, *time),
@@ -66,7 +66,7 @@ fn put_taken(dice: &mut Dice, text: &mut Vec<u8>, taken: &Taken) -> Result<(), A
     }
 }
 
-/// One of the packets that were sent; none now and then, and where none was sent.
+/// One of the packets `sent`, mostly one of the last; no bytes now and then, and where none was sent.
 fn packet_of<'a>(player: &mut Player, sent: &'a [Bytes]) -> &'a [u8] {
     match sent.get(player.older() as usize) {
         Some(packet) => packet.as_slice(),
@@ -74,7 +74,7 @@ fn packet_of<'a>(player: &mut Player, sent: &'a [Bytes]) -> &'a [u8] {
     }
 }
 
-/// The event, or the query, that a packet has.
+/// The event, or by `kind` the query, that `packet` is; `None` where it is none.
 fn taken_in(kind: ClockKind, packet: &[u8]) -> Option<Taken<'_>> {
     match decode(packet) {
         Ok(Message::UserEvent(event)) if kind == ClockKind::Event => {
@@ -87,7 +87,7 @@ fn taken_in(kind: ClockKind, packet: &[u8]) -> Option<Taken<'_>> {
     }
 }
 
-/// The line of an event, or of a query, that was sent, if one is found.
+/// Appends to `text` the line of an event, or by `kind` of a query, of the packets `sent`, if one is found.
 fn put_sent(
     player: &mut Player,
     sent: &[Bytes],
@@ -102,7 +102,7 @@ fn put_sent(
     Ok(())
 }
 
-/// The line of an event near the agent's window; now and then of one that is as long as an event may be, or nearly so.
+/// Appends the line of an event near the agent's window; now and then of one about as long as an event may be.
 fn put_near_event(player: &mut Player, text: &mut Vec<u8>) -> Result<(), AllocError> {
     let Some(time) = Time::new(player.event_edge()) else {
         return Ok(());
@@ -113,7 +113,7 @@ fn put_near_event(player: &mut Player, text: &mut Vec<u8>) -> Result<(), AllocEr
     put_taken(&mut player.dice, text, &event)
 }
 
-/// The line of a query near the agent's window.
+/// Appends the line of a query near the agent's window.
 fn put_near_query(player: &mut Player, text: &mut Vec<u8>) -> Result<(), AllocError> {
     let Some(time) = Time::new(player.query_edge()) else {
         return Ok(());
@@ -123,7 +123,7 @@ fn put_near_query(player: &mut Player, text: &mut Vec<u8>) -> Result<(), AllocEr
     put_taken(&mut player.dice, text, &query)
 }
 
-/// A line of a clock or of a least time near the agent's window of events, or of queries.
+/// Appends a line of a clock or of a minimum near the agent's window of events, or of queries.
 fn put_clock(player: &mut Player, text: &mut Vec<u8>) -> Result<(), AllocError> {
     let (kind, front, number): (ClockKind, &[u8], u64) = if player.dice.one_in(3) {
         (ClockKind::Query, b"query-clock: ", player.query_edge())
@@ -141,7 +141,7 @@ fn put_clock(player: &mut Player, text: &mut Vec<u8>) -> Result<(), AllocError> 
     }
 }
 
-/// A line that agents don't write.
+/// Appends a line that agents don't write, one of [`ODD_LINES`].
 fn put_odd_line(player: &mut Player, text: &mut Vec<u8>) -> Result<(), AllocError> {
     let (front, behind) = player.dice.pick(&ODD_LINES, (b"", b""));
     text.extend_from_slice(front)?;
@@ -149,7 +149,7 @@ fn put_odd_line(player: &mut Player, text: &mut Vec<u8>) -> Result<(), AllocErro
     text.extend_from_slice(behind)
 }
 
-/// One line, or two where it has its clock line in front.
+/// Appends a line of what was `sent` or of something else, or two, where it has its clock line in front.
 fn put_line(player: &mut Player, sent: &[Bytes], text: &mut Vec<u8>) -> Result<(), AllocError> {
     match player.dice.below(16) {
         0..=4 => put_sent(player, sent, ClockKind::Event, text),
@@ -161,18 +161,18 @@ fn put_line(player: &mut Player, sent: &[Bytes], text: &mut Vec<u8>) -> Result<(
     }
 }
 
-/// Cuts a text anywhere, or shortly before its end.
+/// Cuts `text` anywhere, or shortly before its end.
 fn tear(dice: &mut Dice, text: &mut Vec<u8>) {
     let len = text.len() as u64;
-    let left = if dice.one_in(2) {
+    let torn_len = if dice.one_in(2) {
         dice.below(len)
     } else {
         len.saturating_sub(dice.below(12))
     };
-    text.truncate(left as usize);
+    text.truncate(torn_len as usize);
 }
 
-/// Up to three lines; one time in three the last of them is torn.
+/// Up to three lines ([`put_line`]); one time in three the last of them is torn.
 fn lines(player: &mut Player, sent: &[Bytes]) -> Result<Vec<u8>, AllocError> {
     let mut text = Vec::new(player.alloc);
     for _line in 0..player.dice.below(3).saturating_add(1) {
@@ -184,8 +184,8 @@ fn lines(player: &mut Player, sent: &[Bytes]) -> Result<Vec<u8>, AllocError> {
     Ok(text)
 }
 
-/// A tail of an agent whose tracks the player has: none, lines of agents that keep their events, or one of those that other
-/// kinds have.
+/// A tail for an agent whose tracks the player has: none, lines of agents that keep their events, of what was `sent` and
+/// of other things, or now and then a tail as schedules of other kinds have it.
 pub(crate) fn kept_tail(player: &mut Player, sent: &[Bytes]) -> Result<Vec<u8>, AllocError> {
     match player.dice.below(20) {
         0..=8 => Ok(Vec::new(player.alloc)),

@@ -1,9 +1,9 @@
-//! The tracks of an agent, and times at their edges.
+//! The tracks of an agent, for events and for queries, and times at their edges.
 
 use crate::dice::Dice;
 use serf_world::World;
 
-/// A track of an agent: its clock, how many times it keeps, and its least time.
+/// What the edges of an agent's track depend on: its clock, how many slots its window has, and the least time it takes.
 #[derive(Clone, Copy)]
 pub(crate) struct Track {
     pub(crate) clock: u64,
@@ -11,47 +11,47 @@ pub(crate) struct Track {
     minimum: u64,
 }
 
-/// The tracks of an agent.
+/// The two tracks of an agent.
 #[derive(Clone, Copy)]
 pub(crate) struct Tracks {
     pub(crate) events: Track,
     pub(crate) queries: Track,
 }
 
-/// A track as one may be at first.
-const FIRST: Track = Track {
+/// The track of a new agent with one slot.
+const NEW_TRACK: Track = Track {
     clock: 1,
     slots: 1,
     minimum: 0,
 };
 
-/// The tracks of no agent.
+/// The tracks that stand for those of an agent that doesn't exist.
 pub(crate) const NO_TRACKS: Tracks = Tracks {
-    events: FIRST,
-    queries: FIRST,
+    events: NEW_TRACK,
+    queries: NEW_TRACK,
 };
 
-/// The tracks of the agent of a number, or those of none where there is none.
-pub(crate) fn tracks_of(world: &World, agent: u64) -> Tracks {
-    let Some(one) = world.agent(agent) else {
+/// The tracks of agent `agent_number` of `world`, or [`NO_TRACKS`] where there is no such agent.
+pub(crate) fn tracks_of(world: &World, agent_number: u64) -> Tracks {
+    let Some(agent) = world.agent(agent_number) else {
         return NO_TRACKS;
     };
     Tracks {
         events: Track {
-            clock: one.event_time(),
-            slots: one.config().event_buffer,
-            minimum: one.event_minimum(),
+            clock: agent.event_time(),
+            slots: agent.config().event_buffer,
+            minimum: agent.event_minimum(),
         },
         queries: Track {
-            clock: one.query_time(),
-            slots: one.config().query_buffer,
-            minimum: one.query_minimum(),
+            clock: agent.query_time(),
+            slots: agent.config().query_buffer,
+            minimum: agent.query_minimum(),
         },
     }
 }
 
-/// A time at an edge of a track: its clock, the front and the back of its window, its least time, or the ends of all
-/// times.
+/// A time at an edge of `track`, or one less or one more: its clock, the oldest time of its window, its minimum; now and
+/// then a time within the window or beyond it, or one below 8.
 pub(crate) fn edge_of_track(dice: &mut Dice, track: &Track) -> u64 {
     let Track {
         clock,

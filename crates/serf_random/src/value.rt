@@ -1,33 +1,33 @@
-//! The values of a packet, in the forms that MessagePack has for each.
+//! The values of a packet in all forms of MessagePack. A head is a form's first byte, before a number, length or count.
 
 use serf_pack::{put_array, put_bool, put_int, put_map, put_nil, put_raw, put_uint};
 use serf_wire::Bytes;
 use std::alloc::AllocError;
 
-/// Numbers of 8, 16, 32 and 64 bits, without a sign and with one.
+/// The heads of numbers of 8, 16, 32 and 64 bits, without a sign and with one.
 const NUMBERS: [u8; 8] = [0xcc, 0xcd, 0xce, 0xcf, 0xd0, 0xd1, 0xd2, 0xd3];
 
-/// Numbers with a sign.
+/// The heads of numbers with a sign, of 8, 16, 32 and 64 bits.
 const SIGNED: [u8; 4] = [0xd0, 0xd1, 0xd2, 0xd3];
 
-/// Texts, and bytes (the bin forms), with a length of 8, 16 or 32 bits.
+/// The heads of texts, and of bytes (the bin forms), with a length of 8, 16 or 32 bits.
 const TEXTS: [u8; 6] = [0xd9, 0xda, 0xdb, 0xc4, 0xc5, 0xc6];
 
-/// Arrays with a count of 16 or 32 bits.
+/// The heads of arrays with a count of 16 or 32 bits.
 const ARRAYS: [u8; 2] = [0xdc, 0xdd];
 
-/// Maps with a count of 16 or 32 bits.
+/// The heads of maps with a count of 16 or 32 bits.
 const MAPS: [u8; 2] = [0xde, 0xdf];
 
-/// What has a length or a count of its own.
+/// The heads of texts, bytes, arrays and maps, after which a length or a count stands.
 pub(crate) const LENGTHS: [u8; 10] = [0xc4, 0xc5, 0xc6, 0xd9, 0xda, 0xdb, 0xdc, 0xdd, 0xde, 0xdf];
 
-/// What no message has: the byte that is never used, extensions and fractions.
+/// The first bytes of what no message has: the byte that is never used, extensions and fractions.
 pub(crate) const UNSUPPORTED: [u8; 11] = [
     0xc1, 0xc7, 0xc8, 0xc9, 0xca, 0xcb, 0xd4, 0xd5, 0xd6, 0xd7, 0xd8,
 ];
 
-/// How many bytes stand after a head.
+/// How many bytes the number, length or count after `head` has.
 pub(crate) fn width_of(head: u8) -> usize {
     match head {
         0xc4 | 0xcc | 0xd0 | 0xd9 => 1,
@@ -37,7 +37,7 @@ pub(crate) fn width_of(head: u8) -> usize {
     }
 }
 
-/// The greatest number that may stand after a head.
+/// The greatest number, length or count that may stand after `head`.
 pub(crate) fn most_of(head: u8) -> u64 {
     match head {
         0xd0 => 0x7f,
@@ -53,7 +53,7 @@ pub(crate) fn most_of(head: u8) -> u64 {
     }
 }
 
-/// A value, or the head of one whose parts follow.
+/// A value to be written, or the beginning of one whose parts are written after it.
 #[derive(Clone, Copy)]
 pub(crate) enum Value<'a> {
     Nil,
@@ -61,12 +61,13 @@ pub(crate) enum Value<'a> {
     Number(u64),
     Signed(i64),
     Text(&'a [u8]),
+    /// A text that is the key of a map, and never nil.
     Key(&'a [u8]),
-    /// An array of so many items.
+    /// The beginning of an array of this many items.
     Items(u64),
-    /// An array of these texts.
+    /// The beginning of an array of these texts.
     Texts(&'a [Bytes]),
-    /// A map of so many pairs.
+    /// The beginning of a map of this many pairs.
     Pairs(u64),
 }
 
@@ -74,7 +75,7 @@ pub(crate) enum Value<'a> {
 pub(crate) type Field<'a> = (&'static [u8], Value<'a>);
 
 impl Value<'_> {
-    /// Whether nil may stand for it.
+    /// Whether nil may stand for the value in a message: where it is 0, false or empty.
     pub(crate) fn may_be_nil(self) -> bool {
         match self {
             Value::Number(number) => number == 0,
@@ -85,7 +86,8 @@ impl Value<'_> {
         }
     }
 
-    /// The heads of its wide forms, what a head has to have room for, and the bits behind it; `None` where there are none.
+    /// The heads of the value's wide forms, what [`most_of`] one has to be at least (for a number below 0, one less than
+    /// its size), and the 64 bits of which the last stand after it; `None` where the value has no wide form.
     pub(crate) fn wide_forms(self) -> Option<(&'static [u8], u64, u64)> {
         let (heads, size): (&'static [u8], u64) = match self {
             Value::Nil | Value::Truth(_) => return None,
@@ -106,12 +108,12 @@ impl Value<'_> {
     }
 }
 
-/// A text that may live longer than the others of its message.
+/// `text` as a value. As it is a call, a constant may stand beside texts of a message that live less long.
 pub(crate) fn text(text: &[u8]) -> Value<'_> {
     Value::Text(text)
 }
 
-/// A text. One of 4 GiB and more, which is never made, is left out.
+/// Appends `text` to `out` in its canonical form. One of 4 GiB and more, which is never made, is left out.
 fn put_text(out: &mut Vec<u8>, text: &[u8]) -> Result<(), AllocError> {
     if text.len() as u64 > u64::from(u32::MAX) {
         return Ok(());
@@ -119,7 +121,7 @@ fn put_text(out: &mut Vec<u8>, text: &[u8]) -> Result<(), AllocError> {
     put_raw(out, text)
 }
 
-/// A value in its canonical form. No count is above 255.
+/// Appends `value`, or its beginning, to `out` in its canonical form. No count that is made is above 255.
 pub(crate) fn put_canonical(out: &mut Vec<u8>, value: Value) -> Result<(), AllocError> {
     match value {
         Value::Nil => put_nil(out),

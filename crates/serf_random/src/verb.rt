@@ -1,4 +1,4 @@
-//! What a player does next, by the kind of its schedule.
+//! What a player may do next, and how often by the kind of its schedule.
 
 use crate::kind::Kind;
 use crate::verb::Verb::{
@@ -7,7 +7,7 @@ use crate::verb::Verb::{
 };
 use serf_schedule::Lone;
 
-/// What a player does next.
+/// What a player does next: an agent acts, or a stranger's packet is injected, which an agent gets.
 #[derive(Clone, Copy)]
 pub(crate) enum Verb {
     /// An agent fires an event.
@@ -30,21 +30,21 @@ pub(crate) enum Verb {
     Break,
     /// A stranger's event, at the edges of the agent's window.
     Event,
-    /// A stranger's query, likewise.
+    /// A stranger's query, at the edges of the agent's window.
     Query,
     /// A stranger's ack or response to the last query.
     Answer,
-    /// A stranger's state.
+    /// A stranger's state, which the agent merges.
     State,
-    /// A packet with a byte more, less or other.
+    /// One of the last packets, or a stranger's event, that is cut, or has a byte more or another byte.
     Spoil,
     /// A stranger's packet, in any spelling.
     Spelled,
     /// A packet of Serf's other messages, or of no message.
     Foreign,
-    /// An agent closes its open queries.
+    /// An agent closes its open queries that are past their deadlines.
     Close,
-    /// An agent does what a word says that stands alone.
+    /// An agent does what a single word of a schedule says.
     Lone(Lone),
 }
 
@@ -54,7 +54,7 @@ const SAVE: Verb = Verb::Lone(Lone::Save);
 /// An agent compacts its snapshot.
 const COMPACT: Verb = Verb::Lone(Lone::Compact);
 
-/// What a player of this kind does, each as often as it stands here. Rounds are walked, and never played.
+/// The verbs of which a player picks the next, by `kind`, each as often as it stands here. A player plays no rounds.
 pub(crate) fn verbs(kind: Kind) -> &'static [Verb] {
     match kind {
         Kind::Mixed => &[

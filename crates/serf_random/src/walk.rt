@@ -1,4 +1,4 @@
-//! Rounds of gossip, as Serf's memberlist spreads broadcasts.
+//! Rounds of gossip, as Serf's memberlist spreads broadcasts: in each, agents send the packets that are new to them.
 
 use crate::ask::{Ask, MAX_FANOUT, MAX_ROUNDS};
 use crate::dice::Dice;
@@ -10,7 +10,7 @@ use serf_world::World;
 use std::alloc::{AllocError, Global};
 use std::mem;
 
-/// The seed of a walk's numbers: other ones than those of the settings.
+/// Mixed into the seed, so that rounds draw other numbers than the settings do.
 const SALT: u64 = 0x60551b;
 
 /// How long a round takes, in nanoseconds (memberlist's `GossipInterval` in a local network).
@@ -19,7 +19,7 @@ const ROUND: u64 = 200_000_000;
 /// In how many of the first rounds events are fired.
 const FIRING_ROUNDS: u64 = 3;
 
-/// How many events are fired in such a round, at most.
+/// How many events are fired at most in each of the first [`FIRING_ROUNDS`] rounds.
 const MAX_FIRED: u64 = 2;
 
 /// How many rounds there are from one exchange of states to the next.
@@ -31,16 +31,16 @@ const SENDS_PER_DIGIT: u64 = 4;
 /// How often an agent is drawn for each that is wanted, at most (memberlist's `kRandomNodes` does likewise).
 const DRAWS: u64 = 3;
 
-/// A packet that an agent goes on sending.
+/// A packet, by its number from 0 on, that an agent goes on sending.
 #[derive(Clone, Copy)]
 struct Rumor {
     agent: u64,
     packet: u64,
-    /// How often it is sent yet.
+    /// How often the agent is still to send it.
     left: u64,
 }
 
-/// What is done in a round.
+/// One action of a round, as it is planned.
 #[derive(Clone, Copy)]
 enum Step {
     /// An agent fires an event.
@@ -49,34 +49,35 @@ enum Step {
     Deliver { agent: u64, packet: u64 },
     /// An agent sends its state.
     State { agent: u64 },
-    /// An agent merges the packet at this place, counted from the end of those sent.
+    /// An agent merges the packet at place `back` from the end of those sent; the last one is at 1.
     Merge { agent: u64, back: u64 },
 }
 
-/// What the agents of a cluster still spread, and what is left of the present round.
+/// A course of gossip by rounds: what the agents of a cluster still spread, and what is left of the present round.
 #[derive(Drop)]
 pub(crate) struct Walk {
     alloc: Global,
     dice: Dice,
     /// How many agents the cluster has.
     agents: u64,
+    /// To how many others an agent sends a packet in a round.
     fanout: u64,
     /// How many packets in a hundred are lost.
     loss: u64,
-    /// How often an agent sends a packet.
+    /// How often an agent sends a packet, over all rounds.
     sends: u64,
-    /// The number of the last round.
+    /// The number of the last round, from 1 on.
     rounds: u64,
-    /// The present round, from 1; 0 before the first.
+    /// The number of the present round, from 1 on; 0 before the first.
     round: u64,
-    /// How many events were fired.
+    /// How many events were fired so far.
     fired: u64,
     rumors: Vec<Rumor>,
     /// What is left of the present round, the last step first.
     steps: Vec<Step>,
 }
 
-/// How often an agent sends a packet in a cluster of so many: four times for each digit of their number.
+/// How often an agent sends a packet in a cluster of `agents` agents: four times for each digit of their number.
 fn sends_of(agents: u64) -> u64 {
     let digits: u64 = match agents {
         0..=9 => 1,
@@ -88,7 +89,7 @@ fn sends_of(agents: u64) -> u64 {
     digits.saturating_mul(SENDS_PER_DIGIT)
 }
 
-/// Another agent than this one, of at least two.
+/// The number of another agent than `agent`, in a cluster of `agents`, at least two.
 fn other_than(dice: &mut Dice, agents: u64, agent: u64) -> u64 {
     let other = dice.below(agents.saturating_sub(1));
     if other >= agent {
@@ -98,7 +99,7 @@ fn other_than(dice: &mut Dice, agents: u64, agent: u64) -> u64 {
     }
 }
 
-/// Some other agents than this one, of at least two, each once: so many, or fewer where the same are drawn again.
+/// The numbers of `most` other agents than `agent`, of `agents`, at least two; fewer where too many draws are repeats.
 fn others(
     alloc: Global,
     dice: &mut Dice,
@@ -120,7 +121,7 @@ fn others(
 }
 
 impl Walk {
-    /// What comes before the first round in a cluster of so many agents.
+    /// The rounds that `ask` asks for, before the first one, in a cluster of `agents` agents.
     pub(crate) fn new(alloc: Global, ask: &Ask, agents: u64) -> Walk {
         Walk {
             alloc,
@@ -137,19 +138,19 @@ impl Walk {
         }
     }
 
-    /// Plans rounds up to one in which there is something to do.
-    fn go_on(&mut self) -> Result<(), AllocError> {
+    /// Where no step is left, plans one round after another, until one has a step or the last is planned.
+    fn plan_next(&mut self) -> Result<(), AllocError> {
         for _round in self.round..self.rounds {
             if !self.steps.is_empty() {
                 return Ok(());
             }
-            self.plan()?;
+            self.plan_round()?;
         }
         Ok(())
     }
 
-    /// Begins the next round: what is done in it.
-    fn plan(&mut self) -> Result<(), AllocError> {
+    /// Begins the next round, and plans its steps.
+    fn plan_round(&mut self) -> Result<(), AllocError> {
         self.round = self.round.saturating_add(1);
         if self.agents == 0 {
             return Ok(());
@@ -167,6 +168,7 @@ impl Walk {
         Ok(())
     }
 
+    /// Plans that agents fire events, from one up to [`MAX_FIRED`].
     fn plan_events(&mut self) -> Result<(), AllocError> {
         let fired = self.dice.below(MAX_FIRED).saturating_add(1);
         for _event in 0..fired {
@@ -176,7 +178,7 @@ impl Walk {
         Ok(())
     }
 
-    /// Each packet that an agent goes on sending goes to some others.
+    /// Plans that each packet that an agent goes on sending goes to some others.
     fn plan_sends(&mut self) -> Result<(), AllocError> {
         let rumors = mem::replace(&mut self.rumors, Vec::new(self.alloc));
         for rumor in rumors {
@@ -189,7 +191,7 @@ impl Walk {
         Ok(())
     }
 
-    /// Sends a packet to some others, of which each gets it unless it is lost; how often it was sent.
+    /// Plans that `rumor` is sent to some others, of which each gets it unless it is lost; gives how often it is sent.
     fn plan_rumor(&mut self, rumor: Rumor) -> Result<u64, AllocError> {
         let most = self.fanout.min(rumor.left);
         let targets = others(self.alloc, &mut self.dice, self.agents, rumor.agent, most)?;
@@ -204,7 +206,7 @@ impl Walk {
         Ok(targets.len() as u64)
     }
 
-    /// Two agents send each other their states.
+    /// Plans that two agents send their states, and that each merges the other's.
     fn plan_exchange(&mut self) -> Result<(), AllocError> {
         let one = self.dice.below(self.agents);
         let other = other_than(&mut self.dice, self.agents, one);
@@ -222,6 +224,7 @@ impl Walk {
         ])
     }
 
+    /// The action of `step` in the cluster `world`.
     fn action_of(&mut self, world: &World, step: Step) -> Result<Action, AllocError> {
         Ok(match step {
             Step::Fire { agent } => done_by(agent, self.fire()?),
@@ -238,7 +241,7 @@ impl Walk {
         })
     }
 
-    /// The next event: its payload is its number, so that no two are the same.
+    /// An agent's firing of the next event, whose payload is its number, from 1 on, so that no two are the same.
     fn fire(&mut self) -> Result<Act, AllocError> {
         self.fired = self.fired.saturating_add(1);
         let mut payload = Vec::new(self.alloc);
@@ -254,14 +257,14 @@ impl Walk {
 impl Course for Walk {
     /// The next action; `None` after the last round.
     fn next_action(&mut self, world: &World) -> Result<Option<Action>, AllocError> {
-        self.go_on()?;
+        self.plan_next()?;
         match self.steps.pop() {
             Some(step) => Ok(Some(self.action_of(world, step)?)),
             None => Ok(None),
         }
     }
 
-    /// What an agent fired, or got for the first time, it goes on sending from the next round on.
+    /// Notes that an agent goes on sending, from the next round on, what by `line` it fired or got for the first time.
     fn note(&mut self, action: &Action, line: &Line) -> Result<(), AllocError> {
         let Action::Of { agent, .. } = action else {
             return Ok(());

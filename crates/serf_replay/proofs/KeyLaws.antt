@@ -1,16 +1,5 @@
 -- Equal keys are those of one event, or of one answer.
-use Rattle.std.proofs.Common.{◌≡◌, ◌∙◌, ℕ, ◌&&◌, true, List, refl, sym, ap, nat_eq, Bor, Decides}
-use Rattle.std.specs.Str.{bytes_eq}
-use Rattle.std.specs.Cmp.Lexicographic.{pointwise}
-use Rattle.std.proofs.lemmas.Bool.{and_parts}
-use Rattle.std.proofs.lemmas.Bool.Decides.{Decides-eqb}
-use Rattle.std.proofs.lemmas.Slice.Eq.{slice_eq-Decides}
-use Rattle.serf_model.specs.declared.line.EventLine.{EventLine}
-use Rattle.serf_model.specs.declared.line.Line.{Line}
-use Rattle.serf_replay.specs.declared.keys.EventKey.{EventKey}
-use Rattle.serf_schedule.specs.Show.{answer_words}
-use Rattle.serf_replay.specs.Notes.{is_event}
-use Rattle.serf_replay.specs.Summaries.{Event, event_in, event_key_eq, event_of}
+use Rattle.serf_replay.proofs.Names.{Bor, Decides, List, ap, nat_eq, refl, sym, true, ℕ, ◌&&◌, ◌∙◌, ◌≡◌, and_parts, Decides-eqb, slice_eq-Decides, pointwise, bytes_eq, EventLine, Line, answer_words, is_event, Event, event_in, event_key_eq, event_of, EventKey}
 
 bytes : (xs ys : List ℕ) → Decides (pointwise nat_eq xs ys) (xs ≡ ys)
 bytes xs ys = slice_eq-Decides Decides-eqb xs ys (pointwise nat_eq xs ys) refl

@@ -1,7 +1,6 @@
 -- One more line.
-use Rattle.std.proofs.Common.{◌≡◌, ◌∙◌, ◌+◌, ◌++◌, ◌∷◌, ℕ, List, [], sym, ap, length, arith, append_assoc, append-nil}
-use Rattle.serf_model.specs.declared.line.Line.{Line}
-use Rattle.serf_replay.specs.Notes.{events_at, hand_outs_from, numbered_from}
+use Rattle.serf_replay.proofs.Names.{List, [], ap, append_assoc, arith, length, sym, ℕ, ◌++◌, ◌+◌, ◌∙◌, ◌∷◌, ◌≡◌, Line, events_at, hand_outs_from, numbered_from}
+use Rattle.std.proofs.Common.{append-nil}
 
 pub numbered-push : (n m : ℕ) (lines : List Line) (line : Line) → m ≡ n + length lines + 1 → numbered_from n (lines ++ line ∷ []) ≡ numbered_from n lines ++ (line, m) ∷ []
 numbered-push n m [] line is = let here : n + 1 ≡ m = omega arith in ap (λ (k : ℕ). (line, k) ∷ []) here

@@ -1,13 +1,5 @@
 -- One more note.
-use Rattle.std.proofs.Common.{◌≡◌, ◌∙◌, ◌++◌, ◌∷◌, ℕ, Bool, true, false, cond, List, [], map, Option, Some, None, Result, Ok, Err, refl, sym, ap}
-use Rattle.std.specs.Prelude.{OnOk}
-use Rattle.std.specs.List.{fold}
-use Rattle.std.specs.Map.{keys_of}
-use Rattle.std.proofs.lemmas.List.{map-append}
-use Rattle.std.proofs.lemmas.List.Sums.{fold-append}
-use Rattle.serf_replay.specs.declared.tally.Spread.{Spread}
-use Rattle.indexmap.specs.IndexMap.{insert_entry}
-use Rattle.serf_replay.specs.Tally.{again, firsts, noted, spread_in, with_first, with_note}
+use Rattle.serf_replay.proofs.Names.{Bool, Err, List, None, Ok, Option, Result, Some, [], ap, cond, false, map, refl, sym, true, ℕ, ◌++◌, ◌∙◌, ◌∷◌, ◌≡◌, map-append, fold-append, fold, keys_of, OnOk, insert_entry, again, firsts, noted, spread_in, with_first, with_note, Spread}
 
 spread-push : {X : Type 0} (is : X → Bool) (notes : List (X × ℕ)) (x : X) (n : ℕ) → spread_in is (notes ++ (x, n) ∷ []) ≡ with_note is (spread_in is notes) (x, n)
 spread-push is notes x n = fold-append (with_note is) None notes ((x, n) ∷ [])

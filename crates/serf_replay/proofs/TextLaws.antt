@@ -1,29 +1,7 @@
 -- What a run tells is the text of the trace of a schedule.
-use Rattle.std.proofs.Common.{◌≡◌, ◌+◌, ◌++◌, ◌∙◌, inr, ℕ, List, [], ◌∷◌, Option, Result, Ok, Err, refl, sym, ap, subst, length, append-nil}
-use Rattle.std.specs.Prelude.{All}
-use Rattle.serf_agent.specs.declared.config.Config.{Config}
-use Rattle.serf_model.specs.declared.action.Action.{Action}
-use Rattle.serf_model.specs.Cluster.{run_of, trace_of}
-use Rattle.serf_model.specs.Kept.{KeepsPromises}
-use Rattle.serf_model.specs.Runs.{AreConfigs}
-use Rattle.serf_model.specs.Sizes.{HasSizes}
-use Rattle.serf_model.specs.Tails.{CanTell}
-use Rattle.serf_model.specs.Trace.{turns_of}
-use Rattle.serf_text.specs.declared.cause.Cause.{Cause}
-use Rattle.serf_text.specs.declared.stream_fault.StreamFault.{StreamFault}
-use Rattle.serf_text.specs.Gives.{BadLine}
-use Rattle.serf_text.specs.Lines.{lines_of}
-use Rattle.serf_text.specs.Streams.{StopsAt}
-use Rattle.serf_schedule.specs.Laws.{SchedulesAreSized, SchedulesAreTold}
-use Rattle.serf_schedule.specs.Output.{output_of, text_of}
-use Rattle.serf_schedule.specs.Running.{HasRun, HasStreamed, is_refused_by}
-use Rattle.serf_schedule.specs.Schedule.{schedule_in}
-use Rattle.serf_schedule.specs.TraceText.{tells_trace}
+use Rattle.serf_replay.proofs.Names.{Err, List, Ok, Option, Result, [], ap, inr, length, refl, subst, sym, ℕ, ◌++◌, ◌+◌, ◌∙◌, ◌∷◌, ◌≡◌, All, BadLine, lines_of, StopsAt, Cause, StreamFault, Config, run_of, trace_of, KeepsPromises, AreConfigs, HasSizes, CanTell, turns_of, Action, SchedulesAreSized, SchedulesAreTold, output_of, text_of, HasRun, HasStreamed, is_refused_by, schedule_in, tells_trace, SchedulesTraceRuns, TracesRun, IsHalted, IsHaltedAt, run_in}
+use Rattle.std.proofs.Common.{append-nil}
 use Rattle.serf_schedule.specs.declared.run.Run.{Run}
-use Rattle.serf_replay.specs.Laws.{SchedulesTraceRuns}
-use Rattle.serf_replay.specs.Output.{TracesRun}
-use Rattle.serf_replay.specs.Stopped.{IsHalted, IsHaltedAt}
-use Rattle.serf_replay.specs.Turns.{run_in}
 
 pub traces-run : SchedulesAreSized → SchedulesAreTold → ((configs : List Config) (done left : List Action) → AreConfigs configs → turns_of (done ++ left) (trace_of (run_of configs done)) ≡ (run_of configs done).turns)
     → ((configs : List Config) (actions : List Action) → AreConfigs configs → CanTell configs actions → All HasSizes actions → KeepsPromises configs (run_of configs actions)) → SchedulesTraceRuns

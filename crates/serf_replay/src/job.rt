@@ -1,4 +1,4 @@
-//! The whole job: a schedule in, its trace out.
+//! Replays a whole schedule: reads it to its end, runs it, and then writes the trace of its cluster.
 
 ghost use Rattle.std.specs.Prelude.{◌≡◌, ◌<◌, ◌≤◌, ◌+◌, List, ℕ, length, OnOk, IfOk, IfErr, IfSome, IsErrOf, Ok, Err};
 ghost use Rattle.std.specs.Io.KnownBytes.{Appends, Consumes};
@@ -13,7 +13,8 @@ use serf_text::{Cause, InputFault, StreamLineFault, read_input, tell_text, write
 use std::alloc::Global;
 use std::io::{Read, Write};
 
-/// The text of the trace of a schedule's text: each line is done as soon as it is read.
+/// The text of the trace of the schedule `input`: its lines are read and done one by one, and `watch` is told of each
+/// action that is done.
 fn output_text<T: Watch>(
     alloc: Global,
     input: &[u8],
@@ -22,6 +23,7 @@ fn output_text<T: Watch>(
     ensures text { GivesText result (output_of input.now) }
     ensures run { IfOk result (λ text. TracesRun input.now text.items) }
 {
+    // The prover learns that the text of a schedule's trace traces a run that keeps all promises.
     traced_schedules();
     let all = count_watched(input, watch);
     let teller = TraceText;
@@ -35,9 +37,9 @@ fn output_text<T: Watch>(
 
 /// Reads a schedule to its end, and writes the trace of its cluster.
 ///
-/// At most 16,777,217 bytes are read, and nothing is written before all is read, parsed and run. On `Ok` just the
-/// trace's text was written, and the run that it shows keeps all promises ([`serf_model::run_promises`]). The watch is told of each action of the run that is done ([`crate::Unwatched`] does nothing
-/// with it).
+/// At most 16,777,217 bytes are read, and nothing is written before all is read, parsed and run. On `Ok` just the trace's
+/// text was written, and the run that it shows keeps all promises ([`serf_model::run_promises`]). `watch` is told of each
+/// action of the run that is done ([`crate::Unwatched`] is a watch that does nothing).
 pub fn replay<R: Read, W: Write, T: Watch>(
     alloc: Global,
     reader: &mut R,

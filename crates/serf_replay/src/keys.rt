@@ -1,11 +1,11 @@
-//! What is counted.
+//! An event as a summary counts it: by its time, name and payload.
 
 ghost use Rattle.std.specs.Prelude.{◌≡◌, IfOk};
 
 use serf_model::EventLine;
 use std::alloc::{AllocError, Global};
 
-/// An event: a time, a name and a payload.
+/// An event: its Lamport time, its name and its payload. Events with equal ones are one event.
 #[derive(Drop, PartialEq, Eq, Hash)]
 pub struct EventKey {
     pub time: u64,
@@ -13,7 +13,7 @@ pub struct EventKey {
     pub payload: Vec<u8>,
 }
 
-/// The event of a line.
+/// A copy of the event that the trace's line `event` shows.
 pub(crate) fn key_of(alloc: Global, event: &EventLine) -> Result<EventKey, AllocError>
     ensures { IfOk result (λ key. (key.time ≡ event.now.time) × (key.name.items ≡ event.now.name)
         × (key.payload.items ≡ event.now.payload)) }

@@ -1,4 +1,4 @@
-//! What holds of every schedule that is run: the contract of a function that does nothing.
+//! What holds of every schedule: the clause of a function that does nothing, which the prover learns by a call.
 
 ghost use Rattle.serf_replay.specs.Laws.{SchedulesTraceRuns};
 
@@ -9,6 +9,7 @@ use serf_schedule::{sized_schedules, told_schedules};
 pub fn traced_schedules()
     ensures traces { SchedulesTraceRuns }
 {
+    // A schedule's actions are as `run_promises` asks, so its run keeps all promises; and its trace shows its turns.
     sized_schedules();
     told_schedules();
     run_promises();

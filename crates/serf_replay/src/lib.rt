@@ -1,8 +1,8 @@
 //! Runs of schedules, over any reader and writer. A schedule goes in, and the trace of its cluster comes out, at the end
-//! or line by line. A summary has what came of a run in few lines: how often each answer came, what each agent was
-//! handed, and when the last agent had each event.
+//! or line by line. A summary counts a run in few lines: how often each answer came, how many events each agent was
+//! handed, and at which action the last agent had each event.
 //!
-//! [`serf_schedule`] and [`serf_text`] have what a run reads and writes. Their calls are passed on.
+//! [`serf_schedule`] and [`serf_text`] have what a run reads and writes. What callers need of them is exported here too.
 #![tactic(auto)]
 
 mod job;

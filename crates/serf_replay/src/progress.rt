@@ -1,20 +1,20 @@
-//! How far a run is.
+//! How many actions a schedule has, for a watch that shows how far its run is.
 
 use serf_schedule::Watch;
 use serf_text::{cut, is_word};
 
-/// Whether a line of a schedule has an action: its first word is another than that of an agent.
+/// Whether `line`, of a schedule, has an action: it has words, is no comment (`#`), and doesn't begin with `agent`.
 fn has_action(line: &[u8]) -> bool {
     if line.starts_with(b"#") {
         return false;
     }
-    match line.iter().position(|b| *b != b' ') {
-        Some(at) => !is_word(cut(&line[at..], b' ').0, b"agent"),
+    match line.iter().position(|byte| *byte != b' ') {
+        Some(word_at) => !is_word(cut(&line[word_at..], b' ').0, b"agent"),
         None => false,
     }
 }
 
-/// How many lines of a schedule's text have an action.
+/// How many lines of the schedule `text` have an action; it stops at 2^64 - 1.
 fn count_actions(text: &[u8]) -> u64 {
     let mut count: u64 = 0;
     let mut rest = text;
@@ -30,7 +30,7 @@ fn count_actions(text: &[u8]) -> u64 {
     }
 }
 
-/// How many actions a schedule's text has. Where nobody watches, they are not counted: it is 0.
+/// How many actions the schedule `text` has; 0, without a count, where `watch` isn't watching.
 pub(crate) fn count_watched<T: Watch>(text: &[u8], watch: &T) -> u64 {
     if watch.is_watching() {
         count_actions(text)

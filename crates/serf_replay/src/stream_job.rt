@@ -1,4 +1,4 @@
-//! A schedule, line by line.
+//! Replays a schedule line by line: the trace's text of a line is written before more is read.
 
 ghost use Rattle.std.specs.Prelude.{◌≡◌, Ok, List, ℕ, IfErr, OnOk};
 ghost use Rattle.std.specs.Io.KnownBytes.{Appends, Consumes, IsAtEnd};
@@ -15,9 +15,9 @@ use std::io::{Read, Write};
 /// Reads a schedule line by line, and writes the trace of its cluster. Each line is read, done, written and dropped.
 ///
 /// What is written is just what [`crate::replay`] writes, and a line that is refused there is refused here, after
-/// the text of the turns before it. There is no limit on the whole; a line may have 16,777,216 bytes. The turns of the
-/// lines that are over are written before more is read. What is kept is the cluster, with all packets that were sent,
-/// and the line that is read.
+/// the text of the turns before it. A schedule may have any length, and a line 16,777,216 bytes. The turns of the lines
+/// that are over are written before more is read. In memory are the cluster, with all packets that were sent, and the
+/// line that is read.
 pub fn replay_lines<R: Read, W: Write>(
     alloc: Global,
     reader: &mut R,
@@ -33,6 +33,7 @@ pub fn replay_lines<R: Read, W: Write>(
         × Consumes (R.remaining reader.old) (R.remaining reader.new) bytes
         × IsHalted fault bytes (W.contents writer.old) (W.contents writer.new)) }
 {
+    // The prover learns that the text of a schedule's trace traces a run that keeps all promises.
     traced_schedules();
     tell_lines(alloc, reader, writer, &mut Run::new(alloc, TraceText))
 }

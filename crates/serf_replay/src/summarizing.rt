@@ -1,4 +1,4 @@
-//! The summary of a run.
+//! Sums up the run of a schedule, which was parsed before or is read line by line.
 
 ghost use Rattle.std.specs.Prelude.{◌≡◌, IfErr, IfOk, List, length, map, ℕ};
 ghost use Rattle.std.specs.Io.KnownBytes.{Consumes, IsAtEnd};
@@ -14,8 +14,8 @@ use std::alloc::{AllocError, Global};
 use std::io::{self, Read};
 use std::mem;
 
-/// The summary of the run of a schedule. Its actions are done one after another, and each line of the trace is dropped
-/// once it was counted. The watch is told of each action that is done.
+/// The summary of the run of `schedule`. Its actions are done one after another, and each line of the trace is dropped
+/// once it was counted. `watch` is told of each action that is done.
 ///
 /// An `AllocError` comes only where there is no memory for the cluster or the summary.
 pub fn summarize<T: Watch>(
@@ -40,9 +40,9 @@ pub fn summarize<T: Watch>(
 
 /// The summary of the run of a schedule that is read line by line. Each line is read, done, counted and dropped.
 ///
-/// There is no limit on the whole; a line may have 16,777,216 bytes. What is kept is the cluster, with all packets that
-/// were sent, the summary, and the line that is read. A line that is refused is the first that [`crate::replay`]
-/// refuses, for the same cause, and there is no summary of the lines before it then.
+/// A schedule may have any length, and a line 16,777,216 bytes. In memory are the cluster, with all packets that were
+/// sent, the summary, and the line that is read. A line that is refused is the first that [`crate::replay`] refuses, for
+/// the same cause, and there is no summary of the lines before it then.
 pub fn summarize_lines<R: Read>(
     alloc: Global,
     reader: &mut R,

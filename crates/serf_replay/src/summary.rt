@@ -1,4 +1,4 @@
-//! What is counted of the lines of a run.
+//! The summary of a run. In clauses `notes` are a trace's lines (`Shown`; of events `Event`), each with its action number.
 
 ghost use Rattle.std.specs.Prelude.{◌≡◌, ◌+◌, ◌++◌, ◌∷◌, [], ℕ, List, OnOk};
 ghost use Rattle.serf_model.specs.declared.line.EventLine.{EventLine as Event};
@@ -13,7 +13,7 @@ use serf_model::{EventLine, Line};
 use serf_schedule::answer_words;
 use std::alloc::{AllocError, Global};
 
-/// What came of a run. What never came is in no table.
+/// The counts of a run. What never came is in no table.
 #[derive(Drop)]
 pub struct Summary {
     /// How many agents the cluster has.
@@ -22,13 +22,13 @@ pub struct Summary {
     pub actions: u64,
     /// How often each answer came, in the words of the trace but without its numbers, and at which action at last.
     pub answers: IndexMap<&'static [u8], Spread>,
-    /// How many events each agent was handed, by its number, and at which action the last.
+    /// How many events each agent was handed, by the agent's number from 0 on, and at which action the last.
     pub agents: IndexMap<u64, Spread>,
     /// How often each event was handed out, and at which action at last: there the last agent had it.
     pub events: IndexMap<EventKey, Spread>,
 }
 
-/// Notes an event that was handed out at an action.
+/// Counts `event`, which was handed out at action number `action`: in the table `agents` for its agent, and in `events`.
 fn note_event(
     alloc: Global,
     agents: &mut IndexMap<u64, Spread>,
@@ -44,7 +44,7 @@ fn note_event(
     note(events, key, action)
 }
 
-/// Notes the events that were handed out at an action.
+/// Counts the events of `lines`, all that were handed out at action number `action`, in the tables `agents` and `events`.
 fn note_events(
     alloc: Global,
     agents: &mut IndexMap<u64, Spread>,
@@ -61,7 +61,7 @@ fn note_events(
     Ok(())
 }
 
-/// Notes an answer that came at an action.
+/// Counts the answer of `line`, the trace's line of action number `action`, in the table `answers`.
 fn note_answer(
     answers: &mut IndexMap<&'static [u8], Spread>,
     line: &Line,
@@ -74,7 +74,7 @@ fn note_answer(
 }
 
 impl Summary {
-    /// No action was done. Takes no memory.
+    /// The summary of a run of no action, and with `size` 0. Takes no memory.
     pub(crate) fn new(alloc: Global) -> Summary
         ensures { IsSummary result [] }
     {
@@ -87,7 +87,7 @@ impl Summary {
         }
     }
 
-    /// Takes the line of the next action in.
+    /// Counts what `line` shows, the trace's line of the next action. After an `AllocError` a part may be counted.
     pub(crate) fn add(&mut self, alloc: Global, line: &Line) -> Result<(), AllocError>
         ensures { (lines : List Shown) → IsSummary self.old lines
             → OnOk result (IsSummary self.new (lines ++ line.now ∷ [])) }

@@ -1,11 +1,11 @@
-//! A run that is summed up, turn by turn.
+//! A summary that follows a run, turn by turn.
 
 use crate::summary::Summary;
 use serf_model::{Action, Line};
 use serf_world::{Turns, World};
 use std::alloc::{AllocError, Global};
 
-/// Takes the lines of a run in, and tells nothing.
+/// Counts the line of each turn, and tells no text of it. [`Turns::begin`] and [`Turns::look`] do nothing.
 impl Turns for Summary {
     ghost use Rattle.serf_replay.specs.Summing.{sums_up};
 
@@ -13,6 +13,7 @@ impl Turns for Summary {
 
     type Seen = ();
 
+    // The summary has what the lines of the turns show. Nothing is asked of it, and nothing is found before an action.
     ghost told = { λ asked s configs actions text. sums_up s configs actions text };
 
     ghost saw = { λ asked s seen configs actions action text. sums_up s configs actions text };

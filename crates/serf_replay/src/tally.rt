@@ -1,4 +1,4 @@
-//! How often something came, and when at last.
+//! Counts how often something came, and notes at which action at last.
 
 ghost use Rattle.std.specs.Prelude.{◌≡◌, OnOk, if◌then◌else◌};
 ghost use Rattle.std.specs.Option.{option_copied};
@@ -9,14 +9,14 @@ use indexmap::IndexMap;
 use std::alloc::AllocError;
 use std::hash::Hash;
 
-/// How often something came, which stops at 2^64 - 1, and the number of the action at which it came at last.
+/// How often something came (`times`, which stops at 2^64 - 1), and at which action number it came last (`last`).
 #[derive(Clone, Copy, PartialEq, Eq)]
 pub struct Spread {
     pub times: u64,
     pub last: u64,
 }
 
-/// It came once more.
+/// The count after something came at action number `action`; `found` is the count before, `None` where it never came.
 fn once_more(found: Option<&Spread>, action: u64) -> Spread
     ensures { result ≡ again action (option_copied found.entry) }
 {
@@ -32,7 +32,7 @@ fn once_more(found: Option<&Spread>, action: u64) -> Spread
     }
 }
 
-/// Notes that something came at an action.
+/// Counts in the table `found` that `key` came at action number `action`. A new key is put after the others.
 pub(crate) fn note<K: Eq + Hash + Drop>(
     found: &mut IndexMap<K, Spread>,
     key: K,

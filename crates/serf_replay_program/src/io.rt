@@ -63,7 +63,7 @@ impl Read for Source<'_> {
         }
         self.count = self.count.saturating_add(read as u64);
         self.progress.acted(self.count, u64::MAX);
-        if self.is_schedule {
+        if self.is_schedule && buf[..read].contains(&b'\r') {
             for byte in buf[..read].iter_mut() {
                 if *byte == b'\r' {
                     *byte = b' ';

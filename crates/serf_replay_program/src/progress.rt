@@ -91,8 +91,8 @@ impl Watch for Progress<'_> {
     }
 
     fn acted(&mut self, done: u64, all: u64) {
-        if done.is_multiple_of(self.counted.1)
-            && let Some(since) = self.since
+        if let Some(since) = self.since
+            && done.is_multiple_of(self.counted.1)
         {
             let done = done.saturating_add(self.before);
             let all = all.saturating_add(self.before);

@@ -2,9 +2,7 @@
 use Rattle.serf_schedule.proofs.TextNames.{◌≡◌, ◌+◌, ◌%◌, ◌<◌, ◌≤◌, ◌^◌, ◌∙◌, ℕ, ℤ, pos, List, [], ◌∷◌, ◌++◌, Bool, true, false, Some, Ok, refl, sym, ap, arith, codes, decimal, map, append_assoc, ◌==◌, nat_le, signed_decimal, AllByRecursion, common_steps, append-nil, recursion_from_All, IsBytes, QueryParams, Action, Deed, NewQuery, SinkCall, Append, Flush, ReplaceOld, ReplaceNew, command_of, Parsed, with_action, said_by, filters_from, params_of, query_of, firing_of, delivery_of, merging_of, answer_of, restart_of, break_of, injection_of, closing_of, flag_text, hex_text, between, bytes_in, choice_in, choice_of, number_between, number_in, sink_call_in, sink_call_of}
 use Rattle.std.specs.Prelude.{cond}
 use Rattle.serf_model.specs.declared.action.Act.TheVariants as acts
-use Rattle.serf_model.specs.declared.action.Action.TheVariants.{Inject, Of}
-use Rattle.serf_schedule.specs.Sayable.{AreSayable, IsActSayable, IsQuerySayable, IsSayable}
-use Rattle.serf_schedule.specs.ScheduleText.{action_words, flags_of, join_word, sink_call_word}
+use Rattle.serf_schedule.proofs.Names.{Inject, Of, AreSayable, IsActSayable, IsQuerySayable, IsSayable, action_words, flags_of, join_word, sink_call_word}
 use Rattle.serf_schedule.proofs.WordsBack.{bytes-back, number-back}
 
 -- Words that are one of a few

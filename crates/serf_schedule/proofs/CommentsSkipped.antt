@@ -1,8 +1,6 @@
 -- The text of a schedule behind a comment.
 use Rattle.serf_schedule.proofs.TextNames.{◌≡◌, ◌+◌, ◌∙◌, ℕ, List, [], ◌∷◌, Ok, refl, ap, ◌==◌, slice_split, Parsed, after_line, after_lines}
-use Rattle.std.proofs.Common.{Err}
-use Rattle.serf_text.specs.Gives.{at_line}
-use Rattle.serf_schedule.specs.Comments.{CommentsAreSkipped}
+use Rattle.serf_schedule.proofs.Names.{Err, at_line, CommentsAreSkipped}
 use Rattle.serf_schedule.proofs.LinesBack.{body, line-off}
 
 -- the number of a line counts in faults alone

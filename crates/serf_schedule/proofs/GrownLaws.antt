@@ -1,21 +1,8 @@
 -- What a line adds to the schedule before it.
-use Rattle.std.proofs.Common.{◌≡◌, ◌<◌, ◌==◌, inl, inr, ℕ, Bool, true, false, cond, nat_lt, not, List, [], ◌∷◌, Option, Some, None, Result, Ok, Err, refl, sym, ap, arith, length, append-nil}
-use Rattle.std.specs.Prelude.{IfOk, take, drop}
-use Rattle.std.proofs.lemmas.Bool.Decides.{nat_tests}
-use Rattle.serf_agent.specs.declared.config.Config.{Config}
-use Rattle.serf_agent.specs.Config.{is_sound}
-use Rattle.serf_model.specs.declared.action.Action.{Action}
-use Rattle.serf_model.specs.Runs.{has_name}
-use Rattle.serf_text.specs.declared.cause.Cause.{Cause}
-use Rattle.serf_text.specs.declared.cause.Cause.TheVariants.{BadConfig, LateAgent, NameTwice, WordCount}
-use Rattle.serf_schedule.specs.declared.command.Command.{Command}
-use Rattle.serf_schedule.specs.declared.command.Command.TheVariants.{Agent, Inject, Query, Act}
-use Rattle.serf_schedule.specs.Command.{command_of, count_of}
-use Rattle.serf_text.specs.Gives.{◌>>=◌}
-use Rattle.serf_text.specs.Words.{word_at, words_of}
-use Rattle.serf_schedule.specs.Line.{Parsed, act_of, add_action, add_agent, after_line, agent_of, by_agent, command_line, injection_of, is_agent_count, is_skipped, query_of, said_by}
-use Rattle.serf_schedule.specs.Grown.{AddsSame, Grows, with_turn}
-use Rattle.serf_schedule.specs.Laws.{LateLinesAddSame, LinesGrow}
+use Rattle.serf_schedule.proofs.Names.{Bool, Err, List, None, Ok, Option, Result, Some, [], ap, arith, cond, false, inl, inr, length, nat_lt, not, refl, sym, true, ℕ, ◌<◌, ◌==◌, ◌∷◌, ◌≡◌, nat_tests, IfOk, ◌>>=◌, word_at, words_of, Cause, BadConfig, LateAgent, NameTwice, WordCount, is_sound, Config, has_name, Action, count_of, command_of, AddsSame, Grows, with_turn, LateLinesAddSame, LinesGrow, Parsed, act_of, add_action, add_agent, by_agent, command_line, is_agent_count, is_skipped, said_by, after_line, agent_of, injection_of, query_of, Command, Act, Agent, Query}
+use Rattle.std.proofs.Common.{append-nil}
+use Rattle.std.specs.Prelude.{take, drop}
+use Rattle.serf_schedule.specs.declared.command.Command.TheVariants.{Inject}
 
 -- ---- steps that may fail
 

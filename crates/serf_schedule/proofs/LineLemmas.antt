@@ -1,6 +1,6 @@
 -- Words behind spaces.
 use Rattle.serf_schedule.proofs.TextNames.{◌≡◌, ◌++◌, ℕ, List, [], ◌∷◌, refl, ap, codes, map, flat_map}
-use Rattle.serf_schedule.specs.ScheduleText.{spaced}
+use Rattle.serf_schedule.proofs.Names.{spaced}
 
 -- the texts of things, each behind a space
 pub spaced-map : {X : Type 0} (text : X → List ℕ) (xs : List X) → flat_map (λ x. codes " " ++ text x) xs ≡ spaced (map text xs)

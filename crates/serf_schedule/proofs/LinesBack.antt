@@ -1,8 +1,6 @@
 -- Lines that are written, cut again: the text at newlines, and each line at spaces.
 use Rattle.serf_schedule.proofs.TextNames.{◌≡◌, ◌<◌, ◌≤◌, ◌∙◌, ℕ, List, [], ◌∷◌, ◌++◌, length, true, false, refl, ap, arith, append_assoc, ◌==◌, filter, nat_lt, AllByRecursion, slice_split, common_steps, append-nil, All-append, All-cons, All-nil, slice_split_at, slice_split_none, words_of}
-use Rattle.std.specs.List.{All}
-use Rattle.serf_schedule.specs.ScheduleText.{line_text, spaced}
-use Rattle.serf_schedule.specs.Comments.{IsWord}
+use Rattle.serf_schedule.proofs.Names.{All, IsWord, line_text, spaced}
 use Rattle.serf_schedule.proofs.PlainWords.{above-space}
 
 above : (s b : ℕ) → s < b → (b == s) ≡ false

@@ -1,7 +1,6 @@
 -- Words that stand in a line as they are.
 use Rattle.serf_schedule.proofs.TextNames.{◌≡◌, ◌/◌, ◌%◌, ◌<◌, ◌≤◌, ◌^◌, ℕ, zero, suc, List, [], ◌∷◌, Bool, true, inl, inr, refl, sym, subst, arith, decimal, map, ◌&&◌, slice_index, is_ascii_digit, AllByRecursion, list_all, and_parts, cases_lt, decimal_nonempty, digits_decimal, common_steps, All-cons, All-nil, IsBytes, encode_lower, encode_with, lower_digits, length-encode_with, hex_text}
-use Rattle.std.specs.List.{All}
-use Rattle.serf_schedule.specs.Comments.{IsWord, is_plain}
+use Rattle.serf_schedule.proofs.Names.{All, IsWord, is_plain}
 use Rattle.serf_schedule.proofs.WordsBack.{digits, hex-some}
 
 both : (a b : Bool) → a ≡ true → b ≡ true → (a && b) ≡ true

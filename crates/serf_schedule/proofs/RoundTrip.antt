@@ -1,15 +1,10 @@
 -- The text of a schedule, read back.
 use Rattle.serf_schedule.proofs.TextNames.{◌≡◌, ◌+◌, ◌<◌, ◌^◌, ◌∙◌, ℕ, List, [], ◌∷◌, ◌++◌, length, decimal, Bool, true, false, Option, Some, None, Ok, refl, sym, ap, subst, arith, codes, append_assoc, cond, ◌==◌, ◌&&◌, slice_index, signed_decimal, AllByRecursion, flat_map, slice_split, common_steps, append-nil, recursion_from_All, IsBytes, Config, QueryParams, default_query_limit, default_response_limit, is_sound, Action, Deed, SinkCall, Append, Flush, ReplaceOld, ReplaceNew, AreConfigs, has_name, twice_after, command_of, Parsed, after_line, agent_of, is_agent_count, limit_in, per_time_in, said_by, with_action, after_lines, schedule_of, flag_text, hex_text, bytes_in, mode_in, mode_of, number_in}
-use Rattle.std.specs.List.{All}
+use Rattle.serf_schedule.proofs.Names.{All, NoneBadIsSound, Inject, Of, verb_word, IsWord, AreSayable, HasByteName, IsActSayable, IsSayable, act_words, action_words, agent_words, flags_of, join_word, mode_word, schedule_text, sink_call_word, spaced, agent_text}
 use Rattle.serf_model.specs.declared.action.Act.TheVariants as acts
-use Rattle.serf_model.specs.declared.action.Action.TheVariants.{Inject, Of}
-use Rattle.serf_model.specs.Runs.{NoneBadIsSound}
-use Rattle.serf_schedule.specs.Command.{verb_word}
-use Rattle.serf_schedule.specs.Sayable.{AreSayable, HasByteName, IsActSayable, IsSayable}
-use Rattle.serf_schedule.specs.ScheduleText.{act_words, action_text, action_words, agent_text, agent_words, flags_of, join_word, mode_word, schedule_text, sink_call_word, spaced}
+use Rattle.serf_schedule.specs.ScheduleText.{action_text}
 use Rattle.serf_schedule.proofs.ActionsBack.{action-back}
 use Rattle.serf_schedule.proofs.LinesBack.{body, line-off, words-back}
-use Rattle.serf_schedule.specs.Comments.{IsWord}
 use Rattle.serf_schedule.proofs.PlainWords.{hex-word, hex-words, number-word}
 use Rattle.serf_schedule.proofs.WordsBack.{bytes-back, number-back}
 

@@ -1,18 +1,5 @@
 -- A schedule of which each line is done as soon as it is read.
-use Rattle.std.proofs.Common.{◌≡◌, ◌<◌, ◌+◌, ◌++◌, ◌∙◌, ℕ, List, [], ◌∷◌, Option, Some, None, Bool, true, false, nat_lt, Result, Ok, Err, refl, sym, ap, subst, arith, length}
-use Rattle.std.specs.Option.{option_to_list}
-use Rattle.serf_agent.specs.declared.config.Config.{Config}
-use Rattle.serf_model.specs.Runs.{AreConfigs}
-use Rattle.serf_model.specs.declared.action.Action.{Action}
-use Rattle.serf_text.specs.declared.cause.Cause.{Cause}
-use Rattle.serf_text.specs.declared.cause.LineFault.{LineFault}
-use Rattle.serf_text.specs.declared.cause.LineFault.TheVariants.{Bad, OutOfMemory}
-use Rattle.serf_text.specs.Gives.{Fails, BadLine, at_line}
-use Rattle.serf_schedule.specs.Line.{Parsed, after_line}
-use Rattle.serf_schedule.specs.Said.{IsHeld, behind}
-use Rattle.serf_schedule.specs.Schedule.{after_lines, schedule_in}
-use Rattle.serf_schedule.specs.declared.run.Acting.{Acting}
-use Rattle.serf_schedule.specs.Running.{IsLineRefused, IsStage}
+use Rattle.serf_schedule.proofs.Names.{Bool, Err, List, None, Ok, Option, Result, Some, [], ap, arith, false, length, nat_lt, refl, subst, sym, true, ℕ, ◌++◌, ◌+◌, ◌<◌, ◌∙◌, ◌∷◌, ◌≡◌, option_to_list, BadLine, Fails, at_line, Cause, LineFault, Bad, OutOfMemory, Config, AreConfigs, Action, Parsed, after_line, IsLineRefused, IsStage, IsHeld, behind, after_lines, schedule_in, Acting}
 
 -- ---- lines behind others
 

@@ -1,18 +1,9 @@
 -- What holds of each action that a line says holds of all actions that a text stands for.
-use Rattle.serf_schedule.proofs.Names.{◌≡◌, ◌+◌, ◌==◌, ℕ, Bool, true, false, cond, nat_lt, not, List, [], ◌∷◌, Option, Some, None, Result, Ok, Err, subst, length, slice_split, All-nil, All-push, Config, is_sound, Action, has_name}
+use Rattle.serf_schedule.proofs.Names.{Bool, Err, List, None, Ok, Option, Result, Some, [], cond, false, length, nat_lt, not, subst, true, ℕ, ◌+◌, ◌==◌, ◌∷◌, ◌≡◌, All-nil, All-push, slice_split, at_line, ◌>>=◌, word_at, words_of, number_in, Cause, BadConfig, LateAgent, NameTwice, WordCount, is_sound, Config, has_name, Action, count_of, command_of, Parsed, act_of, add_action, add_agent, by_agent, command_line, is_agent_count, is_skipped, said_by, after_line, agent_of, injection_of, query_of, after_lines, schedule_of, Command, Act, Agent, Query, Verb}
 use Rattle.std.specs.Prelude.{All, take, drop}
 use Rattle.serf_model.specs.declared.action.Act.{Act as Deed}
 use Rattle.serf_model.specs.declared.action.Action.TheVariants as actions
-use Rattle.serf_text.specs.declared.cause.Cause.{Cause}
-use Rattle.serf_text.specs.declared.cause.Cause.TheVariants.{BadConfig, LateAgent, NameTwice, WordCount}
-use Rattle.serf_schedule.specs.declared.command.Command.{Command}
-use Rattle.serf_schedule.specs.declared.command.Command.TheVariants.{Agent, Inject, Query, Act}
-use Rattle.serf_schedule.specs.declared.command.Verb.{Verb}
-use Rattle.serf_schedule.specs.Command.{command_of, count_of}
-use Rattle.serf_text.specs.Gives.{◌>>=◌, at_line}
-use Rattle.serf_text.specs.Words.{number_in, word_at, words_of}
-use Rattle.serf_schedule.specs.Line.{Parsed, act_of, add_action, add_agent, after_line, agent_of, by_agent, command_line, injection_of, is_agent_count, is_skipped, query_of, said_by}
-use Rattle.serf_schedule.specs.Schedule.{after_lines, schedule_of}
+use Rattle.serf_schedule.specs.declared.command.Command.TheVariants.{Inject}
 
 -- ---- steps that may fail
 

@@ -1,8 +1,5 @@
 -- The text of a run's lines, as one action after another is done.
-use Rattle.serf_schedule.proofs.Names.{◌≡◌, ℕ, ◌+◌, ◌<◌, ◌≤◌, List, [], ◌∷◌, ◌++◌, Option, Some, None, refl, sym, ap, ◌∙◌, length, append_assoc, length-append, codes, decimal, arith, slice_get, flat_map, option_to_list, append-nil, get_or_append_left, unwrap_or-slice_get, Action, Line, IdealNode, Cluster, numbers_from, on_agent, step, Turn}
-use Rattle.serf_model.specs.declared.action.Action.TheVariants.{Inject, Of}
-use Rattle.serf_text.specs.TextParts.{hex_text}
-use Rattle.serf_schedule.specs.Show.{action_text, actions_text, answer_line, event_line, handed_line, numbered, packet_of, sent_line}
+use Rattle.serf_schedule.proofs.Names.{List, None, Option, Some, [], ap, append_assoc, arith, codes, decimal, length, length-append, refl, sym, ℕ, ◌++◌, ◌+◌, ◌<◌, ◌∙◌, ◌∷◌, ◌≡◌, ◌≤◌, append-nil, get_or_append_left, unwrap_or-slice_get, flat_map, option_to_list, slice_get, hex_text, Cluster, IdealNode, numbers_from, on_agent, step, Turn, Action, Inject, Of, Line, actions_text, answer_line, event_line, handed_line, numbered, packet_of, action_text, sent_line}
 
 -- ---- what is sent later changes no line
 

@@ -1,14 +1,7 @@
 -- The numbers of the actions of a schedule's text have their types' sizes.
-use Rattle.serf_schedule.proofs.Names.{◌≡◌, ◌≤◌, ◌&&◌, ℕ, Bool, true, false, cond, nat_lt, nat_le, List, [], Option, Some, None, Ok, refl, arith, pos, and_parts, nat_tests, fits, QueryParams, HasSizes}
+use Rattle.serf_schedule.proofs.Names.{Bool, List, None, Ok, Option, Some, [], arith, cond, false, nat_le, nat_lt, refl, true, ℕ, ◌&&◌, ◌≡◌, ◌≤◌, and_parts, nat_tests, pos, fits, between, number_of, or_bad, word_at, bytes_in, choice_in, number_between, number_in, QueryParams, HasSizes, Parsed, act_of, filters_from, answer_of, break_of, closing_of, delivery_of, firing_of, injection_of, merging_of, params_of, query_of, restart_of, schedule_of, sink_call_in, State, Verb, Break, Close, Deliver, Fire, Lone, Merge, Respond, Restart}
 use Rattle.std.specs.Prelude.{All, codes}
 use Rattle.serf_model.specs.declared.action.Act.{Act as Deed}
-use Rattle.serf_schedule.specs.declared.command.Lone.TheVariants.{State}
-use Rattle.serf_schedule.specs.declared.command.Verb.{Verb}
-use Rattle.serf_schedule.specs.declared.command.Verb.TheVariants.{Deliver, Fire, Merge, Respond, Restart, Break, Close, Lone}
-use Rattle.serf_text.specs.Words.{between, bytes_in, choice_in, number_between, number_in, number_of, or_bad, word_at}
-use Rattle.serf_schedule.specs.Sinks.{sink_call_in}
-use Rattle.serf_schedule.specs.Line.{Parsed, act_of, answer_of, break_of, closing_of, delivery_of, filters_from, firing_of, injection_of, merging_of, params_of, query_of, restart_of}
-use Rattle.serf_schedule.specs.Schedule.{schedule_of}
 use Rattle.serf_schedule.proofs.SaidLaws.{AllOk, HoldsOf, holds-of-all, next-ok, next-ok_of}
 
 -- ---- numbers

@@ -1,22 +1,7 @@
 -- What the actions of a schedule's text bring can be told in lines: their texts are read from hex, so they are bytes.
-use Rattle.serf_schedule.proofs.Names.{◌≡◌, ◌≤◌, ◌==◌, ◌&&◌, ℕ, Bool, true, false, cond, List, [], Some, Result, Ok, Err, refl, arith, length}
-use Rattle.std.proofs.Common.{rules}
-use Rattle.std.specs.Prelude.{All, codes, slice_index}
-use Rattle.std.specs.Result.{result_ok}
-use Rattle.hex.specs.Hex.{IsBytes, decode_of}
-use Rattle.hex.specs.declared.error.FromHexError.{FromHexError}
-use Rattle.hex.proofs.HexLemmas.{decode_of-ok}
-use Rattle.serf_agent.specs.KeptTexts.{IsTold}
-use Rattle.serf_model.specs.Tails.{BringsTold}
-use Rattle.serf_model.specs.Trace.{events_in_packet}
+use Rattle.serf_schedule.proofs.Names.{Bool, Err, List, Ok, Result, Some, [], arith, cond, false, length, refl, rules, true, ℕ, ◌&&◌, ◌==◌, ◌≡◌, ◌≤◌, slice_index, result_ok, decode_of-ok, IsBytes, decode_of, FromHexError, bytes_of, or_bad, word_at, bytes_in, choice_in, number_between, number_in, IsTold, BringsTold, events_in_packet, Parsed, act_of, answer_of, break_of, closing_of, delivery_of, firing_of, injection_of, merging_of, params_of, query_of, restart_of, schedule_of, sink_call_in, State, Verb, Break, Close, Deliver, Fire, Lone, Merge, Respond, Restart}
+use Rattle.std.specs.Prelude.{All, codes}
 use Rattle.serf_model.specs.declared.action.Act.{Act as Deed}
-use Rattle.serf_schedule.specs.declared.command.Lone.TheVariants.{State}
-use Rattle.serf_schedule.specs.declared.command.Verb.{Verb}
-use Rattle.serf_schedule.specs.declared.command.Verb.TheVariants.{Deliver, Fire, Merge, Respond, Restart, Break, Close, Lone}
-use Rattle.serf_text.specs.Words.{bytes_in, bytes_of, choice_in, number_between, number_in, or_bad, word_at}
-use Rattle.serf_schedule.specs.Sinks.{sink_call_in}
-use Rattle.serf_schedule.specs.Line.{Parsed, act_of, answer_of, break_of, closing_of, delivery_of, firing_of, injection_of, merging_of, params_of, query_of, restart_of}
-use Rattle.serf_schedule.specs.Schedule.{schedule_of}
 use Rattle.serf_schedule.proofs.SaidLaws.{AllOk, HoldsOf, holds-of-all, next-ok, next-ok_of}
 use Rattle.serf_schedule.proofs.SizedLaws.{number-high}
 

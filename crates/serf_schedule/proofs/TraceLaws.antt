@@ -1,13 +1,6 @@
 -- The text of one more turn.
-use Rattle.serf_schedule.proofs.Names.{◌≡◌, ◌+◌, ◌++◌, ◌∙◌, ℕ, List, [], ◌∷◌, refl, sym, ap, length, length-append, append-nil, append_assoc, arith, Config, Action, Line, step, Turn}
+use Rattle.serf_schedule.proofs.Names.{List, [], ap, append_assoc, arith, length, length-append, refl, sym, ℕ, ◌++◌, ◌+◌, ◌∙◌, ◌∷◌, ◌≡◌, append-nil, length-map, map-append, fold_push, fold, Config, Run, after, run_of, start, step, Turn, Action, Line, TakesStep, WorldState, actions_text, action_text, tells_trace}
 use Rattle.std.specs.Prelude.{map}
-use Rattle.std.specs.List.{fold}
-use Rattle.std.proofs.lemmas.List.{length-map, map-append}
-use Rattle.std.proofs.lemmas.List.Sums.{fold_push}
-use Rattle.serf_model.specs.Cluster.{Run, after, run_of, start}
-use Rattle.serf_world.specs.View.{TakesStep, WorldState}
-use Rattle.serf_schedule.specs.Show.{action_text, actions_text}
-use Rattle.serf_schedule.specs.TraceText.{tells_trace}
 use Rattle.serf_schedule.proofs.ShownLaws.{actions-push, line-stays, sends}
 
 abbrev shown : Run → List ℕ

@@ -1,14 +1,8 @@
 -- A line, whole and in parts.
-use Rattle.serf_schedule.proofs.Names.{◌≡◌, ◌≤◌, ◌<◌, ◌++◌, ◌∙◌, ℕ, List, [], ◌∷◌, false, Option, Some, None, refl, sym, ap, subst, arith, length, take, drop, slice_index, common_steps, append-nil}
+use Rattle.serf_schedule.proofs.Names.{List, None, Option, Some, [], ap, arith, drop, false, length, refl, subst, sym, take, ℕ, ◌++◌, ◌<◌, ◌∙◌, ◌∷◌, ◌≡◌, ◌≤◌, common_steps, append-nil, slice_index, word_at, words_of, count_of, command_of, Parsed, command_line, query_said, said_by, after_line, parts_said, Command, Act, Agent, Query, Verb}
 use Rattle.std.specs.Prelude.{◌==◌}
 use Rattle.std.proofs.lemmas.List.{length-append}
-use Rattle.serf_schedule.specs.declared.command.Command.{Command}
-use Rattle.serf_schedule.specs.declared.command.Command.TheVariants.{Agent, Inject, Query, Act}
-use Rattle.serf_schedule.specs.declared.command.Verb.{Verb}
-use Rattle.serf_schedule.specs.Command.{command_of, count_of}
-use Rattle.serf_text.specs.Words.{word_at, words_of}
-use Rattle.serf_schedule.specs.Line.{Parsed, query_said, command_line, said_by, after_line}
-use Rattle.serf_schedule.specs.Parts.{parts_said}
+use Rattle.serf_schedule.specs.declared.command.Command.TheVariants.{Inject}
 
 apart : (n k : ℕ) → k < n → (n == k) ≡ false
 apart n k h = grind (arith, common_steps)

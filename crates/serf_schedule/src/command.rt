@@ -1,4 +1,4 @@
-//! The first word of a line, read and written.
+//! The first word of a schedule's line, which says what the line is about: read and written.
 
 ghost use Rattle.std.specs.Prelude.{◌≡◌};
 ghost use Rattle.serf_schedule.specs.Command.{lone_of, lone_act, command_of, count_of, verb_word};
@@ -6,20 +6,20 @@ ghost use Rattle.serf_schedule.specs.Command.{lone_of, lone_act, command_of, cou
 use serf_model::Act;
 use serf_text::is_word;
 
-/// What a line is about.
+/// What a line of a schedule is about, by its first word.
 #[derive(Clone, Copy, PartialEq, Eq)]
 pub enum Command {
-    /// An agent of the cluster.
+    /// An agent of the cluster, with its settings.
     Agent,
-    /// Bytes that no agent made.
+    /// Bytes that are sent as a packet, and that no agent made.
     Inject,
-    /// A query, whose line may have any number of filters.
+    /// A query that an agent fires; its line may have any number of filters.
     Query,
-    /// What else an agent does, whose line has so many words as that has.
+    /// Anything else that an agent does; its line has as many words as [`Verb::count`] says.
     Act(Verb),
 }
 
-/// What an agent does, other than a query.
+/// What an agent does, other than firing a query. Each variant stands for the [`Act`] of its name.
 #[derive(Clone, Copy, PartialEq, Eq)]
 pub enum Verb {
     Deliver,
@@ -29,11 +29,11 @@ pub enum Verb {
     Restart,
     Break,
     Close,
-    /// What a word says that stands alone.
+    /// An act whose line has the command and the agent alone.
     Lone(Lone),
 }
 
-/// What an agent does by a word that stands alone: its line has the agent behind it, and nothing else.
+/// An act of an agent that needs no more words: its line has the command and the agent alone.
 #[derive(Clone, Copy, PartialEq, Eq)]
 pub enum Lone {
     State,
@@ -41,7 +41,7 @@ pub enum Lone {
     Compact,
 }
 
-/// What an agent does by a word that stands alone, if the word names such an act.
+/// The act that `word` names and whose line has no more words than the agent's; `None` for any other word.
 fn lone_in(word: &[u8]) -> Option<Lone>
     ensures { result ≡ lone_of word.now }
 {
@@ -56,7 +56,7 @@ fn lone_in(word: &[u8]) -> Option<Lone>
     }
 }
 
-/// The command that a word names; `None` for any other word. Takes no memory.
+/// The command that `word` names; `None` for any other word. Takes no memory.
 #[tactic(auto, unfolding(crate::specs::Command::command_of))]
 pub fn command_in(word: &[u8]) -> Option<Command>
     ensures { result ≡ command_of word.now }
@@ -90,7 +90,7 @@ pub fn command_in(word: &[u8]) -> Option<Command>
 }
 
 impl Verb {
-    /// How many words its line has, the command and the agent among them.
+    /// How many words a line of this verb has, the command and the agent among them.
     pub(crate) fn count(self) -> usize
         ensures { result ≡ count_of self }
     {
@@ -104,7 +104,7 @@ impl Verb {
 }
 
 impl Lone {
-    /// What its agent does. Takes no memory.
+    /// The act that this word stands for. Takes no memory.
     pub fn act(self) -> Act
         ensures { result ≡ lone_act self }
     {
@@ -116,7 +116,7 @@ impl Lone {
     }
 }
 
-/// The word of what an agent does. Takes no memory.
+/// The first word of a line in which an agent does `act`. Takes no memory.
 pub fn verb_word(act: &Act) -> &'static [u8]
     ensures { result.now ≡ verb_word act.now }
 {

@@ -1,5 +1,5 @@
-//! What holds of every schedule that is read line by line, of its text, and of the text of every step: the contracts of
-//! functions that do nothing.
+//! Laws: what holds of every schedule that is read line by line, of its text, and of the text of every step. Each law
+//! is the contract of a function that does nothing; code that needs the law calls the function.
 
 ghost use Rattle.std.specs.Prelude.{◌≡◌, All, Ok};
 ghost use Rattle.serf_model.specs.Runs.{AreConfigs};
@@ -37,7 +37,7 @@ pub fn sized_schedules()
 pub fn told_schedules()
     ensures { SchedulesAreTold }
 {
-    told_packets();
+    told_packets(); // for the prover: the events in a packet of bytes have texts of bytes
 }
 
 /// The text of a schedule stands for just this schedule, and is never refused. Does nothing.
@@ -46,7 +46,7 @@ pub fn text_reads_back()
     ensures { (p : Parsed) → AreConfigs p.configs → All HasByteName p.configs
         → All IsSayable p.actions → schedule_of (schedule_text p) ≡ Ok p }
 {
-    sound_settings();
+    sound_settings(); // for the prover: settings of which none is bad are sound, each of them
 }
 
 /// A comment before a schedule's text changes nothing of what it stands for: a line of words, each of some bytes

@@ -1,4 +1,6 @@
-//! What one line says, once it is cut into words.
+//! What one line of a schedule says: `words` are its words, the command among them, at places that count from 1. A word
+//! that can't stand at its place is the fault `BadWord` with the place. A clause `Gives view result said` says that the
+//! result, seen by `view`, is what the definition says (`said`), its fault too, unless memory ran out.
 
 ghost use Rattle.std.specs.Prelude.{◌≡◌, ◌≤◌, [], length, map};
 ghost use Rattle.serf_text.specs.Words.{words_of, bytes_of, or_bad};
@@ -21,10 +23,10 @@ use std::alloc::Global;
 /// The greatest timeout of a query, in nanoseconds.
 const MAX_TIMEOUT: u64 = i64::MAX as u64;
 
-/// The flags of a query: 1 asks for acks, and 2 for no broadcast.
+/// The greatest flags of a query: 1 asks for acks, 2 for no broadcast, and their sum for both.
 const MAX_FLAGS: u64 = 3;
 
-/// How many events of one time an agent takes: the eighth word, which may be left out.
+/// How many events, or queries, of one time an agent takes: the eighth word of its line, or the default without it.
 #[tactic(auto, unfolding(crate::specs::Line::per_time_in))]
 fn per_time(words: &[&[u8]]) -> Result<u64, LineFault>
     ensures { Gives (λ n. n) result (per_time_in (map (λ w. w.now) words.now)) }
@@ -36,7 +38,7 @@ fn per_time(words: &[&[u8]]) -> Result<u64, LineFault>
     }
 }
 
-/// A limit of packets: the number at its place of ten words, or the default where there are fewer.
+/// A limit on the length of packets: the number at `place` of ten words, or `default` where the line has fewer.
 #[tactic(auto, unfolding(crate::specs::Line::limit_in))]
 fn limit(words: &[&[u8]], place: usize, default: u64) -> Result<u64, LineFault>
     ensures { Gives (λ n. n) result (limit_in place default (map (λ w. w.now) words.now)) }
@@ -48,7 +50,7 @@ fn limit(words: &[&[u8]], place: usize, default: u64) -> Result<u64, LineFault>
     }
 }
 
-/// The agent of an agent line.
+/// The settings of an agent, by the seven, eight or ten words of its line.
 #[tactic(auto, unfolding(crate::specs::Line::agent_of))]
 pub(crate) fn agent(alloc: Global, words: &[&[u8]]) -> Result<Config, LineFault>
     ensures { Gives (λ c. c) result (agent_of (map (λ w. w.now) words.now)) }
@@ -76,7 +78,7 @@ pub(crate) fn agent(alloc: Global, words: &[&[u8]]) -> Result<Config, LineFault>
     })
 }
 
-/// The firing of an event, by the words of its line.
+/// Firing an event, by the words of its line: from place 3 on the name, the payload and the coalesce flag.
 #[tactic(auto, unfolding(crate::specs::Line::firing_of))]
 fn firing(alloc: Global, words: &[&[u8]]) -> Result<Act, LineFault>
     requires { length words.now ≡ 5 }
@@ -92,7 +94,7 @@ fn firing(alloc: Global, words: &[&[u8]]) -> Result<Act, LineFault>
     })
 }
 
-/// The merge of a state, by the words of its line.
+/// Merging a state, by the words of its line: from place 3 on the packet's number, and `sync` or `join`.
 #[tactic(auto, unfolding(crate::specs::Line::merging_of))]
 fn merging(words: &[&[u8]]) -> Result<Act, LineFault>
     requires { length words.now ≡ 4 }
@@ -103,7 +105,7 @@ fn merging(words: &[&[u8]]) -> Result<Act, LineFault>
     Ok(Act::Merge { packet, join })
 }
 
-/// The answer to a query, by the words of its line.
+/// Answering a query, by the words of its line: from place 3 on the query's number, the moment and the payload.
 #[tactic(auto, unfolding(crate::specs::Line::answer_of))]
 fn answer(alloc: Global, words: &[&[u8]]) -> Result<Act, LineFault>
     requires { length words.now ≡ 5 }
@@ -119,7 +121,7 @@ fn answer(alloc: Global, words: &[&[u8]]) -> Result<Act, LineFault>
     })
 }
 
-/// The restart of an agent, by the words of its line.
+/// Restarting an agent, by the words of its line: at place 3 the tail behind what its sink keeps.
 #[tactic(auto, unfolding(crate::specs::Line::restart_of))]
 fn restarting(alloc: Global, words: &[&[u8]]) -> Result<Act, LineFault>
     requires { length words.now ≡ 3 }
@@ -129,7 +131,7 @@ fn restarting(alloc: Global, words: &[&[u8]]) -> Result<Act, LineFault>
     Ok(Act::Restart { tail })
 }
 
-/// The call of a sink that is to fail, by the words of its line.
+/// Planning that a sink fails, by the words of its line: from place 3 on the call, and its number, counted from 1.
 #[tactic(auto, unfolding(crate::specs::Line::break_of))]
 fn breaking(words: &[&[u8]]) -> Result<Act, LineFault>
     requires { length words.now ≡ 4 }
@@ -140,7 +142,7 @@ fn breaking(words: &[&[u8]]) -> Result<Act, LineFault>
     Ok(Act::Break { call, count })
 }
 
-/// The closing of queries, by the words of its line.
+/// Closing an agent's queries, by the words of its line: at place 3 the moment, in nanoseconds.
 #[tactic(auto, unfolding(crate::specs::Line::closing_of))]
 fn closing(words: &[&[u8]]) -> Result<Act, LineFault>
     requires { length words.now ≡ 3 }
@@ -150,7 +152,7 @@ fn closing(words: &[&[u8]]) -> Result<Act, LineFault>
     Ok(Act::Close { now })
 }
 
-/// What the words of a line say that its agent does.
+/// What the agent does in a line of the verb `verb`, by its `words`.
 #[tactic(auto, unfolding(crate::specs::Line::delivery_of))]
 fn act(alloc: Global, verb: Verb, words: &[&[u8]]) -> Result<Act, LineFault>
     requires { length words.now ≡ count_of verb }
@@ -172,7 +174,7 @@ fn act(alloc: Global, verb: Verb, words: &[&[u8]]) -> Result<Act, LineFault>
     }
 }
 
-/// The action of a line by its words. `WordCount` where they are not as many as it needs.
+/// The action of a line of the verb `verb`, by its `words`. `WordCount` where they are not as many as the verb needs.
 pub(crate) fn action(alloc: Global, verb: Verb, words: &[&[u8]]) -> Result<Action, LineFault>
     ensures { (before : Parsed) → Gives (with_action before) result
         (act_line verb before (map (λ w. w.now) words.now)) }
@@ -185,7 +187,7 @@ pub(crate) fn action(alloc: Global, verb: Verb, words: &[&[u8]]) -> Result<Actio
     Ok(Action::Of { agent, act })
 }
 
-/// The action of a line that injects bytes.
+/// The action of a line that injects bytes, by its `words`. `WordCount` where they are not two.
 #[tactic(auto, unfolding(crate::specs::Line::injection_of))]
 pub(crate) fn injection(alloc: Global, words: &[&[u8]]) -> Result<Action, LineFault>
     ensures { (before : Parsed) → Gives (with_action before) result
@@ -208,12 +210,12 @@ fn filter(alloc: Global, word: &[u8], place: u64) -> Result<Bytes, LineFault>
     }
 }
 
-/// The filters that the words of a text spell. The first stands at the ninth place of its line.
+/// The filters that the words of `text` spell. The first of them stands at the ninth place of its line.
 fn filters(alloc: Global, text: &[u8]) -> Result<BytesList, LineFault>
     ensures { Gives (λ f. f) result (filters_from [] 9 (words_of text.now)) }
 {
     let mut filters = BytesList::new(alloc);
-    let mut place = FIXED_WORDS as u64 + 1;
+    let mut place = FIXED_WORDS as u64 + 1; // of the next filter
     let mut rest = text;
     'words: loop {
         let (word, more) = cut(rest, b' ');
@@ -229,7 +231,8 @@ fn filters(alloc: Global, text: &[u8]) -> Result<BytesList, LineFault>
     }
 }
 
-/// How a query is fired, by the words of its line and its filters.
+/// How a query is fired, by the first eight words of its line and its filters, which `rest` has. No line says an
+/// address, a port, relays, or that tag filters pass.
 #[tactic(auto, unfolding(crate::specs::Line::params_of))]
 fn params(alloc: Global, words: &[&[u8]], rest: &[u8]) -> Result<QueryParams, LineFault>
     requires { length words.now ≡ 8 }
@@ -250,7 +253,7 @@ fn params(alloc: Global, words: &[&[u8]], rest: &[u8]) -> Result<QueryParams, Li
     })
 }
 
-/// The query of a line, of which these are the first eight words and what is left.
+/// The query of a line whose first eight words are `words`; `rest` is what is left of the line.
 #[tactic(auto, unfolding(crate::specs::Line::query_of))]
 fn new_query(alloc: Global, words: &[&[u8]], rest: &[u8]) -> Result<NewQuery, LineFault>
     requires { length words.now ≡ 8 }
@@ -271,8 +274,8 @@ fn new_query(alloc: Global, words: &[&[u8]], rest: &[u8]) -> Result<NewQuery, Li
     })
 }
 
-/// The action of a query line, of which these are the first eight words and what is left. `WordCount` where there are
-/// fewer.
+/// The action of a query line whose first words, at most eight, are `words`; `rest` is what is left of the line.
+/// `WordCount` where it has fewer than eight words.
 pub(crate) fn query(alloc: Global, words: &[&[u8]], rest: &[u8]) -> Result<Action, LineFault>
     requires { length words.now ≤ 8 }
     ensures { (before : Parsed) → Gives (with_action before) result

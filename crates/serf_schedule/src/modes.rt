@@ -1,4 +1,4 @@
-//! The word MODE of an agent's line, and the calls of a sink, as a line names them.
+//! Two kinds of words: MODE in an agent's line, and the calls of a sink, as the line of a planned failure names them.
 
 ghost use Rattle.std.specs.Prelude.{◌≡◌, map};
 ghost use Rattle.serf_text.specs.Gives.{Gives};
@@ -19,7 +19,7 @@ pub struct Mode {
     pub keep_events: bool,
 }
 
-/// The mode that a word says; `None` for any other word. Takes no memory.
+/// The mode that `word` says; `None` for any other word. Takes no memory.
 fn mode_of(word: &[u8]) -> Option<Mode>
     ensures { result ≡ mode_of word.now }
 {
@@ -40,9 +40,9 @@ fn mode_of(word: &[u8]) -> Option<Mode>
     })
 }
 
-/// The mode at a place of a line, counting from 1.
+/// The mode at `place` of a line's `words`, counting from 1.
 ///
-/// A word that says none, or is missing, is a bad word at this place. Takes no memory.
+/// `BadWord(place)` where the word says no mode, or is missing. Takes no memory.
 #[tactic(auto, unfolding(crate::specs::Line::mode_in))]
 pub(crate) fn mode_at(words: &[&[u8]], place: usize) -> Result<Mode, LineFault>
     ensures { Gives (λ m. m) result (mode_in place (map (λ w. w.now) words.now)) }
@@ -53,7 +53,7 @@ pub(crate) fn mode_at(words: &[&[u8]], place: usize) -> Result<Mode, LineFault>
     }
 }
 
-/// The word that says whether an agent of these settings ignores old events at a join, and keeps its events.
+/// The word MODE of `config`: whether the agent ignores old events at a join, and keeps its events over a restart.
 pub(crate) fn mode_word(config: &Config) -> &'static [u8]
     ensures { result.now ≡ mode_word config.now }
 {
@@ -70,7 +70,7 @@ pub(crate) fn mode_word(config: &Config) -> &'static [u8]
     }
 }
 
-/// The call of a sink that a word names; `None` for any other word. Takes no memory.
+/// The call of a sink that `word` names; `None` for any other word. Takes no memory.
 pub fn sink_call(word: &[u8]) -> Option<SinkCall>
     ensures { result ≡ sink_call_of word.now }
 {
@@ -87,7 +87,7 @@ pub fn sink_call(word: &[u8]) -> Option<SinkCall>
     }
 }
 
-/// The call of a sink at a place, counting from 1.
+/// The call of a sink at `place` of a line's `words`, counting from 1. `BadWord(place)` where it names none.
 #[tactic(auto, unfolding(crate::specs::Sinks::sink_call_in))]
 pub(crate) fn sink_call_at(words: &[&[u8]], place: usize) -> Result<SinkCall, LineFault>
     ensures { Gives (λ c. c) result (sink_call_in place (map (λ w. w.now) words.now)) }

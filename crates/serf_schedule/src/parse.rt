@@ -1,4 +1,6 @@
-//! A whole schedule, read.
+//! Schedules are read, line by line or whole. `agents` has the agents of the lines before, and a line is late
+//! (`is_late`) where an action stands before it: then it can have no agent. In clauses `before` is the schedule of the
+//! lines before, and `behind ..` this schedule with what the line adds.
 
 ghost use Rattle.std.specs.Prelude.{None, true, ◌≡◌, ◌<◌, ◌≤◌, ◌==◌, ◌++◌, slice_index, length, map, All, IfOk, Ok, Err};
 ghost use Rattle.serf_model.specs.Runs.{AreConfigs};
@@ -51,7 +53,7 @@ pub enum ReplayFault {
     WriteFault,
 }
 
-/// The fault of a schedule's text whose line of this number, counted from 1, has this fault. Takes no memory.
+/// The fault of a schedule whose line number `line`, counted from 1, has the fault `fault`. Takes no memory.
 pub fn fault_at(line: u64, fault: LineFault) -> ScheduleFault
     ensures { result ≡ schedule_fault line fault }
 {
@@ -61,14 +63,15 @@ pub fn fault_at(line: u64, fault: LineFault) -> ScheduleFault
     }
 }
 
-/// Whether an agent's line may have `count` words.
+/// Whether an agent's line may have `count` words: both limits of packets may be left out, and PERTIME before them.
 fn is_agent_count(count: usize) -> bool
     ensures { result ≡ is_agent_count count }
 {
     count == 7 || count == 8 || count == 10
 }
 
-/// The words of an agent line: those that were cut, and those of what is left. `WordCount` where no agent has so many.
+/// All words of an agent's line: `words`, its first eight at most, and those of `rest`, what is left of the line.
+/// `WordCount` where an agent's line can't have as many.
 fn agent_words<'a>(
     alloc: Global,
     words: &[&'a [u8]],
@@ -80,7 +83,7 @@ fn agent_words<'a>(
 {
     let mut all = Vec::from_slice(alloc, words)?;
     let mut more = Vec::new(alloc);
-    let left = take_words(rest, &mut more)?;
+    let left = take_words(rest, &mut more)?; // what follows the first eight words of `rest`
     all.append(&mut more)?;
     if left.is_empty() && is_agent_count(all.len()) {
         Ok(all)
@@ -89,7 +92,7 @@ fn agent_words<'a>(
     }
 }
 
-/// Adds the agent of a line to the others.
+/// Adds an agent to `agents`, by the first words of its line, `words`, and what is left of the line, `rest`.
 fn read_agent(
     alloc: Global,
     agents: &mut Roster,
@@ -117,7 +120,8 @@ fn read_agent(
     }
 }
 
-/// Reads a line of at most eight words, and of what is left of it.
+/// Reads a line by its first words, `words`, at most eight, and what is left of it, `rest`. Gives its action, or adds
+/// its agent to `agents`.
 fn read_words(
     alloc: Global,
     agents: &mut Roster,
@@ -156,8 +160,8 @@ fn read_words(
     }
 }
 
-/// What a line says after those of a schedule: its action, or none where it has an agent, which is added to the others,
-/// or says nothing. `is_late` where an action stands before it.
+/// Reads `line`, which stands after the lines of a schedule. Gives its action, or none where it has an agent, which is
+/// added to `agents`, or says nothing.
 #[tactic(auto, unfolding(crate::specs::Line::after_line))]
 #[inline(always)]
 pub(crate) fn say_line(
@@ -174,17 +178,17 @@ pub(crate) fn say_line(
     if let [b'#', ..] = line {
         return Ok(None);
     }
-    let (first, count, rest) = cut_words(line);
+    let (first, count, rest) = cut_words(line); // at most eight words, how many, and what is left
     if count == 0 {
         return Ok(None);
     }
     read_words(alloc, agents, is_late, &first[..count], rest)
 }
 
-/// Reads a line after those of a schedule: its agent or its action is put after the others.
+/// Reads `line` after the lines of `schedule`: its agent or its action is added there, after the others.
 ///
-/// Words stand between spaces. A line without words, and one whose first byte is `#`, say nothing. What stands in the
-/// schedule after a fault is not said.
+/// Words stand between spaces. A line without words, and one whose first byte is `#`, say nothing. After a fault no
+/// contract says what `schedule` has.
 #[inline(always)]
 pub fn read_schedule_line(
     alloc: Global,
@@ -207,7 +211,7 @@ pub fn read_schedule_line(
     }
 }
 
-/// The schedule that a text stands for, or its first bad line.
+/// The schedule that `text` stands for, or its first bad line.
 ///
 /// The text is cut at newlines, and a last line without one is read too. Words stand between spaces. A line without
 /// words, and one whose first byte is `#`, say nothing. First come the agents' lines, and then those of the actions.

@@ -1,4 +1,6 @@
-//! A schedule that is run: each line as soon as it is read, or the whole; and who is told how far it is.
+//! Schedules are run: each line as soon as it is read, or a whole schedule. A teller is told of each action that is
+//! done, and a watch may be told how far the run is. In clauses `asked` is what the teller is asked, `said` what the
+//! schedule's lines said, and `front` what was told before `text`.
 
 ghost use Rattle.std.specs.Prelude.{◌≡◌, ◌++◌, ◌∷◌, [], List, ℕ, IfErr, IfOk, OnOk, length};
 ghost use Rattle.serf_agent.specs.declared.config.Config.{Config};
@@ -13,7 +15,7 @@ use serf_world::{Roster, Turns, World, act};
 use std::alloc::{AllocError, Global};
 use std::mem;
 
-/// A cluster that acts, how many agents it has, and how many actions were done in it.
+/// A cluster that has begun to act, how many agents it has (`agents`), and how many actions it has done (`turns`).
 #[derive(Drop)]
 pub(crate) struct Acting {
     pub(crate) world: World,
@@ -21,7 +23,7 @@ pub(crate) struct Acting {
     pub(crate) turns: u64,
 }
 
-/// Makes the cluster of the agents in `roster`, and does its first action; what is told of it is appended to `text`.
+/// Makes the cluster of the agents in `roster`, and does its first `action`; what `teller` tells is appended to `text`.
 fn begin<T: Turns>(
     alloc: Global,
     roster: Roster,
@@ -35,10 +37,10 @@ fn begin<T: Turns>(
         (record { configs = roster; actions = action.now ∷ [] }) acting teller.new
         (front ++ text.new.items)) }
 {
-    let agents = roster.as_slice().len() as u64;
+    let agents = roster.as_slice().len() as u64; // how many
     let mut world = World::new(alloc, roster)?;
     teller.begin(alloc, &world, agents)?;
-    let turns = 1;
+    let turns = 1; // how many actions are done then
     act(alloc, &mut world, teller, turns, action, text)?;
     Ok(Acting {
         world,
@@ -47,7 +49,8 @@ fn begin<T: Turns>(
     })
 }
 
-/// Does an action; the first one makes the cluster. What is told of it is appended to `text`.
+/// Does `action`; the first one makes the cluster, `acting`, of `agents`. What `teller` tells is appended to `text`. An
+/// `AllocError` where there is no memory, or 2^64 - 1 actions were done.
 fn do_action<T: Turns>(
     alloc: Global,
     agents: &mut Roster,
@@ -71,7 +74,7 @@ fn do_action<T: Turns>(
             Ok(())
         }
         None => {
-            let roster = mem::replace(agents, Roster::new(alloc));
+            let roster = mem::replace(agents, Roster::new(alloc)); // from now on the cluster has the agents
             let begun = begin(alloc, roster, teller, action, text)?;
             *acting = Some(begun);
             Ok(())
@@ -79,14 +82,14 @@ fn do_action<T: Turns>(
     }
 }
 
-/// A schedule of which each line is done as soon as it is read, and told. What it keeps is the cluster, with all packets
-/// that were sent, and what its teller keeps.
+/// The run of a schedule of which each line is done as soon as it is read, and told. It keeps the cluster, with all
+/// packets that were sent, and what its teller keeps.
 pub struct Run<T> {
     /// The agents, until the first action.
     pub(crate) agents: Roster,
     /// The cluster, from the first action on.
     pub(crate) acting: Option<Acting>,
-    /// What is told of the actions.
+    /// Who is told of the actions.
     pub teller: T,
 }
 
@@ -102,7 +105,7 @@ impl<T: Drop> Drop for Run<T> {
 }
 
 impl<T: Turns> Run<T> {
-    /// A schedule without a line. Takes no memory.
+    /// A run before its schedule's first line. Takes no memory.
     pub fn new(alloc: Global, teller: T) -> Run<T>
         ensures { (asked : T.Asked) → ((configs : List Config) → T.told asked teller configs [] [])
             → HasRun (T.told asked) result [] [] }
@@ -125,7 +128,7 @@ impl<T: Turns> Run<T> {
         }
     }
 
-    /// How many actions were done. Takes no memory.
+    /// How many actions were done so far. Takes no memory.
     pub fn turns(&self) -> u64
         ensures { (asked : T.Asked) (lines : List (List ℕ)) (told : List ℕ)
             (h : HasRun (T.told asked) self.now lines told) → result ≡ length h.said.actions }
@@ -136,9 +139,9 @@ impl<T: Turns> Run<T> {
         }
     }
 
-    /// Does the next line of the schedule, and appends what is told of its action, where it has one.
+    /// Does `line`, the next one of the schedule, and appends what is told of its action, if it has one, to `text`.
     ///
-    /// `Bad` where the line is not sound, and `OutOfMemory`; after both it stands for no schedule any more.
+    /// `Bad` where the line is not sound, and `OutOfMemory`; after both the run stands for no schedule any more.
     pub fn take_line(
         &mut self,
         alloc: Global,
@@ -153,7 +156,7 @@ impl<T: Turns> Run<T> {
             → HasRun (T.told asked) self.old lines told
             → IfErr result (λ fault. IsLineRefused fault lines line.now) }
     {
-        let mut more = Vec::new(alloc);
+        let mut more = Vec::new(alloc); // what is told of this line alone
         if let Err(fault) = self.do_line(alloc, line, &mut more) {
             return Err(fault);
         }
@@ -163,7 +166,7 @@ impl<T: Turns> Run<T> {
         }
     }
 
-    /// Does the next line, and appends to the last that was told.
+    /// Does `line`, the next one, and appends what is told of it to `text`, which may end with what was told before.
     fn do_line(&mut self, alloc: Global, line: &[u8], text: &mut Vec<u8>) -> Result<(), LineFault>
         ensures done { (asked : T.Asked) (lines : List (List ℕ)) (front : List ℕ)
             → HasRun (T.told asked) self.old lines (front ++ text.old.items)
@@ -192,6 +195,7 @@ impl<T: Turns> Run<T> {
     }
 }
 
+/// Does the lines of a stream as those of a schedule.
 impl<T: Turns> LineTeller for Run<T> {
     ghost use Rattle.serf_schedule.specs.Running.{HasStreamed, is_refused_by};
 
@@ -215,8 +219,8 @@ impl<T: Turns> LineTeller for Run<T> {
     }
 }
 
-/// Does the actions of a schedule, one after another, and gives what is told of them. Each action is dropped once it is
-/// done.
+/// Does the actions of `schedule`, one after another, and gives what `teller` tells of them. Each action is dropped
+/// once it is done.
 pub fn tell_schedule<T: Turns>(
     alloc: Global,
     schedule: Schedule,
@@ -227,11 +231,11 @@ pub fn tell_schedule<T: Turns>(
         T.told asked teller.new schedule.agents schedule.actions.items text.items) }
 {
     let Schedule { agents, actions } = schedule;
-    let count = agents.as_slice().len() as u64;
+    let count = agents.as_slice().len() as u64; // how many agents
     let mut world = World::new(alloc, agents)?;
     teller.begin(alloc, &world, count)?;
     let mut text = Vec::new(alloc);
-    let mut number: u64 = 0;
+    let mut number: u64 = 0; // of the action, counted from 1
     for action in actions {
         number += 1;
         act(alloc, &mut world, teller, number, &action, &mut text)?;
@@ -239,16 +243,16 @@ pub fn tell_schedule<T: Turns>(
     Ok(text)
 }
 
-/// Is told of each action of a run that is done. What it does changes nothing of the run.
+/// A watch, which is told after each action how far a run is. What it does changes nothing of the run.
 pub trait Watch {
-    /// Whether it does anything with what it is told. Where it doesn't, it may be told of a count of 0 in all.
+    /// Whether the watch does anything with what it is told. Where it doesn't, `all` may be 0 in [`Watch::acted`].
     fn is_watching(&self) -> bool;
 
-    /// So many of so many actions are done.
+    /// Tells the watch that `done` of the run's `all` actions are done.
     fn acted(&mut self, done: u64, all: u64);
 }
 
-/// Does nothing with what it is told.
+/// A watch that does nothing with what it is told.
 #[derive(Clone, Copy)]
 pub struct Unwatched;
 
@@ -260,12 +264,12 @@ impl Watch for Unwatched {
     fn acted(&mut self, _done: u64, _all: u64) {}
 }
 
-/// Tells what another tells, and lets a watch know of each turn.
+/// A teller that tells what `teller` tells, and tells `watch` of each turn.
 #[derive(Drop)]
 pub struct Watched<'a, T, W> {
     pub teller: T,
     pub watch: &'a mut W,
-    /// How many turns there will be.
+    /// How many turns the run will have.
     pub all: u64,
 }
 

@@ -1,4 +1,4 @@
-//! What the lines of a schedule can say.
+//! What the lines of a schedule can say. Each `know_..` does nothing: a call tells the prover what a type says.
 
 ghost use Rattle.std.specs.Prelude.{◌↔◌, ◌<◌, ◌^◌, All, IsTrue};
 ghost use Rattle.hex.specs.Hex.{IsBytes};
@@ -8,22 +8,22 @@ use serf_agent::{Config, QueryParams};
 use serf_model::{Act, Action, NewQuery};
 use serf_wire::Bytes;
 
-/// A slice has bytes. Does nothing.
+/// Tells the prover that each number in `_bytes` is below 256. Does nothing.
 fn know_bytes(_bytes: &[u8])
     ensures { IsBytes _bytes.now }
 {}
 
-/// A number has 64 bits. Does nothing.
+/// Tells the prover that `_number` is below 2^64. Does nothing.
 fn know_number(_number: u64)
     ensures { _number < 2 ^ 64 }
 {}
 
-/// An ID has 32 bits. Does nothing.
+/// Tells the prover that the ID `_id` is below 2^32. Does nothing.
 fn know_id(_id: u32)
     ensures { _id < 2 ^ 32 }
 {}
 
-/// Lists have bytes. Does nothing.
+/// Tells the prover that `lists` are lists of bytes. Does nothing.
 fn know_all_bytes(lists: &[Bytes])
     ensures { All IsBytes lists.now }
 {
@@ -32,14 +32,14 @@ fn know_all_bytes(lists: &[Bytes])
     }
 }
 
-/// An agent's name has bytes. Does nothing.
+/// Tells the prover that the name of the agent with the settings `config` has bytes. Does nothing.
 pub fn has_byte_name(config: &Config)
     ensures { HasByteName config.now }
 {
     know_bytes(config.name.as_slice());
 }
 
-/// Whether a line can say how a query is fired.
+/// Whether a line can say that a query is fired with `params`.
 fn are_sayable(params: &QueryParams) -> bool
     ensures { IsTrue result ↔ AreSayable params.now }
 {
@@ -51,7 +51,7 @@ fn are_sayable(params: &QueryParams) -> bool
         && params.relay_factor == 0
 }
 
-/// Whether a line can say a query.
+/// Whether a line can say that an agent fires `query`.
 fn is_query_sayable(query: &NewQuery) -> bool
     ensures { IsTrue result ↔ IsQuerySayable query.now }
 {
@@ -62,7 +62,7 @@ fn is_query_sayable(query: &NewQuery) -> bool
     are_sayable(&query.params)
 }
 
-/// Whether a line can say what an agent does.
+/// Whether a line can say that an agent does `act`.
 fn is_act_sayable(act: &Act) -> bool
     ensures { IsTrue result ↔ IsActSayable act.now }
 {
@@ -98,7 +98,7 @@ fn is_act_sayable(act: &Act) -> bool
         }
         Act::Break { count, .. } => {
             know_number(*count);
-            *count >= 1
+            *count >= 1 // (0 plans no failure, and no line says so)
         }
         Act::Close { now } => {
             know_number(*now);
@@ -108,8 +108,8 @@ fn is_act_sayable(act: &Act) -> bool
     }
 }
 
-/// Whether a line of a schedule can say an action. It can't say a sink's calls counted from 0, a negative timeout, that
-/// tags pass, or where a query's answers go. Takes no memory.
+/// Whether a line of a schedule can say `action`. No line says a sink's failing call by the number 0, a negative
+/// timeout, that tag filters pass, or where a query's answers go. Takes no memory.
 pub fn is_sayable(action: &Action) -> bool
     ensures { IsTrue result ↔ IsSayable action.now }
 {

@@ -1,6 +1,6 @@
-//! The text of a trace.
+//! The text of a trace: the lines of each action, which begin with the action's number.
 
-ghost use Rattle.std.specs.Prelude.{◌≡◌, ◌+◌, ◌++◌, OnOk, IfOk, decimal};
+ghost use Rattle.std.specs.Prelude.{◌≡◌, ◌+◌, ◌++◌, OnOk, IfOk, codes, decimal};
 ghost use Rattle.std.specs.List.{flat_map};
 ghost use Rattle.std.specs.Option.{option_to_list};
 ghost use Rattle.serf_model.specs.Trace.{outcome_of};
@@ -14,7 +14,7 @@ use serf_wire::Bytes;
 use serf_world::{Turns, World};
 use std::alloc::{AllocError, Global};
 
-/// The words of the answer to a packet that is ignored.
+/// The words of the answer to a packet that is ignored for `reason`.
 fn ignored_words(reason: Reason) -> &'static [u8]
     ensures { result.now ≡ answer_words (Answer.Ignored reason) }
 {
@@ -33,7 +33,7 @@ fn ignored_words(reason: Reason) -> &'static [u8]
     }
 }
 
-/// The words of a refusal.
+/// The words of the answer to an action that is refused by `refusal`.
 fn refused_words(refusal: Refusal) -> &'static [u8]
     ensures { result.now ≡ answer_words (Answer.Refused refusal) }
 {
@@ -54,7 +54,7 @@ fn refused_words(refusal: Refusal) -> &'static [u8]
     }
 }
 
-/// The words of an answer: all but its numbers, and a packet's fault. Takes no memory.
+/// The words of `answer`: all of its text but its numbers, and a packet's fault. Takes no memory.
 pub fn answer_words(answer: &Answer) -> &'static [u8]
     ensures { result.now ≡ answer_words answer.now }
 {
@@ -81,16 +81,34 @@ pub fn answer_words(answer: &Answer) -> &'static [u8]
     }
 }
 
-/// Appends a space and a number.
+/// Appends a space.
+#[inline(always)]
+fn put_space(out: &mut Vec<u8>) -> Result<(), AllocError>
+    ensures { OnOk result (out.new.items ≡ out.old.items ++ codes " ") }
+{
+    out.push(b' ')?;
+    Ok(())
+}
+
+/// Appends a newline.
+#[inline(always)]
+fn end_line(out: &mut Vec<u8>) -> Result<(), AllocError>
+    ensures { OnOk result (out.new.items ≡ out.old.items ++ codes "\n") }
+{
+    out.push(b'\n')?;
+    Ok(())
+}
+
+/// Appends a space and `n` in decimal.
 #[tactic(auto, unfolding(crate::specs::Show::behind_space))]
 fn put_behind_space(out: &mut Vec<u8>, n: u64) -> Result<(), AllocError>
     ensures { OnOk result (out.new.items ≡ out.old.items ++ behind_space n) }
 {
-    out.extend_from_slice(b" ")?;
+    put_space(out)?;
     put_number(out, n)
 }
 
-/// Appends three clocks, each after a space.
+/// Appends the three clocks of an agent that was opened again, each after a space.
 fn put_clocks(
     out: &mut Vec<u8>,
     member_clock: u64,
@@ -105,20 +123,20 @@ fn put_clocks(
     put_behind_space(out, query_clock)
 }
 
-/// Appends a packet's fault after a space, where the refusal has one.
+/// Appends a space and a packet's fault, where `refusal` has one; else nothing.
 fn put_fault_details(out: &mut Vec<u8>, refusal: Refusal) -> Result<(), AllocError>
     ensures { OnOk result (out.new.items ≡ out.old.items ++ fault_details refusal) }
 {
     match refusal {
         Refusal::Wire(fault) => {
-            out.extend_from_slice(b" ")?;
+            put_space(out)?;
             put_wire_fault(out, fault)
         }
         _ => Ok(()),
     }
 }
 
-/// Appends an answer: its words, and its numbers or a packet's fault, each after a space. After an `AllocError`, which
+/// Appends `answer`: its words, and its numbers or a packet's fault, each after a space. After an `AllocError`, which
 /// comes where there is no memory for it, `out` may have a prefix of it.
 #[inline(always)]
 pub fn put_answer(out: &mut Vec<u8>, answer: Answer) -> Result<(), AllocError>
@@ -139,7 +157,7 @@ pub fn put_answer(out: &mut Vec<u8>, answer: Answer) -> Result<(), AllocError>
     }
 }
 
-/// The number of an action with its digits, which all its lines begin with.
+/// The number of an action, counted from 1, and its decimal digits, which all lines of the action begin with.
 #[derive(Clone, Copy)]
 struct Spelled<'a> {
     number: u64,
@@ -147,7 +165,7 @@ struct Spelled<'a> {
     pub ghost spells: { digits.now ≡ decimal number },
 }
 
-/// The packet `k` of those that were sent, from 0 on; no bytes where there is none.
+/// Packet number `k` of `sent`, from 0 on; no bytes where there is none.
 fn packet(sent: &[Bytes], k: u64) -> &[u8]
     ensures { result.now ≡ packet_of sent.now k }
 {
@@ -157,7 +175,7 @@ fn packet(sent: &[Bytes], k: u64) -> &[u8]
     }
 }
 
-/// Appends the line of the packet `k`, which an action sent.
+/// Appends the line of packet number `k` of `sent`, which `action` sent.
 #[tactic(auto, unfolding(crate::specs::Show::sent_line))]
 fn put_sent_line(
     out: &mut Vec<u8>,
@@ -171,31 +189,31 @@ fn put_sent_line(
     out.extend_from_slice(action.digits)?;
     out.extend_from_slice(b" sent ")?;
     put_number(out, k)?;
-    out.extend_from_slice(b" ")?;
+    put_space(out)?;
     put_hex(out, packet(sent, k))?;
-    out.extend_from_slice(b"\n")
+    end_line(out)
 }
 
-/// Appends a number and a space.
+/// Appends `n` in decimal and a space.
 #[tactic(auto, unfolding(crate::specs::Show::spaced))]
 fn put_spaced(out: &mut Vec<u8>, n: u64) -> Result<(), AllocError>
     ensures { OnOk result (out.new.items ≡ out.old.items ++ spaced n) }
 {
     put_number(out, n)?;
-    out.extend_from_slice(b" ")
+    put_space(out)
 }
 
-/// Appends a name and a payload in hex, with a space between.
+/// Appends `name` and `payload` in hex, with a space between.
 #[tactic(auto, unfolding(crate::specs::Show::texts_text))]
 fn put_texts(out: &mut Vec<u8>, name: &[u8], payload: &[u8]) -> Result<(), AllocError>
     ensures { OnOk result (out.new.items ≡ out.old.items ++ texts_text name.now payload.now) }
 {
     put_hex(out, name)?;
-    out.extend_from_slice(b" ")?;
+    put_space(out)?;
     put_hex(out, payload)
 }
 
-/// Appends the line of an event that was handed out.
+/// Appends the line of `event`, which `action` handed out.
 #[tactic(auto, unfolding(crate::specs::Show::event_line, crate::specs::Show::event_tail))]
 fn put_event_line(out: &mut Vec<u8>, action: Spelled, event: &EventLine) -> Result<(), AllocError>
     ensures { OnOk result (out.new.items ≡ out.old.items
@@ -209,7 +227,7 @@ fn put_event_line(out: &mut Vec<u8>, action: Spelled, event: &EventLine) -> Resu
     out.extend_from_slice(if event.coalesce { b" 1\n" } else { b" 0\n" })
 }
 
-/// Appends whose query it is, its place among those handed out there, its time and its ID, each with a space behind.
+/// Appends the agent that has `query`, the query's number there, its time and its ID, each with a space after it.
 #[tactic(auto, unfolding(crate::specs::Show::identity_text))]
 fn put_identity(out: &mut Vec<u8>, query: &HandedLine) -> Result<(), AllocError>
     ensures { OnOk result (out.new.items ≡ out.old.items ++ identity_text query.now) }
@@ -220,7 +238,7 @@ fn put_identity(out: &mut Vec<u8>, query: &HandedLine) -> Result<(), AllocError>
     put_spaced(out, u64::from(query.id))
 }
 
-/// Appends the line of a query that was handed out.
+/// Appends the line of `query`, which `action` handed out.
 #[tactic(auto, unfolding(crate::specs::Show::handed_line))]
 fn put_handed_line(out: &mut Vec<u8>, action: Spelled, query: &HandedLine) -> Result<(), AllocError>
     ensures { OnOk result (out.new.items ≡ out.old.items
@@ -230,10 +248,10 @@ fn put_handed_line(out: &mut Vec<u8>, action: Spelled, query: &HandedLine) -> Re
     out.extend_from_slice(b" handed ")?;
     put_identity(out, query)?;
     put_texts(out, query.name.as_slice(), query.payload.as_slice())?;
-    out.extend_from_slice(b"\n")
+    end_line(out)
 }
 
-/// Appends a line for each packet that an action sent.
+/// Appends a line for each of `packets`: the numbers, in `sent`, of the packets that `action` sent.
 #[inline(always)]
 fn put_sent_lines(
     out: &mut Vec<u8>,
@@ -250,7 +268,7 @@ fn put_sent_lines(
     Ok(())
 }
 
-/// Appends a line for each event that was handed out.
+/// Appends a line for each of `events`, which `action` handed out.
 #[inline(always)]
 fn put_event_lines(
     out: &mut Vec<u8>,
@@ -266,8 +284,8 @@ fn put_event_lines(
     Ok(())
 }
 
-/// Appends the lines of the action `number`; `sent` are all packets that were sent up to it. After an `AllocError`, which
-/// comes where there is no memory for them, `out` may have a prefix of them.
+/// Appends the lines of action number `number`: what came of it is `line`, and `sent` are all packets sent up to it.
+/// After an `AllocError`, which comes where there is no memory for them, `out` may have a prefix of them.
 #[tactic(auto, unfolding(crate::specs::Show::action_text, crate::specs::Show::answer_line))]
 #[inline(always)]
 pub fn put_action(
@@ -284,9 +302,9 @@ pub fn put_action(
         digits: buffer.format(number).as_bytes(),
     };
     out.extend_from_slice(action.digits)?;
-    out.extend_from_slice(b" ")?;
+    put_space(out)?;
     put_answer(out, line.answer)?;
-    out.extend_from_slice(b"\n")?;
+    end_line(out)?;
     put_sent_lines(out, sent, action, line.sent.as_slice())?;
     put_event_lines(out, action, line.events.as_slice())?;
     match &line.handed {
@@ -295,7 +313,7 @@ pub fn put_action(
     }
 }
 
-/// The text of a trace: the lines of its actions, which are counted from 1.
+/// The text of `trace`: the lines of its actions, which are counted from 1.
 ///
 /// An action has a line for its answer, one for each packet that it sent, one for each event that it handed out, and
 /// one for the query that it handed out. Each begins with the action's number. Bytes are in lower case hex, `-` for
@@ -304,7 +322,7 @@ pub fn show_trace(alloc: Global, trace: &Trace) -> Result<Vec<u8>, AllocError>
     ensures { IfOk result (λ text. text.items ≡ trace_text (outcome_of trace.now)) }
 {
     let mut out = Vec::new(alloc);
-    let mut number: u64 = 0;
+    let mut number: u64 = 0; // of the action, counted from 1
     for line in trace.lines.as_slice() {
         number += 1;
         put_action(&mut out, trace.sent.as_slice(), number, line)?;
@@ -312,7 +330,7 @@ pub fn show_trace(alloc: Global, trace: &Trace) -> Result<Vec<u8>, AllocError>
     Ok(out)
 }
 
-/// Tells the trace of a run.
+/// A teller whose text is the trace of the run.
 #[derive(Drop)]
 pub struct TraceText;
 

@@ -1,4 +1,4 @@
-//! The lines of a schedule, and of the pipe, and the text of a whole schedule.
+//! Lines that are written: of a schedule, and of the pipe to an agent that is tried; and the text of a whole schedule.
 
 ghost use Rattle.std.specs.Prelude.{◌≡◌, ◌++◌, All, Ok, OnOk};
 ghost use Rattle.std.specs.List.{flat_map};
@@ -20,7 +20,7 @@ use serf_model::{Act, Action, NewQuery};
 use serf_text::flag;
 use std::alloc::AllocError;
 
-/// Appends the limits of packets, where one of them is not the default.
+/// Appends the query limit and the response limit of `config`, where one of them is not the default.
 fn put_limit_words(out: &mut Vec<u8>, config: &Config) -> Result<(), AllocError>
     ensures { OnOk result (out.new.items ≡ out.old.items ++ spaced (limit_words config.now)) }
 {
@@ -35,7 +35,7 @@ fn put_limit_words(out: &mut Vec<u8>, config: &Config) -> Result<(), AllocError>
     )
 }
 
-/// Appends an agent's settings, with a space before each word. The limits of packets are left out where both are the
+/// Appends the settings `config`, with a space before each word. The limits of packets are left out where both are the
 /// default. Where memory runs out, a part of the words may stand there.
 pub fn put_config_words(out: &mut Vec<u8>, config: &Config) -> Result<(), AllocError>
     ensures { OnOk result (out.new.items ≡ out.old.items ++ spaced (config_words config.now)) }
@@ -53,7 +53,7 @@ pub fn put_config_words(out: &mut Vec<u8>, config: &Config) -> Result<(), AllocE
     put_limit_words(out, config)
 }
 
-/// Appends the line of an agent. Where memory runs out, a part of the line may stand there.
+/// Appends the line of the agent with the settings `config`. Where memory runs out, a part of the line may stand there.
 #[tactic(auto, unfolding(crate::specs::ScheduleText::agent_text))]
 pub fn put_agent_line(out: &mut Vec<u8>, config: &Config) -> Result<(), AllocError>
     ensures { OnOk result (out.new.items ≡ out.old.items ++ agent_text config.now) }
@@ -63,7 +63,7 @@ pub fn put_agent_line(out: &mut Vec<u8>, config: &Config) -> Result<(), AllocErr
     out.extend_from_slice(b"\n")
 }
 
-/// The word for a packet: its bytes where `given` has them, else its number.
+/// The word for packet number `packet`: its bytes where `given` has them, else its number.
 fn packet_word<'a>(given: Option<&'a [u8]>, packet: u64) -> Word<'a>
     ensures { word_text result ≡ packet_word (option_copied given.entry) packet }
 {
@@ -73,7 +73,7 @@ fn packet_word<'a>(given: Option<&'a [u8]>, packet: u64) -> Word<'a>
     }
 }
 
-/// Appends what stands in a query line behind its first word.
+/// Appends the words of `query` that stand after the agent in a query line: from its moment to its filters.
 fn put_query_words(out: &mut Vec<u8>, query: &NewQuery) -> Result<(), AllocError>
     ensures { OnOk result (out.new.items ≡ out.old.items
         ++ spaced (act_words None (Act.Query query.now))) }
@@ -90,11 +90,11 @@ fn put_query_words(out: &mut Vec<u8>, query: &NewQuery) -> Result<(), AllocError
     put_hex_words(out, query.params.filters.as_slice())
 }
 
-/// Appends what stands after the word of what an agent does, with a space before each word. A packet that it is given
-/// stands there by these bytes, or by its number where there are none. Where memory runs out, a part of the words may
-/// stand there.
+/// Appends the words of `act` that stand after the agent in its line, with a space before each. A packet that the agent
+/// is given stands there by its bytes where `given` has them, else by its number. Where memory runs out, a part of the
+/// words may stand there.
 ///
-/// Of a query they say nothing of tags or of where answers go ([`crate::is_sayable`]).
+/// Of a query the words say nothing of tags or of where answers go ([`crate::is_sayable`]).
 pub fn put_act_words(out: &mut Vec<u8>, act: &Act, given: Option<&[u8]>) -> Result<(), AllocError>
     ensures { OnOk result (out.new.items ≡ out.old.items
         ++ spaced (act_words (option_copied given.entry) act.now)) }
@@ -138,9 +138,9 @@ pub fn put_act_words(out: &mut Vec<u8>, act: &Act, given: Option<&[u8]>) -> Resu
     }
 }
 
-/// Appends the line of an action. Where memory runs out, a part of the line may stand there.
+/// Appends the line of `action`. Where memory runs out, a part of the line may stand there.
 ///
-/// Of a query it says nothing of tags or of where answers go, since no line can ([`crate::is_sayable`]).
+/// Of a query the line says nothing of tags or of where answers go, since no line can ([`crate::is_sayable`]).
 #[tactic(auto, unfolding(crate::specs::ScheduleText::action_text))]
 pub fn put_action_line(out: &mut Vec<u8>, action: &Action) -> Result<(), AllocError>
     ensures { OnOk result (out.new.items ≡ out.old.items ++ action_text action.now) }
@@ -156,7 +156,7 @@ pub fn put_action_line(out: &mut Vec<u8>, action: &Action) -> Result<(), AllocEr
     }
 }
 
-/// Appends a line for each agent.
+/// Appends a line for each of `agents`.
 fn put_agents(out: &mut Vec<u8>, agents: &[Config]) -> Result<(), AllocError>
     ensures { OnOk result (out.new.items ≡ out.old.items ++ flat_map agent_text agents.now) }
 {
@@ -166,7 +166,7 @@ fn put_agents(out: &mut Vec<u8>, agents: &[Config]) -> Result<(), AllocError>
     Ok(())
 }
 
-/// Appends a line for each action.
+/// Appends a line for each of `actions`.
 fn put_actions(out: &mut Vec<u8>, actions: &[Action]) -> Result<(), AllocError>
     ensures { OnOk result (out.new.items ≡ out.old.items ++ flat_map action_text actions.now) }
 {
@@ -176,7 +176,7 @@ fn put_actions(out: &mut Vec<u8>, actions: &[Action]) -> Result<(), AllocError>
     Ok(())
 }
 
-/// The names of agents have bytes. Does nothing.
+/// Tells the prover that the names of `agents` have bytes. Does nothing.
 fn have_byte_names(agents: &[Config])
     ensures { All HasByteName agents.now }
 {
@@ -185,16 +185,16 @@ fn have_byte_names(agents: &[Config])
     }
 }
 
-/// The text of a schedule reads back, where a line can say each action. Does nothing.
+/// Tells the prover that the text of `schedule` reads back, where a line can say each of its actions. Does nothing.
 pub fn know_read_back(schedule: &Schedule)
     ensures { All IsSayable schedule.now.actions.items
         → schedule_of (schedule_text (parsed_of schedule.now)) ≡ Ok (parsed_of schedule.now) }
 {
-    text_reads_back();
-    have_byte_names(schedule.agents.as_slice());
+    text_reads_back(); // for the prover: the law
+    have_byte_names(schedule.agents.as_slice()); // and what it asks of the agents' names
 }
 
-/// Appends the text of a schedule: a line for each agent, and then one for each action.
+/// Appends the text of `schedule`: a line for each agent, and then one for each action.
 ///
 /// Where a line can say each action ([`crate::is_sayable`]), the text stands for just this schedule. `AllocError` where
 /// there is no memory: a prefix of the text may stand there then.
@@ -204,7 +204,7 @@ pub fn put_schedule(out: &mut Vec<u8>, schedule: &Schedule) -> Result<(), AllocE
     ensures reads_back { All IsSayable schedule.now.actions.items
         → schedule_of (schedule_text (parsed_of schedule.now)) ≡ Ok (parsed_of schedule.now) }
 {
-    know_read_back(schedule);
+    know_read_back(schedule); // for the prover: the text reads back, where a line can say each action
     put_agents(out, schedule.agents.as_slice())?;
     put_actions(out, &schedule.actions)
 }

@@ -1,4 +1,4 @@
-//! Words of a line.
+//! Words of a line that is written.
 
 ghost use Rattle.std.specs.Prelude.{◌≡◌, ◌++◌, ◌∷◌, OnOk, map};
 ghost use Rattle.serf_text.specs.TextParts.{hex_text};
@@ -24,7 +24,7 @@ pub enum Word<'a> {
     Plain(&'a [u8]),
 }
 
-/// Appends a space and a word.
+/// Appends a space and `word`.
 fn put_word(out: &mut Vec<u8>, word: Word) -> Result<(), AllocError>
     ensures { OnOk result (out.new.items ≡ out.old.items ++ word_behind word.entry) }
 {
@@ -37,7 +37,7 @@ fn put_word(out: &mut Vec<u8>, word: Word) -> Result<(), AllocError>
     }
 }
 
-/// Appends words, with a space before each.
+/// Appends `words`, with a space before each.
 pub(crate) fn put_words(out: &mut Vec<u8>, words: &[Word]) -> Result<(), AllocError>
     ensures { OnOk result (out.new.items ≡ out.old.items ++ spaced (map word_text words.now)) }
 {
@@ -47,7 +47,7 @@ pub(crate) fn put_words(out: &mut Vec<u8>, words: &[Word]) -> Result<(), AllocEr
     Ok(())
 }
 
-/// Appends a line of a command and its words.
+/// Appends a line: `command`, and then `words` with a space before each.
 pub fn put_line(out: &mut Vec<u8>, command: &[u8], words: &[Word]) -> Result<(), AllocError>
     ensures { OnOk result (out.new.items ≡ out.old.items
         ++ line_text (command.now ∷ map word_text words.now)) }
@@ -57,7 +57,7 @@ pub fn put_line(out: &mut Vec<u8>, command: &[u8], words: &[Word]) -> Result<(),
     out.extend_from_slice(b"\n")
 }
 
-/// Appends byte lists in hex, with a space before each.
+/// Appends byte lists in hex, each of `lists` as a word with a space before it.
 pub(crate) fn put_hex_words(out: &mut Vec<u8>, lists: &[Bytes]) -> Result<(), AllocError>
     ensures { OnOk result (out.new.items ≡ out.old.items ++ spaced (map hex_text lists.now)) }
 {
@@ -67,14 +67,14 @@ pub(crate) fn put_hex_words(out: &mut Vec<u8>, lists: &[Bytes]) -> Result<(), Al
     Ok(())
 }
 
-/// Whether a merge is a join.
+/// The word that says whether a merge is a join.
 pub(crate) fn join(join: bool) -> &'static [u8]
     ensures { result.now ≡ join_word join }
 {
     if join { b"join" } else { b"sync" }
 }
 
-/// The name of a sink's call.
+/// The word that names the call `call` of a sink.
 pub(crate) fn sink_call(call: SinkCall) -> &'static [u8]
     ensures { result.now ≡ sink_call_word call }
 {
@@ -86,11 +86,11 @@ pub(crate) fn sink_call(call: SinkCall) -> &'static [u8]
     }
 }
 
-/// The flags of a query: 1 asks for acks, and 2 for no broadcast.
+/// The flags of a query in its line: 1 asks for acks, 2 for no broadcast, and their sum for both.
 pub(crate) fn flags(params: &QueryParams) -> u64
     ensures { result ≡ flags_of params.now }
 {
     let ack = if params.want_ack { 1 } else { 0 };
     let no_broadcast = if params.no_broadcast { 2 } else { 0 };
-    ack + no_broadcast
+    ack + no_broadcast // (each bit is one of the flags)
 }

@@ -1,9 +1,6 @@
 -- What appending does to the lines and to the greatest values of a text.
-use Rattle.serf_snap.proofs.Names.{◌≡◌, ◌≢◌, ℕ, ◌+◌, ◌*◌, ◌-◌, ◌^◌, ◌<◌, ◌≤◌, min, max, inl, inr, take, drop, get_or, Bool, true, false, cond, ◌&&◌, not, eqb, Option, Some, None, List, [], ◌∷◌, ◌++◌, refl, sym, ap, ◌∙◌, arith, rules, append_assoc, length, decimal, nat_lt, is_ascii_digit, all_ascii_digits, pointwise, same_text, other_text, slice_get, nat_eq, cases_Bool, eq-eqb, eqb-true, ltb-true, cases_lt, and_parts, and_from, and_left, and_right, not-true, cond-true, cond-false, ne_eqb, leb-true, lt-ltb, common_steps, take-append-drop, drop_more, IsNumeralModel, numerals_by_fold, digits_decimal, digits_value-decimal, decimal_nonempty}
+use Rattle.serf_snap.proofs.Names.{Bool, List, None, Option, Some, [], ap, append_assoc, arith, cond, drop, eqb, false, get_or, inl, inr, length, max, min, not, refl, rules, sym, take, true, ℕ, ◌&&◌, ◌*◌, ◌++◌, ◌+◌, ◌-◌, ◌<◌, ◌^◌, ◌∙◌, ◌∷◌, ◌≡◌, ◌≢◌, ◌≤◌, and_from, and_left, and_parts, and_right, cases_Bool, cases_lt, cond-false, cond-true, eq-eqb, eqb-true, leb-true, lt-ltb, ltb-true, ne_eqb, not-true, decimal_nonempty, digits_decimal, digits_value-decimal, common_steps, drop_more, take-append-drop, IsNumeralModel, numerals_by_fold, is_ascii_digit, other_text, pointwise, same_text, slice_get, decimal, nat_eq, nat_lt, all_ascii_digits, behind, clock_line, compacted_text, greatest, is_empty, is_time_text, is_whole, last_clock, line_above_zero, line_value, lines_of, of_kind, once_set, onto_line, prefix_of, read_on, sealed, time_text_value, ClockKind, Event, Member, Query}
 use Rattle.std.specs.Prelude.{nat_le, ◌==◌}
-use Rattle.serf_snap.specs.declared.kind.ClockKind.{ClockKind}
-use Rattle.serf_snap.specs.declared.kind.ClockKind.TheVariants.{Member, Event, Query}
-use Rattle.serf_snap.specs.Clocks.{prefix_of, onto_line, lines_of, behind, read_on, is_empty, is_time_text, time_text_value, line_value, greatest, last_clock, clock_line, is_whole, sealed, line_above_zero, compacted_text, of_kind, once_set}
 
 -- a line with no newline in it is one line
 abbrev pub has_no_newline : List ℕ → Bool

@@ -1,25 +1,6 @@
 -- The lines of events and of queries: what is written reads back, and what is torn says nothing.
-use Rattle.serf_snap.proofs.Names.{◌≡◌, ◌≢◌, ℕ, ◌+◌, ◌*◌, ◌-◌, ◌/◌, ◌^◌, ◌<◌, ◌≤◌, ◌==◌, ◌&&◌, not, eqb, nat_le, Bool, true, false, cond, Option, Some, None, inl, inr, List, [], ◌∷◌, ◌++◌, length, take, decimal, refl, sym, ap, ◌∙◌, arith, append_assoc, and_parts, and_from, and_left, and_right, cond-true, cond-false, not-true, ne_eqb, le-leb, leb-true, lt-ltb, length-append, is_ascii_digit, all_ascii_digits, digits_decimal, digits_value-decimal, decimal_nonempty}
-use Rattle.std.proofs.Common.{suc, zero}
-use Rattle.std.specs.Fmt.{digit_glyph, digits, digits_onto}
-use Rattle.std.specs.Prelude.{◌%◌, Result, Ok, Err, slice_index}
-use Rattle.std.specs.List.{All, AllPass, onto_first, slice_split}
-use Rattle.std.specs.Result.{result_ok}
-use Rattle.std.proofs.lemmas.Bool.{cases_lt}
-use Rattle.std.proofs.lemmas.List.{get_or_past}
-use Rattle.std.proofs.lemmas.Fmt.{length-decimal-le}
-use Rattle.std.proofs.lemmas.List.Elements.{All-cons, All-head, All-nil, All-tail}
-use Rattle.std.proofs.lemmas.List.Splits.{slice_split_at, slice_split_none}
-use Rattle.hex.specs.declared.error.FromHexError.{FromHexError}
-use Rattle.hex.specs.Hex.{IsBytes, decode_of, encode_lower, encode_with, hex_digit_value, is_hex_digit, lower_digits}
-use Rattle.hex.proofs.HexLemmas.{IsDigits-lower_digits, decode_of-encode_lower, decode_of-ok, length-encode_with}
-use Rattle.serf_snap.specs.declared.kept.KeptQuery.{KeptQuery}
-use Rattle.serf_snap.specs.declared.kept.Wanted.{Wanted}
-use Rattle.serf_snap.specs.declared.kind.ClockKind.{ClockKind}
-use Rattle.serf_snap.specs.declared.kind.ClockKind.TheVariants.{Member, Event, Query}
-use Rattle.serf_snap.specs.Clocks.{is_empty, is_whole, last_clock, line_value, greatest, lines_of, onto_line, read_on, sealed, time_text_value}
-use Rattle.serf_snap.specs.EventLines.{bytes_of_hex, event_behind, event_from, event_from_parts, event_line, event_of_line, event_text, events_in, events_of_lines, id_of, if_event_wanted, if_query_wanted, kept_query, queries_in, queries_of_lines, query_behind, query_from, query_from_parts, query_line, query_of_line, query_text}
-use Rattle.serf_snap.specs.TimedEvent.{TimedEvent, timed_event}
+use Rattle.serf_snap.proofs.Names.{Bool, List, None, Option, Some, [], ap, append_assoc, arith, cond, eqb, false, inl, inr, length, nat_le, not, refl, sym, take, true, zero, ℕ, ◌&&◌, ◌*◌, ◌++◌, ◌+◌, ◌-◌, ◌/◌, ◌<◌, ◌==◌, ◌^◌, ◌∙◌, ◌∷◌, ◌≡◌, ◌≢◌, ◌≤◌, and_from, and_left, and_parts, and_right, cases_lt, cond-false, cond-true, le-leb, leb-true, lt-ltb, ne_eqb, not-true, decimal_nonempty, digits_decimal, digits_value-decimal, length-decimal-le, get_or_past, length-append, All-cons, All-head, All-nil, All-tail, slice_split_at, slice_split_none, is_ascii_digit, digit_glyph, digits_onto, digits, All, AllPass, onto_first, slice_split, Err, Ok, Result, decimal, slice_index, ◌%◌, result_ok, all_ascii_digits, IsDigits-lower_digits, decode_of-encode_lower, decode_of-ok, length-encode_with, IsBytes, decode_of, encode_lower, hex_digit_value, is_hex_digit, lower_digits, encode_with, FromHexError, greatest, is_empty, is_whole, last_clock, line_value, lines_of, onto_line, read_on, sealed, time_text_value, bytes_of_hex, event_behind, event_from, event_from_parts, event_line, event_of_line, event_text, events_in, events_of_lines, id_of, if_event_wanted, if_query_wanted, kept_query, queries_in, queries_of_lines, query_behind, query_from, query_from_parts, query_line, query_of_line, query_text, TimedEvent, timed_event, KeptQuery, Wanted, ClockKind, Event, Member, Query}
+use Rattle.std.proofs.Common.{suc}
 use Rattle.serf_snap.proofs.ClockLaws.{digits_end, greatest-append, has_no_newline, lines_of-append, own, time_text_value-decimal}
 use Rattle.serf_snap.proofs.SayLaws.{hash_behind-sealed, lines-inside, lines-torn, no_newline-append, say-grows, say-line, say-sealed}
 

@@ -1,6 +1,5 @@
 -- A sink in memory that fails.
-use Rattle.serf_snap.proofs.Names.{◌≡◌, ℕ, ◌≤◌, List, [], length, take, drop, refl, arith, common_steps}
-use Rattle.serf_snap.specs.Device.{FailurePlan, Calls, HasFailed, Fails, memory_device}
+use Rattle.serf_snap.proofs.Names.{List, [], arith, drop, length, refl, take, ℕ, ◌≡◌, ◌≤◌, common_steps, Calls, Fails, FailurePlan, HasFailed, memory_device}
 
 -- a sink in memory that drops what was buffered has failed, where its count says so
 pub fails-dropped : (bytes : List ℕ) (durable failures failures2 : ℕ) (plan plan2 : FailurePlan) (calls calls2 : Calls) (more : List ℕ) → HasFailed failures failures2 → durable ≤ length bytes

@@ -1,11 +1,5 @@
 -- What the notes and the compactions of an agent that keeps its events do to what is durable.
-use Rattle.serf_snap.proofs.Names.{◌≡◌, ◌≢◌, ℕ, ◌-◌, ◌^◌, ◌<◌, ◌≤◌, ◌==◌, max, true, false, cond, nat_le, Bool, List, [], ◌∷◌, ◌++◌, Option, Some, None, inl, inr, refl, sym, ap, subst, ◌∙◌, arith, option_map, append_assoc, true≢false, eqb-true, leb-true}
-use Rattle.serf_snap.specs.declared.kind.ClockKind.{ClockKind}
-use Rattle.serf_snap.specs.declared.kind.ClockKind.TheVariants.{Member, Event, Query}
-use Rattle.serf_snap.specs.Clocks.{greatest, is_whole, last_clock, line_above_zero, line_value, lines_of}
-use Rattle.serf_snap.specs.EventLines.{event_line, event_text, kept_clock_line, kept_clock_text, least_line, least_text, query_line, query_text}
-use Rattle.serf_snap.specs.KeptNotes.{SaysNoClock, compaction_bytes, kept_bytes, kept_compaction_of, kept_line_above_zero, kept_noted, lines_given, text_with}
-use Rattle.serf_snap.specs.Notes.{IsKept, IsSnapshotSound, KeepsEither, KeepsPart, Kept, Failed, SnapshotView, last_line, text_replaced, written}
+use Rattle.serf_snap.proofs.Names.{Bool, List, None, Option, Some, [], ap, append_assoc, arith, cond, false, inl, inr, max, nat_le, refl, subst, sym, true, ℕ, ◌++◌, ◌-◌, ◌<◌, ◌==◌, ◌^◌, ◌∙◌, ◌∷◌, ◌≡◌, ◌≢◌, ◌≤◌, eqb-true, leb-true, true≢false, option_map, greatest, is_whole, last_clock, line_above_zero, line_value, lines_of, event_line, event_text, kept_clock_line, kept_clock_text, least_line, least_text, query_line, query_text, SaysNoClock, compaction_bytes, kept_bytes, kept_compaction_of, kept_line_above_zero, kept_noted, lines_given, text_with, Failed, IsKept, IsSnapshotSound, KeepsEither, KeepsPart, Kept, SnapshotView, last_line, text_replaced, written, ClockKind, Event, Member, Query}
 use Rattle.serf_snap.proofs.ClockLaws.{greatest-append, has_no_newline, is_whole-above_zero, is_whole-push, last_clock-above_zero, last_clock-below, lines_of-append, lines_of-one}
 use Rattle.serf_snap.proofs.EventLineLaws.{hash_no_clock, no_newline-event, no_newline-query}
 use Rattle.serf_snap.proofs.LeastTimeLaws.{last_clock-kept_line, last_clock-kept_other, least_no_newline}

@@ -1,11 +1,5 @@
 -- The least times of a text, and the clock lines that go with kept ones.
-use Rattle.serf_snap.proofs.Names.{◌≡◌, ◌≢◌, ℕ, ◌+◌, ◌-◌, ◌/◌, ◌^◌, ◌<◌, ◌≤◌, max, not, Bool, true, false, cond, Some, List, [], ◌∷◌, ◌++◌, decimal, refl, ap, ◌∙◌, arith, and_from, and_left, and_right, cond-true, cond-false, ne_eqb, lt-ltb, all_ascii_digits, digits_decimal, digits_value-decimal, decimal_nonempty, length}
-use Rattle.std.specs.Prelude.{◌%◌}
-use Rattle.std.proofs.lemmas.Fmt.{decimal_by_steps}
-use Rattle.serf_snap.specs.declared.kind.ClockKind.{ClockKind}
-use Rattle.serf_snap.specs.declared.kind.ClockKind.TheVariants.{Member, Event, Query}
-use Rattle.serf_snap.specs.Clocks.{behind, clock_line, greatest, is_empty, is_time_text, is_whole, last_clock, line_value, lines_of, prefix_of, read_on, sealed, time_text_value}
-use Rattle.serf_snap.specs.EventLines.{above_unkept, begins_with_zero, event_line, event_text, kept_clock_line, kept_clock_text, least_in, least_line, least_of_line, least_of_lines, least_prefix, least_text, least_text_value, query_line, query_text}
+use Rattle.serf_snap.proofs.Names.{Bool, List, Some, [], ap, arith, cond, false, length, max, not, refl, true, ℕ, ◌++◌, ◌+◌, ◌-◌, ◌/◌, ◌<◌, ◌^◌, ◌∙◌, ◌∷◌, ◌≡◌, ◌≢◌, ◌≤◌, and_from, and_left, and_right, cond-false, cond-true, lt-ltb, ne_eqb, decimal_by_steps, decimal_nonempty, digits_decimal, digits_value-decimal, decimal, ◌%◌, all_ascii_digits, behind, clock_line, greatest, is_empty, is_time_text, is_whole, last_clock, line_value, lines_of, prefix_of, read_on, sealed, time_text_value, above_unkept, begins_with_zero, event_line, event_text, kept_clock_line, kept_clock_text, least_in, least_line, least_of_line, least_of_lines, least_prefix, least_text, least_text_value, query_line, query_text, ClockKind, Event, Member, Query}
 use Rattle.serf_snap.proofs.ClockLaws.{decimal_is_time, digits_end, front_lines, greatest-append, has_no_newline, lines_of-append, own, prefix_no_newline, torn_line}
 use Rattle.serf_snap.proofs.EventLineLaws.{no_newline-decimal, no_newline-event, no_newline-query}
 use Rattle.serf_snap.proofs.SayLaws.{behind-sealed, hash_behind-sealed, lines-line}

@@ -1,14 +1,5 @@
 -- When a text is worth a compaction, from a length that stays at 2^64 - 1.
-use Rattle.serf_snap.proofs.Names.{Bool, false, not, subst, refl, ◌/◌, le-leb, both_ways, ◌≡◌, ℕ, ◌+◌, ◌-◌, ◌*◌, ◌^◌, ◌<◌, ◌≤◌, ◌&&◌, min, nat_le, nat_lt, true, List, [], ◌++◌, length, length-append, option_map, Option, Some, None, IfSome, arith, ap, decimal, sym, ◌∙◌, ◌∷◌, leb-true, lt-ltb}
-use Rattle.std.specs.Prelude.{codes, suc}
-use Rattle.hex.specs.Hex.{encode_lower, lower_digits}
-use Rattle.hex.proofs.HexLemmas.{length-encode_with}
-use Rattle.serf_snap.specs.Compaction.{IsLengthOf, counted}
-use Rattle.serf_snap.specs.Clocks.{is_empty, line_above_zero}
-use Rattle.serf_snap.specs.EventLines.{event_line}
-use Rattle.serf_snap.specs.KeptNotes.{compaction_bytes, time_above_zero}
-use Rattle.serf_snap.specs.declared.kind.ClockKind.TheVariants.{Member, Event, Query}
-use Rattle.serf_snap.specs.Device.{Device, Observable, IsClean, appended, durable_of, flushed}
+use Rattle.serf_snap.proofs.Names.{Bool, IfSome, List, None, Option, Some, [], ap, arith, false, length, min, nat_le, not, refl, subst, sym, true, ℕ, ◌&&◌, ◌*◌, ◌++◌, ◌+◌, ◌-◌, ◌/◌, ◌<◌, ◌^◌, ◌∙◌, ◌∷◌, ◌≡◌, ◌≤◌, le-leb, leb-true, lt-ltb, length-append, both_ways, option_map, codes, decimal, nat_lt, suc, length-encode_with, encode_lower, lower_digits, is_empty, line_above_zero, IsLengthOf, counted, Device, IsClean, Observable, appended, durable_of, flushed, event_line, compaction_bytes, time_above_zero, Event, Member, Query}
 
 half-of : (n kept c : ℕ) → kept ≡ min n (2 ^ 64 - 1) → c ≤ 102 → nat_le c (kept / 2) ≡ nat_le (2 * c) n
 half-of n kept c is short = both_ways _ _

@@ -1,10 +1,5 @@
 -- What a note, a failure, an opening and a compaction do to what is durable.
-use Rattle.serf_snap.proofs.Names.{◌≡◌, ◌≢◌, ◌⊎◌, ℕ, ◌-◌, ◌^◌, ◌<◌, ◌≤◌, max, true, false, cond, nat_le, List, ◌++◌, take, Option, Some, None, inl, inr, refl, sym, ap, subst, ◌∙◌, arith, option_map, cases_Bool, true≢false, leb-false}
-use Rattle.serf_snap.specs.declared.kind.ClockKind.{ClockKind}
-use Rattle.serf_snap.specs.declared.kind.ClockKind.TheVariants.{Member, Event, Query}
-use Rattle.serf_snap.specs.Clocks.{last_clock, sealed, is_whole, clock_line}
-use Rattle.serf_snap.specs.Device.{Device, Observable, FailurePlan}
-use Rattle.serf_snap.specs.Notes.{SnapshotView, Kept, Failed, noted, written, last_line, KeepsPart, KeepsEither, opened, compacted, compaction_of, IsKept, IsSnapshotSound, with_sink}
+use Rattle.serf_snap.proofs.Names.{List, None, Option, Some, ap, arith, cond, false, inl, inr, max, nat_le, refl, subst, sym, take, true, ℕ, ◌++◌, ◌-◌, ◌<◌, ◌^◌, ◌∙◌, ◌≡◌, ◌≢◌, ◌≤◌, ◌⊎◌, cases_Bool, leb-false, true≢false, option_map, clock_line, is_whole, last_clock, sealed, Device, FailurePlan, Observable, Failed, IsKept, IsSnapshotSound, KeepsEither, KeepsPart, Kept, SnapshotView, compacted, compaction_of, last_line, noted, opened, with_sink, written, ClockKind, Event, Member, Query}
 use Rattle.serf_snap.proofs.ClockLaws.{last_clock_grows, last_clock-line, last_clock-other_line, is_whole-line, is_whole-sealed, last_clock-sealed, last_clock-below, last_clock-compacted, is_whole-compacted}
 
 pub some-same : {X : Type 0} (x y : X) → Some x ≡ Some y → x ≡ y

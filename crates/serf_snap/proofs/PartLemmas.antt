@@ -1,11 +1,5 @@
 -- Texts cut at a byte.
-use Rattle.serf_snap.proofs.Names.{◌≡◌, ◌==◌, ◌+◌, ◌-◌, ◌≤◌, ◌<◌, ℕ, Bool, List, ◌∷◌, [], length, take, drop, Some, None, false, true, cond, refl, sym, ap, ◌∙◌, arith, common_steps}
-use Rattle.std.specs.List.{All, onto_first, position, position_or_len, slice_split}
-use Rattle.std.proofs.lemmas.List.Quantifiers.{position-Some}
-use Rattle.std.proofs.lemmas.List.Splits.{slice_split_first, slice_split_none}
-use Rattle.std.proofs.lemmas.List.Sums.{position_or_len_is}
-use Rattle.serf_snap.specs.Clocks.{lines_of, onto_line}
-use Rattle.serf_snap.specs.EventLines.{event_from_parts, query_from_parts}
+use Rattle.serf_snap.proofs.Names.{Bool, List, None, Some, [], ap, arith, cond, drop, false, length, refl, sym, take, true, ℕ, ◌+◌, ◌-◌, ◌<◌, ◌==◌, ◌∙◌, ◌∷◌, ◌≡◌, ◌≤◌, common_steps, position-Some, slice_split_first, slice_split_none, position_or_len_is, All, onto_first, position, position_or_len, slice_split, lines_of, onto_line, event_from_parts, query_from_parts}
 
 pub cut_some : (s : ℕ) (xs : List ℕ) (k : ℕ) → position (λ b. b == s) xs ≡ Some k
     → slice_split (λ b. b == s) xs ≡ take k xs ∷ slice_split (λ b. b == s) (take (length xs - (k + 1)) (drop (k + 1) xs))

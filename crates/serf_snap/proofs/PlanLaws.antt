@@ -1,9 +1,5 @@
 -- Where a sink has a plan, there is one thing that it may do.
-use Rattle.serf_snap.proofs.Names.{◌≡◌, ◌==◌, ℕ, Bool, true, false, cond, nat_le, List, Option, Some, None, IfSome, IsSome, inl, inr, refl, sym, ap, subst, arith, option_map, cases_Bool, true≢false, common_steps}
-use Rattle.serf_snap.specs.declared.kind.ClockKind.{ClockKind}
-use Rattle.serf_snap.specs.Clocks.{is_whole, sealed}
-use Rattle.serf_snap.specs.Device.{Device, Observable, FailurePlan, replace_decremented}
-use Rattle.serf_snap.specs.Notes.{SnapshotView, Writing, Kept, Failed, noted, written, last_line, KeepsPart, KeepsEither, MayWrite, MayReplace, opened, compacted, compaction_of, IsObservable, note_fails, note_decremented, will_write, will_replace, durable_left_by, with_sink}
+use Rattle.serf_snap.proofs.Names.{Bool, IfSome, IsSome, List, None, Option, Some, ap, arith, cond, false, inl, inr, nat_le, refl, subst, sym, true, ℕ, ◌==◌, ◌≡◌, cases_Bool, true≢false, common_steps, option_map, is_whole, sealed, Device, FailurePlan, Observable, replace_decremented, Failed, IsObservable, KeepsEither, KeepsPart, Kept, MayReplace, MayWrite, SnapshotView, Writing, compacted, compaction_of, durable_left_by, last_line, note_decremented, note_fails, noted, opened, will_replace, will_write, with_sink, written, ClockKind}
 
 pub will_write-only : (s : SnapshotView) (line : List ℕ) (w : Writing) → IsSome s.plan → MayWrite s line w → w ≡ will_write s
 will_write-only s line Kept some may = by s.plan refl

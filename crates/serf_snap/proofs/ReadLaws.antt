@@ -1,19 +1,5 @@
 -- What is read of a text can be written again.
-use Rattle.serf_snap.proofs.Names.{◌≡◌, ℕ, ◌+◌, ◌-◌, ◌^◌, ◌<◌, ◌≤◌, ◌==◌, ◌&&◌, not, min, nat_lt, Bool, true, false, cond, IfSome, Option, Some, None, List, [], ◌∷◌, refl, arith, and_parts, ltb-true, all_ascii_digits}
-use Rattle.std.proofs.lemmas.Bool.{eqb-false}
-use Rattle.std.specs.Prelude.{Result, Ok, Err, codes}
-use Rattle.std.specs.List.{All, slice_split}
-use Rattle.std.specs.Result.{result_ok}
-use Rattle.std.proofs.lemmas.List.Elements.{All-append, All-cons, All-nil}
-use Rattle.hex.specs.declared.error.FromHexError.{FromHexError}
-use Rattle.hex.specs.Hex.{IsBytes, decode_of}
-use Rattle.hex.proofs.HexLemmas.{decode_of-ok}
-use Rattle.serf_snap.specs.declared.kept.KeptQuery.{KeptQuery}
-use Rattle.serf_snap.specs.declared.kept.Wanted.{Wanted}
-use Rattle.serf_snap.specs.declared.kind.ClockKind.{ClockKind}
-use Rattle.serf_snap.specs.Clocks.{behind, is_empty, is_time_text, lines_of, prefix_of, read_on, time_text_value}
-use Rattle.serf_snap.specs.EventLines.{above_unkept, begins_with_zero, bytes_of_hex, event_behind, event_from, event_from_parts, event_of_line, events_in, id_of, if_wanted, is_event_wanted, is_query_wanted, least_in, least_of_lines, least_prefix, least_text_value, queries_in, query_behind, query_from, query_from_parts, query_of_line, said_by_lines}
-use Rattle.serf_snap.specs.TimedEvent.{TimedEvent}
+use Rattle.serf_snap.proofs.Names.{Bool, IfSome, List, None, Option, Some, [], arith, cond, false, min, not, refl, true, ℕ, ◌&&◌, ◌+◌, ◌-◌, ◌<◌, ◌==◌, ◌^◌, ◌∷◌, ◌≡◌, ◌≤◌, and_parts, eqb-false, ltb-true, All-append, All-cons, All-nil, All, slice_split, Err, Ok, Result, codes, nat_lt, result_ok, all_ascii_digits, decode_of-ok, IsBytes, decode_of, FromHexError, behind, is_empty, is_time_text, lines_of, prefix_of, read_on, time_text_value, above_unkept, begins_with_zero, bytes_of_hex, event_behind, event_from, event_from_parts, event_of_line, events_in, id_of, if_wanted, is_event_wanted, is_query_wanted, least_in, least_of_lines, least_prefix, least_text_value, queries_in, query_behind, query_from, query_from_parts, query_of_line, said_by_lines, TimedEvent, KeptQuery, Wanted, ClockKind}
 use Rattle.serf_snap.proofs.ClockLaws.{value-below}
 
 -- ---- what a line says

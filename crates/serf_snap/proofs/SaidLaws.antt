@@ -1,15 +1,5 @@
 -- Which events a text says, and which queries: those of its parts, one after the other, and of its lines only those of their kind.
-use Rattle.serf_snap.proofs.Names.{◌≡◌, ℕ, ◌-◌, ◌^◌, ◌<◌, ◌==◌, Bool, true, false, cond, Option, Some, None, List, [], ◌∷◌, ◌++◌, decimal, refl, ap, ◌∙◌}
-use Rattle.std.proofs.lemmas.List.Concat.{flat_map-append}
-use Rattle.hex.specs.Hex.{IsBytes}
-use Rattle.serf_snap.specs.declared.kept.Wanted.{Wanted}
-use Rattle.serf_snap.specs.declared.kind.ClockKind.{ClockKind}
-use Rattle.serf_snap.specs.declared.kind.ClockKind.TheVariants.{Member, Event, Query}
-use Rattle.serf_snap.specs.Clocks.{clock_line, compacted_text, is_whole, line_above_zero, lines_of, prefix_of}
-use Rattle.serf_snap.specs.EventLines.{event_line, event_of_line, event_text, events_in, if_event_wanted, if_query_wanted, if_wanted, is_event_wanted, is_query_wanted, kept_clock_line, kept_clock_text, kept_query, least_line, least_text, queries_in, query_line, query_of_line, query_text, said_by_lines}
-use Rattle.serf_snap.specs.KeptNotes.{kept_compaction_of, kept_line_above_zero}
-use Rattle.serf_snap.specs.Notes.{SnapshotView}
-use Rattle.serf_snap.specs.TimedEvent.{timed_event}
+use Rattle.serf_snap.proofs.Names.{Bool, List, None, Option, Some, [], ap, cond, false, refl, true, ℕ, ◌++◌, ◌-◌, ◌<◌, ◌==◌, ◌^◌, ◌∙◌, ◌∷◌, ◌≡◌, flat_map-append, decimal, IsBytes, clock_line, compacted_text, is_whole, line_above_zero, lines_of, prefix_of, event_line, event_of_line, event_text, events_in, if_event_wanted, if_query_wanted, if_wanted, is_event_wanted, is_query_wanted, kept_clock_line, kept_clock_text, kept_query, least_line, least_text, queries_in, query_line, query_of_line, query_text, said_by_lines, kept_compaction_of, kept_line_above_zero, SnapshotView, timed_event, Wanted, ClockKind, Event, Member, Query}
 use Rattle.serf_snap.proofs.ClockLaws.{has_no_newline, is_whole-above_zero, lines_of-append, prefix_no_newline}
 use Rattle.serf_snap.proofs.EventLineLaws.{events-line, no_newline-decimal, no_newline-event, no_newline-query, queries-line}
 use Rattle.serf_snap.proofs.KeptNoteLaws.{is_whole-kept_above}

@@ -1,9 +1,6 @@
 -- What one more line adds to what the lines of a text say, and what a seal makes of a torn one.
-use Rattle.serf_snap.proofs.Names.{◌≡◌, ℕ, ◌+◌, ◌<◌, ◌≤◌, ◌==◌, ◌&&◌, not, eqb, Bool, true, false, cond, Option, Some, None, List, [], ◌∷◌, ◌++◌, length, take, refl, sym, ap, ◌∙◌, arith, append_assoc, and_parts, and_from, cond-false, not-true, length-append, common_steps}
-use Rattle.std.specs.Prelude.{suc, zero}
-use Rattle.std.specs.List.{flat_map}
-use Rattle.std.proofs.lemmas.List.Concat.{flat_map-append}
-use Rattle.serf_snap.specs.Clocks.{behind, is_whole, lines_of, onto_line, sealed}
+use Rattle.serf_snap.proofs.Names.{Bool, List, None, Option, Some, [], ap, append_assoc, arith, cond, eqb, false, length, not, refl, sym, take, true, ℕ, ◌&&◌, ◌++◌, ◌+◌, ◌<◌, ◌==◌, ◌∙◌, ◌∷◌, ◌≡◌, ◌≤◌, and_from, and_parts, cond-false, not-true, common_steps, length-append, flat_map-append, flat_map, suc, behind, is_whole, lines_of, onto_line, sealed}
+use Rattle.std.specs.Prelude.{zero}
 use Rattle.serf_snap.proofs.ClockLaws.{front_lines, has_no_newline, is_whole-push, lines_of-append, lines_of-one, torn_line}
 
 pub append_nil : {A : Type 0} (xs : List A) → xs ++ [] ≡ xs

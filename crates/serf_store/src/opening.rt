@@ -56,6 +56,7 @@ fn path_fault(fault: io::Error) -> StoreFault
 }
 
 /// Opens or makes the file at `path`, and locks it. Where it was replaced before it was locked, the opening begins anew.
+/// `InUse` where that happened [`TRIES`] times, or where another opening has the lock.
 pub fn open_locked<R: Files>(files: &R, path: &str) -> Result<R::File, StoreFault>
 where
     R::File: LockFile,

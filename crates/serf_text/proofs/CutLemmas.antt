@@ -1,10 +1,5 @@
 -- A text cut at the first place that passes a test.
-use Rattle.std.proofs.Common.{sym, ap, None, Option, cond, nat_lt, ◌∙◌}
-use Rattle.std.proofs.lemmas.Bool.{cond-false, cond-true, false_from_ne_true, le-ltb, lt-ltb}
-use Rattle.std.proofs.lemmas.List.Elements.{All-from_get_or}
-use Rattle.std.specs.Prelude.{IfNone}
-use Rattle.memchr.specs.Find.{IsFirstByte, is_byte}
-use Rattle.serf_text.proofs.Names.{◌≡◌, ◌==◌, ◌+◌, ◌-◌, ◌≤◌, ◌<◌, ℕ, List, ◌∷◌, [], length, take, drop, Some, false, arith, position, common_steps, All, slice_split, position_or_len, position-Some, position_or_len_is, slice_split_first, slice_split_none}
+use Rattle.serf_text.proofs.Names.{List, None, Option, Some, [], ap, arith, cond, drop, false, length, nat_lt, sym, take, ℕ, ◌+◌, ◌-◌, ◌<◌, ◌==◌, ◌∙◌, ◌∷◌, ◌≡◌, ◌≤◌, cond-false, cond-true, false_from_ne_true, le-ltb, lt-ltb, common_steps, All-from_get_or, position-Some, slice_split_first, slice_split_none, position_or_len_is, All, position_or_len, slice_split, IfNone, position, IsFirstByte, is_byte}
 
 pub cut_some : (s : ℕ) (xs : List ℕ) (k : ℕ) → position (λ b. b == s) xs ≡ Some k
     → slice_split (λ b. b == s) xs ≡ take k xs ∷ slice_split (λ b. b == s) (take (length xs - (k + 1)) (drop (k + 1) xs))

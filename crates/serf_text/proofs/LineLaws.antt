@@ -1,8 +1,5 @@
 -- Lines that are cut, and answered, one after another.
-use Rattle.std.proofs.Common.{◌≡◌, ℕ, ◌+◌, ◌==◌, ◌++◌, ◌∙◌, List, [], ◌∷◌, Bool, true, false, cond, refl, sym, ap, append_assoc, append-nil, length, length-append, min, arith}
-use Rattle.std.specs.Prelude.{Result, Ok, Err}
-use Rattle.std.specs.List.{slice_split, onto_first}
-use Rattle.serf_text.specs.Lines.{joined, lines_of, number_behind, text_behind}
+use Rattle.serf_text.proofs.Names.{Bool, List, [], ap, append-nil, append_assoc, arith, cond, false, length, length-append, min, refl, sym, true, ℕ, ◌++◌, ◌+◌, ◌==◌, ◌∙◌, ◌∷◌, ◌≡◌, onto_first, slice_split, Err, Ok, Result, joined, lines_of, number_behind, text_behind}
 
 -- ---- texts
 

@@ -1,21 +1,37 @@
--- What the proofs of this crate use of other crates.
-pub use Rattle.std.proofs.Common.{Bool, List, None, Option, Some, [], ap, arith, cond, drop, false}
-pub use Rattle.std.proofs.Common.{get_or, length, map, refl, rules, sym, take, true, vec_len, ℕ, ◌&&◌, ◌*◌}
+-- The names of std, of the crates below and of the definitions that the proofs of this crate cite.
+pub use Rattle.std.proofs.Common.{Bool, List, None, Option, Some, [], ap, append-nil, append_assoc, arith, cond, drop, false, get_or, inl, inr}
+pub use Rattle.std.proofs.Common.{length, length-append, map, min, nat_lt, refl, rules, subst, suc, sym, take, true, vec_len, zero, ℕ, ◌&&◌, ◌*◌}
 pub use Rattle.std.proofs.Common.{◌++◌, ◌+◌, ◌-◌, ◌<◌, ◌==◌, ◌∙◌, ◌∷◌, ◌≡◌, ◌≤◌}
-pub use Rattle.std.proofs.KnownBytes.{Appends-trans, Consumes-trans}
+pub use Rattle.std.proofs.KnownBytes.{Appends-trans, Consumes-kept, Consumes-trans}
 pub use Rattle.std.proofs.Math.Seq.{take-add}
+pub use Rattle.std.proofs.lemmas.Bool.{cond-false, cond-true, false_from_ne_true, le-ltb, lt-ltb}
 pub use Rattle.std.proofs.lemmas.Grind.{common_steps}
 pub use Rattle.std.proofs.lemmas.Int.Digits.{digits_value_more}
 pub use Rattle.std.proofs.lemmas.List.{take-append-drop, take-append-le}
+pub use Rattle.std.proofs.lemmas.List.Elements.{All-from_get_or}
 pub use Rattle.std.proofs.lemmas.List.Folds.{list_all_at, list_all_more}
 pub use Rattle.std.proofs.lemmas.List.Quantifiers.{position-Some}
 pub use Rattle.std.proofs.lemmas.List.Splits.{slice_split_first, slice_split_none}
 pub use Rattle.std.proofs.lemmas.List.Sums.{position_or_len_is}
+pub use Rattle.std.proofs.lemmas.Result.{IfErr-weaker, on_ok_weaker}
 pub use Rattle.std.specs.Char.{digit_value, is_ascii_digit}
 pub use Rattle.std.specs.Io.KnownBytes.{Appends, Consumes}
-pub use Rattle.std.specs.List.{All, flat_map, list_all, position_or_len, slice_split}
-pub use Rattle.std.specs.Prelude.{position}
+pub use Rattle.std.specs.List.{All, flat_map, list_all, onto_first, position_or_len, slice_split}
+pub use Rattle.std.specs.Prelude.{Err, IfErr, IfNone, Ok, OnErr, OnOk, Result, position}
 pub use Rattle.std.specs.Str.Parse.{digits_value, digits_value_after}
+pub use Rattle.memchr.specs.Find.{IsFirstByte, is_byte}
 pub use Rattle.serf_wire.specs.Lists.{events_left, slot_of_view, slots_left, status_left, texts_left}
 pub use Rattle.serf_wire.specs.Message.{message_of}
 pub use Rattle.serf_wire.specs.Slots.{SlotContent, empty, held}
+pub use Rattle.serf_text.specs.Io.{AppendsFront}
+pub use Rattle.serf_text.specs.Lines.{joined, lines_of, number_behind, text_behind}
+pub use Rattle.serf_text.specs.MessageText.{event_line, slots_lines, status_line}
+unfoldable pub use Rattle.serf_text.specs.MessageText.{slot_lines}
+pub use Rattle.serf_text.specs.Streams.{HasRead, IsDone, IsHoldFault, IsLeft, IsLineFault, IsStopped, Reached, StopsAt, TellsAll, WaitsFor}
+pub use Rattle.serf_text.specs.Streams.{answers_fault, answers_told}
+pub use Rattle.serf_text.specs.TextParts.{hex_line}
+unfoldable pub use Rattle.serf_text.specs.TextParts.{with_number}
+pub use Rattle.serf_text.specs.Words.{number_of, words_of}
+pub use Rattle.serf_text.specs.declared.input.TheConstants.{MAX_SCHEDULE_BYTES}
+pub use Rattle.serf_text.specs.declared.stream_fault.StreamFault.{StreamFault}
+pub use Rattle.serf_text.specs.declared.stream_fault.StreamFault.TheVariants.{BadLine, LineTooLong, OutOfMemory, ReadFault, WriteFault}

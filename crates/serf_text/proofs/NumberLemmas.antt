@@ -1,7 +1,6 @@
 -- The number that digits write.
-use Rattle.serf_text.proofs.Names.{◌≡◌, ◌+◌, ◌*◌, ◌-◌, ◌≤◌, ◌<◌, ℕ, List, [], ◌∷◌, ◌++◌, length, take, drop, None, Some, Bool, true, false, ap, refl, arith, get_or, Option, cond, ◌&&◌, is_ascii_digit, digit_value, list_all, digits_value, digits_value_after, digits_value_more, take-append-drop, list_all_at, common_steps}
+use Rattle.serf_text.proofs.Names.{Bool, List, None, Option, Some, [], ap, arith, cond, drop, false, get_or, length, refl, take, true, ℕ, ◌&&◌, ◌*◌, ◌++◌, ◌+◌, ◌-◌, ◌<◌, ◌∷◌, ◌≡◌, ◌≤◌, common_steps, digits_value_more, take-append-drop, list_all_at, digit_value, is_ascii_digit, list_all, digits_value, digits_value_after, number_of}
 use Rattle.std.specs.Prelude.{nat_lt}
-use Rattle.serf_text.specs.Words.{number_of}
 
 value_grows : (n : ℕ) (cs : List ℕ) → n ≤ digits_value_after 10 n cs
 value_grows n [] = omega arith

@@ -1,7 +1,5 @@
 -- A slot's lines.
-use Rattle.serf_text.proofs.Names.{ℕ, ◌<◌, length, arith, SlotContent, empty, held}
-use Rattle.serf_text.specs.TextParts.{with_number}
-use Rattle.serf_text.specs.MessageText.{slot_lines}
+use Rattle.serf_text.proofs.Names.{arith, length, ℕ, ◌<◌, SlotContent, empty, held, slot_lines, with_number}
 
 -- they have a byte at least
 pub some_lines : (n : ℕ) (slot : SlotContent) → 0 < length (slot_lines n slot)

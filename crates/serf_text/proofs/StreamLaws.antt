@@ -1,14 +1,6 @@
 -- What was written, after a write.
-use Rattle.std.proofs.Common.{◌≡◌, inl, inr, zero, suc, ℕ, ◌+◌, ◌++◌, ◌∙◌, List, [], ◌∷◌, refl, sym, ap, subst, append-nil, length, take, arith}
-use Rattle.std.specs.Prelude.{Option, Result, Ok, Err, OnOk, OnErr, IfErr}
-use Rattle.std.specs.Io.KnownBytes.{Appends}
-use Rattle.std.proofs.KnownBytes.{Appends-trans}
-use Rattle.std.proofs.lemmas.Grind.{common_steps}
-use Rattle.serf_text.specs.Io.{AppendsFront}
-use Rattle.serf_text.specs.declared.stream_fault.StreamFault.{StreamFault}
-use Rattle.serf_text.specs.declared.stream_fault.StreamFault.TheVariants.{ReadFault, BadLine, LineTooLong, OutOfMemory, WriteFault}
-use Rattle.serf_text.specs.Lines.{lines_of}
-use Rattle.serf_text.specs.Streams.{HasRead, IsDone, IsHoldFault, IsLeft, IsLineFault, IsStopped, Reached, StopsAt, TellsAll, WaitsFor, answers_fault, answers_told}
+use Rattle.serf_text.proofs.Names.{List, [], ap, append-nil, arith, inl, inr, length, refl, subst, suc, sym, take, zero, ℕ, ◌++◌, ◌+◌, ◌∙◌, ◌∷◌, ◌≡◌, Appends-trans, common_steps, Appends, Err, IfErr, Ok, OnErr, OnOk, Result, AppendsFront, lines_of, HasRead, IsDone, IsHoldFault, IsLeft, IsLineFault, IsStopped, Reached, StopsAt, TellsAll, WaitsFor, answers_fault, answers_told, StreamFault, BadLine, LineTooLong, OutOfMemory, ReadFault, WriteFault}
+use Rattle.std.specs.Prelude.{Option}
 
 -- the answers that waited were written
 pub reached-written : {J : Type 0} (told : J → List (List ℕ) → List ℕ → Type 0) (job : J) (number : ℕ) (waiting after : List ℕ) (lines : List (List ℕ)) (first now new : Option (List ℕ))

@@ -1,4 +1,4 @@
-//! What is wrong with a line of a schedule.
+//! Causes: what is wrong with a line of a schedule, and how it prints.
 
 ghost use Rattle.std.specs.Prelude.{Some};
 ghost use Rattle.serf_text.specs.CauseText.{cause_text};
@@ -6,10 +6,10 @@ ghost use Rattle.serf_text.specs.CauseText.{cause_text};
 use std::alloc::AllocError;
 use std::fmt;
 
-/// What is wrong with a line, looked at in this order. It prints as its name, `BadWord` with the place of the word.
+/// What is wrong with a line, looked at in this order. It prints as its name, `BadWord` with the word's place.
 #[derive(Clone, Copy, Debug, PartialEq, Eq)]
 pub enum Cause {
-    /// The first word is no command.
+    /// The line's first word is no command.
     UnknownWord,
     /// An agent line that comes after an action line.
     LateAgent,
@@ -41,9 +41,9 @@ impl fmt::Display for Cause {
 /// Why a line is not read.
 #[derive(Clone, Copy, Debug, PartialEq, Eq)]
 pub enum LineFault {
-    /// It is not sound, for this cause.
+    /// The line is not sound, for this cause.
     Bad(Cause),
-    /// There was no memory for what it says.
+    /// There was no memory for what the line says.
     OutOfMemory,
 }
 

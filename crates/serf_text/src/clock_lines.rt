@@ -1,4 +1,4 @@
-//! The text of a snapshot's clocks.
+//! The text of a snapshot's clocks: a line for each kind of clock.
 ghost use Rattle.std.specs.Prelude.{◌≡◌, ◌++◌, OnOk, IfOk};
 ghost use Rattle.serf_text.specs.ClocksText.{clock_entries, clock_entry, clock_word};
 
@@ -6,7 +6,7 @@ use crate::put::put_number_line;
 use serf_snap::{ClockKind, read_clocks};
 use std::alloc::{AllocError, Global};
 
-/// The word for a kind of clock.
+/// The word that begins the line of a clock of the kind `kind`.
 fn word(kind: ClockKind) -> &'static [u8]
     ensures { result.now ≡ clock_word kind }
 {
@@ -17,7 +17,7 @@ fn word(kind: ClockKind) -> &'static [u8]
     }
 }
 
-/// Appends a clock's line.
+/// Appends the line of the clock of the kind `kind`, which stands at `time`.
 #[tactic(auto, unfolding(crate::specs::ClocksText::clock_entry))]
 fn put_clock(out: &mut Vec<u8>, kind: ClockKind, time: u64) -> Result<(), AllocError>
     ensures { OnOk result (out.new.items ≡ out.old.items ++ clock_entry kind time) }
@@ -25,8 +25,8 @@ fn put_clock(out: &mut Vec<u8>, kind: ClockKind, time: u64) -> Result<(), AllocE
     put_number_line(out, word(kind), time)
 }
 
-/// The clocks of a snapshot's text, a line each: `clock N`, `event-clock N`, `query-clock N`, with N the greatest
-/// value of the snapshot's lines of that kind, 0 where there is none.
+/// The clocks of the snapshot `text`, a line each: `clock N`, `event-clock N`, `query-clock N`, with N the greatest
+/// value of the snapshot's lines of this kind of clock, 0 where there is none.
 ///
 /// It is an `AllocError` only where there is no memory for the lines.
 pub fn clocks_text(alloc: Global, text: &[u8]) -> Result<Vec<u8>, AllocError>

@@ -11,7 +11,7 @@ use thiserror::Error;
 pub const MAX_SCHEDULE_BYTES: usize = 16_777_216;
 
 /// How many bytes are asked of the reader at once.
-const CHUNK: usize = 65536;
+const READ_BYTES: usize = 65536;
 
 /// Why an input was not read to its end.
 #[derive(Clone, Copy, Debug, PartialEq, Eq, Error)]
@@ -26,7 +26,7 @@ pub enum InputFault {
     OutOfMemory,
 }
 
-/// All that the reader has left, where that isn't too long. A read of no bytes is the end, so each read gives a byte
+/// Reads all that `reader` has left, at most 16,777,216 bytes. A read of no bytes is the end, so each read gives a byte
 /// or is the last one.
 pub fn read_input<R: Read>(alloc: Global, reader: &mut R) -> Result<Vec<u8>, InputFault>
     ensures short { IfOk result (λ v. length v.items ≤ MAX_SCHEDULE_BYTES) }
@@ -39,9 +39,10 @@ pub fn read_input<R: Read>(alloc: Global, reader: &mut R) -> Result<Vec<u8>, Inp
         × (length bytes ≤ MAX_SCHEDULE_BYTES + 1) }
 {
     let mut input = Vec::new(alloc);
-    let mut chunk = [0u8; CHUNK];
+    let mut chunk = [0u8; READ_BYTES];
     for _turn in 0..MAX_SCHEDULE_BYTES + 1 {
-        let room = (MAX_SCHEDULE_BYTES + 1 - input.len()).min(CHUNK);
+        // (one byte more than an input may have shows that it is too long)
+        let room = (MAX_SCHEDULE_BYTES + 1 - input.len()).min(READ_BYTES);
         match reader.read(&mut chunk[..room]) {
             Err(_) => return Err(InputFault::ReadFault),
             Ok(0) => return Ok(input),
@@ -55,5 +56,6 @@ pub fn read_input<R: Read>(alloc: Global, reader: &mut R) -> Result<Vec<u8>, Inp
             return Err(InputFault::ReadTooLong);
         }
     }
+    // (each turn reads a byte or returns, so a turn before has found the input too long)
     unreachable!()
 }

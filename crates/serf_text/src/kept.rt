@@ -1,4 +1,5 @@
-//! What is kept of a stream between two reads, and a line that is over.
+//! What is kept of a stream between two reads, and how a line that is over (its newline was read) is answered. In
+//! clauses `lines` are the lines that were done, and `first` and `now` what the writer had at first and has now.
 
 ghost use Rattle.std.specs.Prelude.{◌≡◌, ◌++◌, ◌∷◌, ◌≤◌, [], List, ℕ, Option, Result, Ok, length, IfErr, OnErr, OnOk};
 ghost use Rattle.serf_text.specs.Lines.{number_behind};
@@ -14,17 +15,17 @@ pub const MAX_LINE_BYTES: usize = 16_777_216;
 /// What is kept of a stream between two reads.
 #[derive(Drop)]
 pub(crate) struct Kept {
-    /// The beginning of a line that is not over.
+    /// The bytes of the last line that were read, whose newline was not read yet.
     pub(crate) held: Vec<u8>,
-    /// That line's number, counted from 1; it stops at 2^64 - 1.
+    /// The number of the line in `held`, counted from 1; it stops at 2^64 - 1.
     pub(crate) number: u64,
-    /// The answers that are not written yet.
+    /// The answers to earlier lines that are not written yet.
     pub(crate) waiting: Vec<u8>,
-    /// Room for the answer to one line.
+    /// Room for the answer to one line, used again for each line.
     pub(crate) text: Vec<u8>,
 }
 
-/// Puts the answer to a line after those that wait.
+/// Has `job` answer `line`, and appends the answer to `waiting`; `text` is room for it. A fault leaves `waiting` as is.
 fn read_one<J: LineTeller>(
     alloc: Global,
     job: &mut J,
@@ -49,7 +50,8 @@ fn read_one<J: LineTeller>(
     }
 }
 
-/// Answers a line that is over, and counts it.
+/// Has `job` answer `line`, number `number` of the stream, appends the answer to `waiting`, and counts `number` up. A
+/// fault leaves `waiting` unchanged; `text` is room for the answer.
 fn answer_line<J: LineTeller>(
     alloc: Global,
     job: &mut J,
@@ -83,7 +85,7 @@ fn answer_line<J: LineTeller>(
     }
 }
 
-/// Puts a piece after the beginning of the line that is not over.
+/// Appends `piece` to `held`, the beginning of line number `number`; `LineTooLong` where that is too long for a line.
 pub(crate) fn hold<F>(number: u64, held: &mut Vec<u8>, piece: &[u8]) -> Result<(), StreamFault<F>>
     ensures done { OnOk result (held.new.items ≡ held.old.items ++ piece.now) }
     ensures stopped { (lines : List (List ℕ))
@@ -100,7 +102,7 @@ pub(crate) fn hold<F>(number: u64, held: &mut Vec<u8>, piece: &[u8]) -> Result<(
 }
 
 impl Kept {
-    /// Nothing was read. Takes no memory.
+    /// What is kept before anything is read: line 1 begins. Takes no memory.
     pub(crate) fn new(alloc: Global) -> Kept
         ensures held { result.held.items ≡ [] }
         ensures waiting { result.waiting.items ≡ [] }
@@ -115,7 +117,7 @@ impl Kept {
     }
 }
 
-/// Answers the line that ends with this piece.
+/// Answers the line that `kept` holds the beginning of and `piece` ends; the answer waits in `kept`.
 pub(crate) fn end_line<J: LineTeller>(
     alloc: Global,
     job: &mut J,

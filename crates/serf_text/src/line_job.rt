@@ -1,11 +1,13 @@
-//! What is done with the lines of a stream.
+//! Jobs, which take the lines of a stream one by one: each line has just one answer ([`LineJob`]), or some text is told
+//! of it ([`LineTeller`]).
 
 use crate::stream_fault::StreamLineFault;
 use std::alloc::Global;
 
 /// Answers lines, one after another.
 ///
-/// `answer` says what a line is answered after other lines, and `follows` that a job has done just these lines.
+/// In contracts `answer lines line` is the answer to `line` after `lines`, and `follows job lines` says that `job` has
+/// answered just `lines`.
 pub trait LineJob {
     ghost use Rattle.std.specs.Prelude.{◌≡◌, ◌++◌, ◌∷◌, [], List, ℕ, Result, Ok, Err, OnOk, IfErr};
     ghost use Rattle.serf_text.specs.Lines.{IsSaid};
@@ -17,8 +19,8 @@ pub trait LineJob {
 
     ghost answer: { List (List ℕ) → List ℕ → Result (List ℕ) Self.Fault };
 
-    /// Answers a line: its answer is put in `text`, which is empty before. What stands there after a fault is not said,
-    /// and the job is not used again then.
+    /// Answers `line`, the next one: the answer is put in `text`, which is empty before. After a fault `text` may have
+    /// any bytes, and the job is not used again.
     fn read_line(
         &mut self,
         alloc: Global,
@@ -32,11 +34,11 @@ pub trait LineJob {
             → IfErr result (IsSaid (answer lines line.now)) };
 }
 
-/// Does lines, one after another, and tells of them.
+/// Does lines, one after another, and tells a text of each.
 ///
-/// `told` says that a job has done just these lines, and told this text of them; and `refuses` that a line after others
-/// is not sound, by this fault. Unlike the answers of a [`LineJob`], what is told need not be the only text that may be
-/// told of these lines. A `LineJob` tells its answers.
+/// In contracts `told job lines text` says that `job` has done just `lines` and told `text` of them, and `refuses lines
+/// line fault` that `line` after `lines` is not sound, by `fault`. Unlike a [`LineJob`], whose answers are given by the
+/// lines, it may choose among several texts.
 pub trait LineTeller {
     ghost use Rattle.std.specs.Prelude.{◌≡◌, ◌++◌, ◌∷◌, [], List, ℕ, OnOk, IfErr};
     ghost use Rattle.serf_text.specs.Streams.{IsRefused};
@@ -48,8 +50,8 @@ pub trait LineTeller {
 
     ghost refuses: { List (List ℕ) → List ℕ → Self.Fault → Type 0 };
 
-    /// Does a line: what is told of it is put in `text`, which is empty before. What stands there after a fault is not
-    /// said, and the job is not used again then.
+    /// Does `line`, the next one: what is told of it is put in `text`, which is empty before. After a fault `text` may
+    /// have any bytes, and the job is not used again.
     fn tell_line(
         &mut self,
         alloc: Global,
@@ -63,6 +65,7 @@ pub trait LineTeller {
             → IfErr result (IsRefused refuses lines line.now) };
 }
 
+/// A job that answers lines tells of each line its answer.
 impl<J: LineJob> LineTeller for J {
     ghost use Rattle.serf_text.specs.Streams.{answers_fault, answers_told};
 

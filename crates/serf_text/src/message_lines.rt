@@ -1,4 +1,5 @@
-//! The text of a packet's message.
+//! The text of a packet's message: a line for its type and for each field, by Serf's names. Each `put_..` appends lines
+//! to `out`; after an `AllocError`, which comes where there is no memory for them, `out` may have a part of them.
 ghost use Rattle.std.specs.Prelude.{◌≡◌, ◌++◌, OnOk, IfOk, Ok, Err};
 ghost use Rattle.std.specs.List.{flat_map};
 ghost use Rattle.serf_wire.specs.declared.fault.WireFault.{WireFault as Fault};
@@ -26,7 +27,7 @@ use thiserror::Error;
 /// Why a packet has no text.
 #[derive(Clone, Copy, Debug, PartialEq, Eq, Error)]
 pub enum DecodeTextFault {
-    /// It is no message, by this fault.
+    /// The packet is no message: its first fault.
     #[error("the packet is no message: {0}")]
     Refused(WireWords),
     /// There is no memory for the text.
@@ -34,7 +35,7 @@ pub enum DecodeTextFault {
     OutOfMemory,
 }
 
-/// Appends the lines of a query's time and ID.
+/// Appends the lines `LTime` and `ID`: the time and the ID of a query, or of the query that a response answers.
 #[tactic(auto, unfolding(crate::specs::MessageText::identity_lines))]
 fn put_identity(out: &mut Vec<u8>, time: u64, id: u32) -> Result<(), AllocError>
     ensures { OnOk result (out.new.items ≡ out.old.items ++ identity_lines time id) }
@@ -43,7 +44,7 @@ fn put_identity(out: &mut Vec<u8>, time: u64, id: u32) -> Result<(), AllocError>
     put_number_line(out, b"ID", u64::from(id))
 }
 
-/// Appends the lines of whom a query is from.
+/// Appends the lines `Addr`, `Port` and `SourceNode` of the query `asked`: where its answers go, and who fired it.
 #[tactic(auto, unfolding(crate::specs::MessageText::asker_lines))]
 fn put_asker(out: &mut Vec<u8>, asked: &Query) -> Result<(), AllocError>
     ensures { OnOk result (out.new.items ≡ out.old.items
@@ -54,7 +55,7 @@ fn put_asker(out: &mut Vec<u8>, asked: &Query) -> Result<(), AllocError>
     put_hex_line(out, b"SourceNode", asked.source)
 }
 
-/// Appends the line of how many nodes are to relay an answer.
+/// Appends the line `RelayFactor`: how many nodes are to relay an answer.
 #[tactic(auto, unfolding(crate::specs::MessageText::relay_line))]
 fn put_relay(out: &mut Vec<u8>, relay_factor: u8) -> Result<(), AllocError>
     ensures { OnOk result (out.new.items ≡ out.old.items ++ relay_line relay_factor) }
@@ -62,7 +63,7 @@ fn put_relay(out: &mut Vec<u8>, relay_factor: u8) -> Result<(), AllocError>
     put_number_line(out, b"RelayFactor", u64::from(relay_factor))
 }
 
-/// Appends the lines of a query's timeout and relays.
+/// Appends the lines `RelayFactor` and `Timeout` of the query `asked`.
 #[tactic(auto, unfolding(crate::specs::MessageText::limit_lines))]
 fn put_limits(out: &mut Vec<u8>, asked: &Query) -> Result<(), AllocError>
     ensures { OnOk result (out.new.items ≡ out.old.items
@@ -72,7 +73,7 @@ fn put_limits(out: &mut Vec<u8>, asked: &Query) -> Result<(), AllocError>
     put_signed_line(out, b"Timeout", asked.timeout)
 }
 
-/// Appends the lines of a query's flags, relays and timeout.
+/// Appends the lines `Flags`, `RelayFactor` and `Timeout` of the query `asked`.
 #[tactic(auto, unfolding(crate::specs::MessageText::handling_lines))]
 fn put_handling(out: &mut Vec<u8>, asked: &Query) -> Result<(), AllocError>
     ensures { OnOk result (out.new.items ≡ out.old.items
@@ -82,18 +83,18 @@ fn put_handling(out: &mut Vec<u8>, asked: &Query) -> Result<(), AllocError>
     put_limits(out, asked)
 }
 
-/// Appends the lines of an ack or a response.
+/// Appends the lines `From`, `Flags` and `Payload` of `response`, which may be an ack.
 #[tactic(auto, unfolding(crate::specs::MessageText::answer_lines))]
-fn put_answer(out: &mut Vec<u8>, answer: &QueryResponse) -> Result<(), AllocError>
+fn put_answer(out: &mut Vec<u8>, response: &QueryResponse) -> Result<(), AllocError>
     ensures { OnOk result (out.new.items ≡ out.old.items
-        ++ answer_lines answer.now.from.now answer.now.flags answer.now.payload.now) }
+        ++ answer_lines response.now.from.now response.now.flags response.now.payload.now) }
 {
-    put_hex_line(out, b"From", answer.from)?;
-    put_number_line(out, b"Flags", u64::from(answer.flags))?;
-    put_hex_line(out, b"Payload", answer.payload)
+    put_hex_line(out, b"From", response.from)?;
+    put_number_line(out, b"Flags", u64::from(response.flags))?;
+    put_hex_line(out, b"Payload", response.payload)
 }
 
-/// Appends the lines of a name and a payload.
+/// Appends the lines `Name` and `Payload`, in hex.
 #[tactic(auto, unfolding(crate::specs::MessageText::content_lines))]
 fn put_content(out: &mut Vec<u8>, name: &[u8], payload: &[u8]) -> Result<(), AllocError>
     ensures { OnOk result (out.new.items ≡ out.old.items ++ content_lines name.now payload.now) }
@@ -102,7 +103,7 @@ fn put_content(out: &mut Vec<u8>, name: &[u8], payload: &[u8]) -> Result<(), All
     put_hex_line(out, b"Payload", payload)
 }
 
-/// Appends a line of this name for each text, in hex.
+/// Appends a line for each of `texts`: the word `name`, and the text in hex.
 fn put_hex_lines(out: &mut Vec<u8>, name: &[u8], texts: Texts) -> Result<(), AllocError>
     ensures { OnOk result (out.new.items ≡ out.old.items
         ++ flat_map (hex_line name.now) (texts_left texts.entry)) }
@@ -113,7 +114,7 @@ fn put_hex_lines(out: &mut Vec<u8>, name: &[u8], texts: Texts) -> Result<(), All
     Ok(())
 }
 
-/// Appends the line of a member's status time.
+/// Appends the line `status`: a member's name in hex, and the time of its status.
 #[tactic(auto, unfolding(crate::specs::MessageText::status_line, crate::specs::TextParts::with_number))]
 fn put_status_line(out: &mut Vec<u8>, status: StatusTime) -> Result<(), AllocError>
     ensures { OnOk result (out.new.items ≡ out.old.items ++ status_line (status_of status.entry)) }
@@ -123,7 +124,7 @@ fn put_status_line(out: &mut Vec<u8>, status: StatusTime) -> Result<(), AllocErr
     out.extend_from_slice(b"\n")
 }
 
-/// Appends a line for each member's status time.
+/// Appends a line `status` for each member in `status`: its name in hex, and the time of its status.
 fn put_status_lines(out: &mut Vec<u8>, status: StatusTimes) -> Result<(), AllocError>
     ensures { OnOk result (out.new.items ≡ out.old.items
         ++ flat_map status_line (status_left status.entry)) }
@@ -134,9 +135,9 @@ fn put_status_lines(out: &mut Vec<u8>, status: StatusTimes) -> Result<(), AllocE
     Ok(())
 }
 
-/// Appends the lines of a push/pull from its first to its event clock: the member clock, the members' status times, and
-/// those that left. After an `AllocError`, which comes where there is no memory for them, `out` may have a prefix of
-/// them.
+/// Appends the lines of the push/pull `state` that come before its event clock: the member clock (`LTime`), each
+/// member's status time (`status`), and each member that left (`left`). After an `AllocError`, which comes where there
+/// is no memory for them, `out` may have a prefix of them.
 #[tactic(auto, unfolding(crate::specs::MessageText::member_lines))]
 pub fn put_members(out: &mut Vec<u8>, state: &PushPull) -> Result<(), AllocError>
     ensures { OnOk result (out.new.items ≡ out.old.items ++ member_lines state.now.member_clock
@@ -147,7 +148,7 @@ pub fn put_members(out: &mut Vec<u8>, state: &PushPull) -> Result<(), AllocError
     put_hex_lines(out, b"left", state.left)
 }
 
-/// Appends the line of an event in a slot.
+/// Appends the line `event`: the name and the payload, in hex, of an event in a slot.
 #[tactic(auto, unfolding(crate::specs::MessageText::event_line, crate::specs::TextParts::with_hex))]
 fn put_event_line(out: &mut Vec<u8>, event: EventView) -> Result<(), AllocError>
     ensures { OnOk result (out.new.items ≡ out.old.items
@@ -158,7 +159,7 @@ fn put_event_line(out: &mut Vec<u8>, event: EventView) -> Result<(), AllocError>
     out.extend_from_slice(b"\n")
 }
 
-/// Appends a line for each event in a slot.
+/// Appends a line `event` for each of `events`, which a slot has.
 fn put_event_lines(out: &mut Vec<u8>, events: EventViews) -> Result<(), AllocError>
     ensures { OnOk result (out.new.items ≡ out.old.items
         ++ flat_map event_line (events_left events.entry)) }
@@ -169,7 +170,7 @@ fn put_event_lines(out: &mut Vec<u8>, events: EventViews) -> Result<(), AllocErr
     Ok(())
 }
 
-/// Appends a slot of a push/pull: this number of it, and then `nil`, or its time and, on lines of their own, its events.
+/// Appends the lines of `slot`: its number `number` in a push/pull, and `nil`, or its time and a line for each event.
 /// After an `AllocError`, which comes where there is no memory for them, `out` may have a prefix of them.
 #[tactic(auto, unfolding(crate::specs::MessageText::slot_lines))]
 pub fn put_slot(out: &mut Vec<u8>, number: u64, slot: &SlotView) -> Result<(), AllocError>
@@ -194,12 +195,12 @@ pub fn put_slot(out: &mut Vec<u8>, number: u64, slot: &SlotView) -> Result<(), A
     }
 }
 
-/// Appends the lines of slots.
+/// Appends the lines of `slots`, which are numbered from 0.
 fn put_slots(out: &mut Vec<u8>, slots: SlotViews) -> Result<(), AllocError>
     ensures { OnOk result (out.new.items ≡ out.old.items
         ++ slots_lines 0 (slots_left slots.entry)) }
 {
-    let mut number: u64 = 0;
+    let mut number: u64 = 0; // of the slot
     for slot in slots {
         put_slot(out, number, &slot)?;
         number += 1;
@@ -207,7 +208,7 @@ fn put_slots(out: &mut Vec<u8>, slots: SlotViews) -> Result<(), AllocError>
     Ok(())
 }
 
-/// Appends the lines of an event clock and of the event buffer.
+/// Appends the line `EventLTime` of an event clock that stands at `time`, and those of the event buffer's `slots`.
 #[tactic(auto, unfolding(crate::specs::MessageText::buffer_lines))]
 fn put_buffer(out: &mut Vec<u8>, time: u64, slots: SlotViews) -> Result<(), AllocError>
     ensures { OnOk result (out.new.items ≡ out.old.items
@@ -217,7 +218,7 @@ fn put_buffer(out: &mut Vec<u8>, time: u64, slots: SlotViews) -> Result<(), Allo
     put_slots(out, slots)
 }
 
-/// Appends the line that names an answer.
+/// Appends the first line of a response or an ack: `queryResponse`.
 #[tactic(auto, unfolding(crate::specs::MessageText::response_name))]
 fn put_response_name(out: &mut Vec<u8>) -> Result<(), AllocError>
     ensures { OnOk result (out.new.items ≡ out.old.items ++ response_name) }
@@ -225,7 +226,7 @@ fn put_response_name(out: &mut Vec<u8>) -> Result<(), AllocError>
     out.extend_from_slice(b"queryResponse\n")
 }
 
-/// Appends a user event's lines.
+/// Appends all lines of the user event `event`.
 fn put_user_event(out: &mut Vec<u8>, event: &UserEvent) -> Result<(), AllocError>
     ensures { OnOk result (out.new.items ≡ out.old.items
         ++ message_text (user_event (event_said event.now))) }
@@ -236,7 +237,7 @@ fn put_user_event(out: &mut Vec<u8>, event: &UserEvent) -> Result<(), AllocError
     put_flag_line(out, b"CC", event.coalesce)
 }
 
-/// Appends the lines of a query that come before its filters.
+/// Appends the lines of the query `asked` that come before its filters.
 #[tactic(auto, unfolding(crate::specs::MessageText::query_head))]
 fn put_query_head(out: &mut Vec<u8>, asked: &Query) -> Result<(), AllocError>
     ensures { OnOk result (out.new.items ≡ out.old.items ++ query_head asked.now.time asked.now.id
@@ -247,7 +248,7 @@ fn put_query_head(out: &mut Vec<u8>, asked: &Query) -> Result<(), AllocError>
     put_asker(out, asked)
 }
 
-/// Appends a query's lines.
+/// Appends all lines of the query `asked`.
 fn put_query(out: &mut Vec<u8>, asked: &Query) -> Result<(), AllocError>
     ensures { OnOk result (out.new.items ≡ out.old.items
         ++ message_text (query (query_said asked.now))) }
@@ -258,17 +259,17 @@ fn put_query(out: &mut Vec<u8>, asked: &Query) -> Result<(), AllocError>
     put_content(out, asked.name, asked.payload)
 }
 
-/// Appends an answer's lines.
-fn put_response(out: &mut Vec<u8>, answer: &QueryResponse) -> Result<(), AllocError>
+/// Appends all lines of `response`, which may be an ack.
+fn put_response(out: &mut Vec<u8>, response: &QueryResponse) -> Result<(), AllocError>
     ensures { OnOk result (out.new.items ≡ out.old.items
-        ++ message_text (query_response (response_said answer.now))) }
+        ++ message_text (query_response (response_said response.now))) }
 {
     put_response_name(out)?;
-    put_identity(out, answer.time, answer.id)?;
-    put_answer(out, answer)
+    put_identity(out, response.time, response.id)?;
+    put_answer(out, response)
 }
 
-/// Appends the lines of a push/pull that come before its last clock.
+/// Appends the lines of the push/pull `state` that come before its query clock.
 #[tactic(auto, unfolding(crate::specs::MessageText::push_pull_head))]
 fn put_push_pull_head(out: &mut Vec<u8>, state: &PushPull) -> Result<(), AllocError>
     ensures { OnOk result (out.new.items ≡ out.old.items ++ push_pull_head state.now.member_clock
@@ -280,7 +281,7 @@ fn put_push_pull_head(out: &mut Vec<u8>, state: &PushPull) -> Result<(), AllocEr
     put_buffer(out, state.event_clock, state.slots)
 }
 
-/// Appends a push/pull's lines.
+/// Appends all lines of the push/pull `state`.
 fn put_push_pull(out: &mut Vec<u8>, state: &PushPull) -> Result<(), AllocError>
     ensures { OnOk result (out.new.items ≡ out.old.items
         ++ message_text (push_pull (push_pull_said state.now))) }
@@ -289,7 +290,7 @@ fn put_push_pull(out: &mut Vec<u8>, state: &PushPull) -> Result<(), AllocError>
     put_number_line(out, b"QueryLTime", state.query_clock)
 }
 
-/// Appends the lines of a message. After an `AllocError`, which comes where there is no memory for them, `out` may have
+/// Appends all lines of `message`. After an `AllocError`, which comes where there is no memory for them, `out` may have
 /// a prefix of them.
 pub fn put_message(out: &mut Vec<u8>, message: &Message) -> Result<(), AllocError>
     ensures { OnOk result (out.new.items ≡ out.old.items ++ message_text (message_of message.now)) }
@@ -303,7 +304,7 @@ pub fn put_message(out: &mut Vec<u8>, message: &Message) -> Result<(), AllocErro
     }
 }
 
-/// The text of a message: its lines.
+/// The text of `message`, which is all its lines.
 fn message_text_of(alloc: Global, message: &Message) -> Result<Vec<u8>, AllocError>
     ensures { IfOk result (λ text. text.items ≡ message_text (message_of message.now)) }
 {
@@ -312,7 +313,7 @@ fn message_text_of(alloc: Global, message: &Message) -> Result<Vec<u8>, AllocErr
     Ok(out)
 }
 
-/// The text of a packet's message: what Serf calls its type, and then a line for each field, by Serf's names.
+/// The text of the message in `packet`: what Serf calls its type, and then a line for each field, by Serf's names.
 ///
 /// Texts and bytes are in lower case hex, `-` for none; numbers are in decimal, a timeout with its sign. Each filter
 /// has a line of its own. The slots of a push/pull are numbered from 0, and each held slot is followed by its
@@ -330,7 +331,7 @@ pub fn decode_text(alloc: Global, packet: &[u8]) -> Result<Vec<u8>, DecodeTextFa
     // and no other is.
     ensures only_refused { (w : Words) → result ≡ Err (Refused w)
         → IsFirstFault packet.now w.fault }
-    // The same by what the packet decodes to.
+    // What holds by what the packet decodes to.
     ensures exact { IfOk result (λ text. text_or_fault (decoded packet.now) ≡ Ok text.items) }
     ensures exact_refused { (f : Fault) → decoded packet.now ≡ Err f
         → result ≡ Err (Refused (record { fault = f })) }

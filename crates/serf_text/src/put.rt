@@ -1,4 +1,4 @@
-//! Parts of printed lines, and the writing of a whole text.
+//! Parts of printed lines, appended to `out`, and the writing of a whole text.
 
 ghost use Rattle.std.specs.Prelude.{◌≡◌, ◌++◌, OnErr, OnOk, decimal};
 ghost use Rattle.std.specs.Fmt.{signed_decimal};
@@ -11,7 +11,7 @@ use std::alloc::AllocError;
 use std::io::Write;
 use thiserror::Error;
 
-/// Appends a number in decimal, or is an `AllocError` where there is no memory for it.
+/// Appends `n` in decimal, or is an `AllocError` where there is no memory for it.
 pub fn put_number(out: &mut Vec<u8>, n: u64) -> Result<(), AllocError>
     ensures { OnOk result (out.new.items ≡ out.old.items ++ decimal n) }
 {
@@ -27,8 +27,7 @@ pub fn put_signed(out: &mut Vec<u8>, n: i64) -> Result<(), AllocError>
     out.extend_from_slice(buffer.format(n).as_bytes())
 }
 
-/// Appends bytes in lower case hex, or a dash for none. An `AllocError` comes only where there is no memory for
-/// the text.
+/// Appends bytes in lower case hex, or a dash for none. An `AllocError` comes only where there is no memory for them.
 #[tactic(auto, unfolding(crate::specs::TextParts::hex_text))]
 pub fn put_hex(out: &mut Vec<u8>, bytes: &[u8]) -> Result<(), AllocError>
     ensures { OnOk result (out.new.items ≡ out.old.items ++ hex_text bytes.now) }
@@ -36,22 +35,23 @@ pub fn put_hex(out: &mut Vec<u8>, bytes: &[u8]) -> Result<(), AllocError>
     if bytes.is_empty() {
         return out.extend_from_slice(b"-");
     }
-    let from = out.len();
+    let from = out.len(); // where the hex begins
     out.resize(from.saturating_add(bytes.len().saturating_mul(2)), 0)?;
     match hex::encode_to_slice(bytes, &mut out[from..]) {
         Ok(()) => Ok(()),
+        // (the room behind `from` has two bytes for each of `bytes`, as the hex needs)
         Err(_) => unreachable!(),
     }
 }
 
-/// `1` for true and `0` for false. Takes no memory.
+/// The text of `flag`: `1` for true and `0` for false. Takes no memory.
 pub fn flag(flag: bool) -> &'static [u8]
     ensures { result.now ≡ flag_text flag }
 {
     if flag { b"1" } else { b"0" }
 }
 
-/// Appends a text, a space and a number in decimal. After an `AllocError`, which comes where there is no memory for
+/// Appends `text`, a space and `n` in decimal. After an `AllocError`, which comes where there is no memory for
 /// them, `out` may have a prefix of them.
 #[tactic(auto, unfolding(crate::specs::TextParts::with_number))]
 pub fn put_with_number(out: &mut Vec<u8>, text: &[u8], n: u64) -> Result<(), AllocError>
@@ -62,7 +62,7 @@ pub fn put_with_number(out: &mut Vec<u8>, text: &[u8], n: u64) -> Result<(), All
     put_number(out, n)
 }
 
-/// Appends a text and two numbers, with a space before each.
+/// Appends a text and two numbers, `m` and then `n`, in decimal, with a space before each.
 #[tactic(auto, unfolding(crate::specs::TextParts::with_number))]
 pub(crate) fn put_with_numbers(
     out: &mut Vec<u8>,
@@ -78,7 +78,7 @@ pub(crate) fn put_with_numbers(
     put_number(out, n)
 }
 
-/// Appends a text, a space and bytes in hex. After an `AllocError`, which comes where there is no memory for them,
+/// Appends `text`, a space and `bytes` in hex. After an `AllocError`, which comes where there is no memory for them,
 /// `out` may have a prefix of them.
 #[tactic(auto, unfolding(crate::specs::TextParts::with_hex))]
 pub fn put_with_hex(out: &mut Vec<u8>, text: &[u8], bytes: &[u8]) -> Result<(), AllocError>
@@ -89,8 +89,8 @@ pub fn put_with_hex(out: &mut Vec<u8>, text: &[u8], bytes: &[u8]) -> Result<(), 
     put_hex(out, bytes)
 }
 
-/// Appends a line of a name and a number. After an `AllocError`, which comes where there is no memory for it, `out` may
-/// have a prefix of it.
+/// Appends a line: `name`, a space and `n` in decimal. After an `AllocError`, which comes where there is no memory for
+/// it, `out` may have a prefix of it.
 #[tactic(auto, unfolding(crate::specs::TextParts::number_line))]
 pub fn put_number_line(out: &mut Vec<u8>, name: &[u8], n: u64) -> Result<(), AllocError>
     ensures { OnOk result (out.new.items ≡ out.old.items ++ number_line name.now n) }
@@ -99,7 +99,7 @@ pub fn put_number_line(out: &mut Vec<u8>, name: &[u8], n: u64) -> Result<(), All
     out.extend_from_slice(b"\n")
 }
 
-/// Appends a line of a name and a signed number.
+/// Appends a line: `name`, a space and the signed number `n` in decimal.
 #[tactic(auto, unfolding(crate::specs::TextParts::signed_line))]
 pub(crate) fn put_signed_line(out: &mut Vec<u8>, name: &[u8], n: i64) -> Result<(), AllocError>
     ensures { OnOk result (out.new.items ≡ out.old.items ++ signed_line name.now n) }
@@ -110,7 +110,7 @@ pub(crate) fn put_signed_line(out: &mut Vec<u8>, name: &[u8], n: i64) -> Result<
     out.extend_from_slice(b"\n")
 }
 
-/// Appends a line of a name and bytes.
+/// Appends a line: `name`, a space and `bytes` in hex.
 #[tactic(auto, unfolding(crate::specs::TextParts::hex_line))]
 pub(crate) fn put_hex_line(out: &mut Vec<u8>, name: &[u8], bytes: &[u8]) -> Result<(), AllocError>
     ensures { OnOk result (out.new.items ≡ out.old.items ++ hex_line name.now bytes.now) }
@@ -119,7 +119,7 @@ pub(crate) fn put_hex_line(out: &mut Vec<u8>, name: &[u8], bytes: &[u8]) -> Resu
     out.extend_from_slice(b"\n")
 }
 
-/// Appends a line of a name and `1` or `0`.
+/// Appends a line: `name`, a space, and `1` where `value` is true, else `0`.
 #[tactic(auto, unfolding(crate::specs::TextParts::flag_line))]
 pub(crate) fn put_flag_line(out: &mut Vec<u8>, name: &[u8], value: bool) -> Result<(), AllocError>
     ensures { OnOk result (out.new.items ≡ out.old.items ++ flag_line name.now value) }
@@ -130,19 +130,18 @@ pub(crate) fn put_flag_line(out: &mut Vec<u8>, name: &[u8], value: bool) -> Resu
     out.extend_from_slice(b"\n")
 }
 
-/// A write failed or took no byte, or a flush failed.
+/// Why a text was not written: a write failed or took no byte, or a flush failed.
 #[derive(Clone, Copy, Debug, PartialEq, Eq, Error)]
 #[error("a write failed")]
 pub struct WriteFault;
 
-/// Writes the whole text and flushes it. Each write takes a byte or is the last one. After a `WriteFault` a prefix of
-/// the text was written. Takes no memory.
+/// Writes all of `text` to `writer`, and flushes it. After a `WriteFault` a prefix of `text` is there. Takes no memory.
 pub fn write_output<W: Write>(writer: &mut W, text: &[u8]) -> Result<(), WriteFault>
     ensures done { OnOk result (Appends (W.contents writer.old) (W.contents writer.new) text.now) }
     ensures front { OnErr result
         (AppendsFront (W.contents writer.old) (W.contents writer.new) text.now) }
 {
-    let mut at = 0;
+    let mut at = 0; // how many bytes of `text` are written
     while at < text.len() {
         match writer.write(&text[at..]) {
             Err(_) => return Err(WriteFault),

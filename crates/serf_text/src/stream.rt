@@ -1,4 +1,6 @@
-//! A whole stream of lines.
+//! A stream of lines, from a reader to a writer: each line is answered as its newline is read, and answers wait until
+//! what was read is answered, or until they are many. In clauses `before` are the bytes that were read before, `lines`
+//! the lines that were done, and `first` what the writer had at first.
 
 ghost use Rattle.std.specs.Prelude.{◌≡◌, ◌++◌, ◌∷◌, [], List, ℕ, Option, Ok, IfErr, OnErr, OnOk};
 ghost use Rattle.std.specs.Io.KnownBytes.{Appends, Consumes, IsAtEnd};
@@ -15,12 +17,12 @@ use std::alloc::Global;
 use std::io::{Read, Write};
 
 /// How many bytes are asked of the reader at once.
-const CHUNK: usize = 8192;
+const READ_BYTES: usize = 8192;
 
-/// How many bytes that wait are written at once, before the rest of what was read is answered.
-const ENOUGH: usize = 65536;
+/// From how many bytes on the answers that wait are written, before the rest of what was read is answered.
+const MANY_WAITING_BYTES: usize = 65536;
 
-/// Writes the answers that wait.
+/// Writes the answers in `waiting` to `writer`; none waits then, after a fault either.
 fn write_waiting<W: Write, F>(writer: &mut W, waiting: &mut Vec<u8>) -> Result<(), StreamFault<F>>
     ensures done { OnOk result
         (Appends (W.contents writer.old) (W.contents writer.new) waiting.old.items) }
@@ -37,7 +39,7 @@ fn write_waiting<W: Write, F>(writer: &mut W, waiting: &mut Vec<u8>) -> Result<(
     }
 }
 
-/// Answers a line that is over, and writes the answers that wait once there are many.
+/// Answers the line that `kept` holds the beginning of and `line` ends. Writes the answers that wait, if they are many.
 fn do_line<W: Write, J: LineTeller>(
     alloc: Global,
     job: &mut J,
@@ -60,13 +62,13 @@ fn do_line<W: Write, J: LineTeller>(
         Ok(()) => {}
         Err(fault) => return Err(fault),
     }
-    if kept.waiting.len() < ENOUGH {
+    if kept.waiting.len() < MANY_WAITING_BYTES {
         return Ok(());
     }
     write_waiting(writer, &mut kept.waiting)
 }
 
-/// Answers the lines that end within these bytes, and holds what is after the last of them.
+/// Answers the lines that end within `bytes`, which were read, and holds what is after the last newline in `kept`.
 fn take_bytes<W: Write, J: LineTeller>(
     alloc: Global,
     job: &mut J,
@@ -98,7 +100,7 @@ fn take_bytes<W: Write, J: LineTeller>(
     }
 }
 
-/// Takes what was read, and writes the answers.
+/// Answers the lines that end within `bytes`, which were read, and writes all answers that wait, after a fault too.
 fn step<W: Write, J: LineTeller>(
     alloc: Global,
     job: &mut J,
@@ -119,14 +121,14 @@ fn step<W: Write, J: LineTeller>(
         StopsAt J.told J.refuses fault (lines_of (before ++ bytes.now)) first
         (W.contents writer.new)) }
 {
-    let taken = take_bytes(alloc, job, kept, bytes, writer);
+    let taken = take_bytes(alloc, job, kept, bytes, writer); // its fault waits until the answers are written
     match write_waiting(writer, &mut kept.waiting) {
         Ok(()) => taken,
         Err(fault) => Err(fault),
     }
 }
 
-/// Answers the line that the end of the stream ends, and writes its answer.
+/// Answers the last line of the stream, which no newline ends, and writes all answers that wait, after a fault too.
 fn finish<W: Write, J: LineTeller>(
     alloc: Global,
     job: &mut J,
@@ -144,14 +146,14 @@ fn finish<W: Write, J: LineTeller>(
         → IfErr result (λ fault.
         StopsAt J.told J.refuses fault (lines_of before) first (W.contents writer.new)) }
 {
-    let ended = end_line(alloc, job, kept, &[]);
+    let ended = end_line(alloc, job, kept, &[]); // its fault waits until the answers are written
     match write_waiting(writer, &mut kept.waiting) {
         Ok(()) => ended,
         Err(fault) => Err(fault),
     }
 }
 
-/// Does the lines of a reader, one after another, until its end, and writes what is told of them.
+/// Has `job` do the lines of `reader`, one after another, until its end, and writes what is told of them to `writer`.
 ///
 /// The lines are what stands between newlines; the last one has none, and may be empty. A line is dropped as soon as it
 /// is done, and what is told of the lines that are over is written before more is read: a read that fails shows
@@ -178,7 +180,7 @@ pub fn tell_lines<R: Read, W: Write, J: LineTeller>(
         (W.contents writer.new)) }
 {
     let mut kept = Kept::new(alloc);
-    let mut chunk = [0u8; CHUNK];
+    let mut chunk = [0u8; READ_BYTES];
     for _turn in 0..u64::MAX {
         match reader.read(&mut chunk) {
             Err(_) => return Err(StreamFault::ReadFault),
@@ -189,10 +191,11 @@ pub fn tell_lines<R: Read, W: Write, J: LineTeller>(
             },
         }
     }
+    // (after 2^64 - 1 reads)
     Err(StreamFault::ReadFault)
 }
 
-/// Answers the lines of a reader, one after another, until its end, as [`tell_lines`] does them.
+/// Has `job` answer the lines of `reader`, one after another, until its end, as [`tell_lines`] does them.
 pub fn answer_lines<R: Read, W: Write, J: LineJob>(
     alloc: Global,
     reader: &mut R,

@@ -8,20 +8,22 @@ use thiserror::Error;
 pub enum StreamLineFault<F> {
     /// The line is not sound, by this fault.
     Bad(F),
+    /// There was no memory for the answer.
     OutOfMemory,
 }
 
 /// Why a stream was not answered to its end.
 ///
-/// The answers of all lines before were written, in order. After a `WriteFault` a prefix of them was written.
+/// The answers to all lines before were written, in order. After a `WriteFault` a prefix of these answers was written.
 #[derive(Clone, Copy, Debug, PartialEq, Eq)]
 pub enum StreamFault<F> {
-    /// A read failed, or there were 2^64 - 1 of them. Each line that is over was answered.
+    /// A read failed, or there were 2^64 - 1 reads. Each line whose newline was read was answered.
     ReadFault,
-    /// The line of this number, counted from 1, is not sound, and what is wrong with it.
+    /// Line number `line`, counted from 1, is not sound, by `fault`.
     BadLine { line: u64, fault: F },
-    /// The line of this number has more than 16,777,216 bytes.
+    /// Line number `line`, counted from 1, has more than 16,777,216 bytes.
     LineTooLong { line: u64 },
+    /// There was no memory for a line or for its answer.
     OutOfMemory,
     /// A write failed, or took no byte.
     WriteFault,

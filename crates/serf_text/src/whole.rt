@@ -1,4 +1,4 @@
-//! A whole text of lines.
+//! A text of lines that is done as a whole: what is told is given once all lines are done.
 
 ghost use Rattle.std.specs.Prelude.{[], IfErr, IfOk};
 ghost use Rattle.serf_text.specs.Lines.{lines_of};
@@ -9,8 +9,8 @@ use crate::stream_fault::StreamLineFault;
 use crate::words::cut;
 use std::alloc::Global;
 
-/// Does the lines of a text, one after another, and gives what is told of them; or the number of the first line, counted
-/// from 1, that is not done, and why.
+/// Has `job` do the lines of `input`, one after another, and gives what is told of them; or the number, counted from 1,
+/// of the first line that is not done, and why.
 pub fn tell_text<J: LineTeller>(
     alloc: Global,
     input: &[u8],
@@ -21,9 +21,9 @@ pub fn tell_text<J: LineTeller>(
     ensures refused { J.told job.old [] []
         → IfErr result (λ at. IsRefusedAt J.refuses (lines_of input.now) at.0 at.1) }
 {
-    let mut all = Vec::new(alloc);
-    let mut text = Vec::new(alloc);
-    let mut number: u64 = 1;
+    let mut all = Vec::new(alloc); // what was told of the lines so far
+    let mut text = Vec::new(alloc); // room for what is told of one line
+    let mut number: u64 = 1; // of the line
     let mut rest = input;
     'lines: loop {
         let (line, more) = cut(rest, b'\n');

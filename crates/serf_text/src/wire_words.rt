@@ -16,14 +16,14 @@ pub struct WireWords {
 }
 
 impl WireWords {
-    /// The words of this fault. Takes no memory.
+    /// The words of `fault`. Takes no memory.
     pub fn new(fault: WireFault) -> WireWords
         ensures { result.fault ≡ fault }
     {
         WireWords { fault }
     }
 
-    /// The fault. Takes no memory.
+    /// The fault that is printed. Takes no memory.
     pub fn fault(self) -> WireFault
         ensures { result ≡ self.fault }
     {
@@ -31,7 +31,7 @@ impl WireWords {
     }
 }
 
-/// A fault of MessagePack, which prints likewise.
+/// A fault of MessagePack, which prints as its name with the byte and the offset that it has, in decimal.
 #[derive(Clone, Copy)]
 struct PackWords(PackFault);
 
@@ -71,7 +71,7 @@ impl fmt::Display for WireWords {
     }
 }
 
-/// Appends the words of a fault of MessagePack.
+/// Appends the words of `fault`, a fault of MessagePack: its name, and the byte and the offset that it has, in decimal.
 fn put_pack_fault(out: &mut Vec<u8>, fault: PackFault) -> Result<(), AllocError>
     ensures { OnOk result (out.new.items ≡ out.old.items ++ pack_text fault) }
 {
@@ -85,7 +85,7 @@ fn put_pack_fault(out: &mut Vec<u8>, fault: PackFault) -> Result<(), AllocError>
     }
 }
 
-/// Appends the words of a packet's fault, or is an `AllocError` where there is no memory for them; then `out`
+/// Appends the words of a packet's fault `fault`, or is an `AllocError` where there is no memory for them; then `out`
 /// may have a prefix of the words.
 pub fn put_wire_fault(out: &mut Vec<u8>, fault: WireFault) -> Result<(), AllocError>
     ensures { OnOk result (out.new.items ≡ out.old.items ++ wire_text fault) }

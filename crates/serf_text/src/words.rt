@@ -1,4 +1,5 @@
-//! The words of a line, and what they stand for.
+//! The words of a line, and what they stand for. A clause `Gives view result said` says that the result, seen by
+//! `view`, is what the definition says (`said`), its fault too, unless memory ran out.
 
 ghost use Rattle.std.specs.Prelude.{◌≡◌, ◌<◌, ◌≤◌, ◌+◌, ◌++◌, ◌==◌, ◌∷◌, [], length, map, position, take, false, All, MatchOption, IfNone, IfOk, OnOk};
 ghost use Rattle.std.specs.List.{slice_split};
@@ -12,10 +13,10 @@ use memchr::memchr;
 use serf_wire::Bytes;
 use std::alloc::{AllocError, Global};
 
-/// The bytes from which on a text is searched by vectors of bytes; in a shorter one that takes longer.
+/// The length in bytes from which on a text is searched many bytes at once; in a shorter one that takes longer.
 const LONG_TEXT: usize = 64;
 
-/// Where `separator` stands first in a long text: many bytes are looked at together.
+/// The index, from 0 on, at which `separator` stands first in `text`, if it does: many bytes are looked at at once.
 #[inline(never)]
 fn place_in_long(text: &[u8], separator: u8) -> Option<usize>
     ensures place { result ≡ position (λ b. b == separator) text.now }
@@ -24,7 +25,7 @@ fn place_in_long(text: &[u8], separator: u8) -> Option<usize>
     memchr(separator, text)
 }
 
-/// Where `separator` stands first in a text, if it does.
+/// The index, from 0 on, at which `separator` stands first in `text`, if it does.
 #[inline(always)]
 fn place_of(text: &[u8], separator: u8) -> Option<usize>
     ensures place { result ≡ position (λ b. b == separator) text.now }
@@ -37,7 +38,8 @@ fn place_of(text: &[u8], separator: u8) -> Option<usize>
     }
 }
 
-/// The text before the first separator, and what follows the separator where there is one. Takes no memory.
+/// What stands in `text` before its first `separator`, and what follows it; all, and `None`, where it has no separator.
+/// Takes no memory.
 #[inline(always)]
 pub fn cut(text: &[u8], separator: u8) -> (&[u8], Option<&[u8]>)
     ensures parts { MatchOption result.1
@@ -53,11 +55,11 @@ pub fn cut(text: &[u8], separator: u8) -> (&[u8], Option<&[u8]>)
     }
 }
 
-/// How many words stand before those of which a line may have any number.
+/// How many words of a line have places of their own; of the words after them a line may have any number.
 pub const FIXED_WORDS: usize = 8;
 
-/// The words of a line, in order and at most eight, at the front of an array, how many they are, and what is left of the
-/// line: the ninth word and all after it, or nothing. Words stand between spaces. Takes no memory.
+/// The first words of `line`, at most eight, at the front of an array; how many they are; and what is left of the line:
+/// the ninth word and all after it, or nothing. Words stand between spaces. Takes no memory.
 #[inline(always)]
 pub fn cut_words(line: &[u8]) -> ([&[u8]; FIXED_WORDS], usize, &[u8])
     ensures joined { map (λ w. w.now) (take result.1 result.0) ++ words_of result.2.now
@@ -86,8 +88,8 @@ pub fn cut_words(line: &[u8]) -> ([&[u8]; FIXED_WORDS], usize, &[u8])
     }
 }
 
-/// Puts the words of a line, as [`cut_words`] gives them, in place of those that were there. Gives what is left of the
-/// line.
+/// Puts the first words of `line`, as [`cut_words`] gives them, in `words`, whose own words are dropped. Gives what is
+/// left of the line.
 ///
 /// Where there is no memory for the words, `words` has none of them.
 pub fn take_words<'a>(line: &'a [u8], words: &mut Vec<&'a [u8]>) -> Result<&'a [u8], AllocError>
@@ -97,20 +99,20 @@ pub fn take_words<'a>(line: &'a [u8], words: &mut Vec<&'a [u8]>) -> Result<&'a [
     ensures full { IfOk result (λ rest. 0 < length rest.now
         → (length words.new.items ≡ FIXED_WORDS) × (0 < length (words_of rest.now))) }
 {
-    let (first, count, rest) = cut_words(line);
+    let (first, count, rest) = cut_words(line); // at most eight words, how many, and what is left
     words.clear();
     words.extend_from_slice(&first[..count])?;
     Ok(rest)
 }
 
-/// Whether a word is this text. Takes no memory.
+/// Whether `word` is `text`. Takes no memory.
 pub fn is_word(word: &[u8], text: &[u8]) -> bool
     ensures { result ≡ bytes_eq word.now text.now }
 {
     word == text
 }
 
-/// A number below 2^64 in decimal digits; `None` for any other word. Takes no memory.
+/// The number below 2^64 that `word` spells in decimal digits; `None` for any other word. Takes no memory.
 pub fn number(word: &[u8]) -> Option<u64>
     ensures { result ≡ number_of word.now }
 {
@@ -134,7 +136,7 @@ pub fn number(word: &[u8]) -> Option<u64>
     Some(value)
 }
 
-/// The bytes that a word spells in hex, two digits for each, and no bytes for `-`; `None` for any other word.
+/// The bytes that `word` spells in hex, two digits for each, and no bytes for `-`; `None` for any other word.
 pub fn hex_bytes(alloc: Global, word: &[u8]) -> Result<Option<Bytes>, AllocError>
     ensures { IfOk result (λ found. found ≡ bytes_of word.now) }
 {
@@ -148,7 +150,7 @@ pub fn hex_bytes(alloc: Global, word: &[u8]) -> Result<Option<Bytes>, AllocError
     }
 }
 
-/// Which of two words a word is: true for the second; `None` for any other word. Takes no memory.
+/// Which of two words `word` is: false for `first`, true for `second`; `None` for any other word. Takes no memory.
 pub fn choice(word: &[u8], first: &[u8], second: &[u8]) -> Option<bool>
     ensures { result ≡ choice_of first.now second.now word.now }
 {
@@ -161,7 +163,7 @@ pub fn choice(word: &[u8], first: &[u8], second: &[u8]) -> Option<bool>
     }
 }
 
-/// The word at a place of a line, counting from 1; no bytes where there is no such word. Place 0 is the first too.
+/// The word at `place` of a line's `words`, counting from 1; no bytes where there is none. Place 0 is the first too.
 /// Takes no memory.
 pub fn word_at<'a>(words: &[&'a [u8]], place: usize) -> &'a [u8]
     ensures { result.now ≡ word_at place (map (λ w. w.now) words.now) }
@@ -172,9 +174,9 @@ pub fn word_at<'a>(words: &[&'a [u8]], place: usize) -> &'a [u8]
     }
 }
 
-/// The number below 2^64 at a place of a line, counting from 1: decimal digits, leading zeros allowed.
+/// The number below 2^64 at `place` of a line's `words`, counting from 1: decimal digits, leading zeros allowed.
 ///
-/// A word that is none, or is missing, is a bad word at this place. Takes no memory.
+/// `BadWord(place)` where the word is no such number, or is missing. Takes no memory.
 #[tactic(auto, unfolding(crate::specs::Words::number_in))]
 pub fn number_at(words: &[&[u8]], place: usize) -> Result<u64, LineFault>
     ensures { Gives (λ n. n) result (number_in place (map (λ w. w.now) words.now)) }
@@ -185,7 +187,7 @@ pub fn number_at(words: &[&[u8]], place: usize) -> Result<u64, LineFault>
     }
 }
 
-/// The number that was found, where it is from `low` to `high`.
+/// The number `found`, where it is from `low` to `high`; else `None`.
 fn keep_between(found: Option<u64>, low: u64, high: u64) -> Option<u64>
     ensures { result ≡ between low high found }
 {
@@ -195,9 +197,9 @@ fn keep_between(found: Option<u64>, low: u64, high: u64) -> Option<u64>
     }
 }
 
-/// The number at a place, counting from 1, which is to be between these two or one of them.
+/// The number at `place` of a line's `words`, counting from 1, which is to be from `low` to `high`.
 ///
-/// A word that is none, or is missing, is a bad word at this place. Takes no memory.
+/// `BadWord(place)` where the word is no such number, or is missing. Takes no memory.
 #[tactic(auto, unfolding(crate::specs::Words::number_between))]
 pub fn number_from_to(words: &[&[u8]], place: usize, low: u64, high: u64) -> Result<u64, LineFault>
     ensures value { Gives (λ n. n) result
@@ -210,9 +212,9 @@ pub fn number_from_to(words: &[&[u8]], place: usize, low: u64, high: u64) -> Res
     }
 }
 
-/// The bytes at a place of a line, counting from 1: hex digits, two for each byte, or `-` for none.
+/// The bytes at `place` of a line's `words`, counting from 1: hex digits, two for each byte, or `-` for none.
 ///
-/// A word that is neither is a bad word at this place.
+/// `BadWord(place)` where the word is neither, or is missing.
 #[tactic(auto, unfolding(crate::specs::Words::bytes_in))]
 pub fn bytes_at(alloc: Global, words: &[&[u8]], place: usize) -> Result<Bytes, LineFault>
     ensures { Gives (λ b. b) result (bytes_in place (map (λ w. w.now) words.now)) }
@@ -223,9 +225,9 @@ pub fn bytes_at(alloc: Global, words: &[&[u8]], place: usize) -> Result<Bytes, L
     }
 }
 
-/// Which of two words stands at a place, counting from 1: true for the second.
+/// Which of two words stands at `place` of a line's `words`, counting from 1: false for `first`, true for `second`.
 ///
-/// Another word, or none, is a bad word at this place. Takes no memory.
+/// `BadWord(place)` where another word stands there, or none. Takes no memory.
 #[tactic(auto, unfolding(crate::specs::Words::choice_in))]
 pub fn choice_at(
     words: &[&[u8]],

@@ -1,8 +1,6 @@
 -- All slots of a window, and those of them that are made.
-use Rattle.serf_window.proofs.Names.{◌≡◌, ◌≢◌, ℕ, zero, suc, ◌+◌, ◌-◌, ◌%◌, ◌<◌, ◌≤◌, inl, inr, List, [], ◌∷◌, ◌++◌, length, map, replicate, get_or, set, refl, sym, ◌∙◌, ap, subst, arith, sum_by, cases_lt, get_or-append_right, get_or-map, get_or-set_same, length-map, get_or_append_left, get_or-replicate, get_or_default, get_or_past, append_assoc, length-replicate, length-set, replicate-append-replicate, set-append_left, map-set_same, sum_by-replicate, sum_by-append, range_with_len, TimeSlot, unused_slot}
+use Rattle.serf_window.proofs.Names.{List, [], ap, arith, get_or, inl, inr, length, map, refl, replicate, set, subst, suc, sum_by, sym, zero, ℕ, ◌%◌, ◌++◌, ◌+◌, ◌-◌, ◌<◌, ◌∙◌, ◌∷◌, ◌≡◌, ◌≢◌, ◌≤◌, map-set_same, cases_lt, append_assoc, get_or-append_right, get_or-map, get_or-replicate, get_or-set_same, get_or_append_left, get_or_default, get_or_past, length-map, length-replicate, length-set, replicate-append-replicate, set-append_left, sum_by-replicate, sum_by-append, range_with_len, unused_slot, TimeSlot, all_slots, room_in, slot_view, SlotOf, TimedEntry, WindowOf, empty_slot, held_count, room_for, slot_after, slot_for, slot_of, slots_after, slots_of}
 use Rattle.std.proofs.lemmas.List.{length-append}
-use Rattle.serf_window.specs.Slots.{all_slots, room_in, slot_view}
-use Rattle.serf_window.specs.Window.{SlotOf, TimedEntry, WindowOf, empty_slot, held_count, room_for, slot_after, slot_for, slot_of, slots_after, slots_of}
 use Rattle.serf_window.proofs.WindowLemmas.{held_count-map, room_for-set, room_for-set_other, slot_for-map, slots_after-map}
 
 pub length-all_slots : {K : Type 0} (n : ℕ) (made : List (TimeSlot K)) → length made ≤ n → length (all_slots n made) ≡ n

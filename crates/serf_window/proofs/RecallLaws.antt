@@ -1,14 +1,6 @@
 -- Windows that are made again: what is known of each entry that was kept.
-use Rattle.serf_window.proofs.Names.{◌≡◌, ◌==◌, ℕ, ◌+◌, ◌≤◌, inl, inr, cond, Bool, true, false, List, [], ◌∷◌, ◌++◌, refl, sym, ◌∙◌, ap, subst, arith, nat_le, All, Contains, append_assoc, eq-eqb, All-nil}
-use Rattle.std.specs.Prelude.{AllPairs, ◌≢◌, ◌<◌, ◌&&◌, ◌||◌, nat_lt}
-use Rattle.std.proofs.lemmas.Bool.{and_from, ltb-true, or_parts, true≢false}
-use Rattle.std.proofs.lemmas.List.Quantifiers.{all_pairs_push}
-use Rattle.std.proofs.lemmas.List.Elements.{All-cons, All-head, All-tail, All-weaker, All-contains_itself, Contains-append_cases, Contains-append_left, Contains-append_right}
-use Rattle.std.proofs.lemmas.List.Folds.{list_any-append}
-use Rattle.serf_window.specs.declared.verdict.Verdict.{Verdict}
-use Rattle.serf_window.specs.declared.verdict.Verdict.TheVariants.{BelowMinimum, TooOld, Seen, TimeFull, New}
-use Rattle.serf_window.specs.Recall.{IsRecalled, RecallLaws, Recalled, recalled, recalled_by, recalled_one}
-use Rattle.serf_window.specs.Window.{TimedEntry, count_at, verdict_of, was_entered}
+use Rattle.serf_window.proofs.Names.{Bool, List, [], ap, arith, cond, false, inl, inr, nat_le, refl, subst, sym, true, ℕ, ◌++◌, ◌+◌, ◌==◌, ◌∙◌, ◌∷◌, ◌≡◌, ◌≤◌, and_from, eq-eqb, ltb-true, or_parts, true≢false, append_assoc, All-cons, All-contains_itself, All-head, All-nil, All-tail, All-weaker, Contains-append_cases, Contains-append_left, Contains-append_right, list_any-append, all_pairs_push, All, Contains, AllPairs, nat_lt, ◌&&◌, ◌||◌, IsRecalled, RecallLaws, Recalled, recalled, recalled_by, recalled_one, TimedEntry, count_at, verdict_of, was_entered, Verdict, BelowMinimum, New, Seen, TimeFull, TooOld}
+use Rattle.std.specs.Prelude.{◌≢◌, ◌<◌}
 
 append_nil : {A : Type 0} (xs : List A) → xs ++ [] ≡ xs
 append_nil [] = refl

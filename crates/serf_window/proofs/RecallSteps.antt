@@ -1,8 +1,5 @@
 -- A window that takes back one entry after another.
-use Rattle.serf_window.proofs.Names.{◌≡◌, ℕ, Bool, List}
-use Rattle.serf_window.specs.declared.recall.Offer.{Offer}
-use Rattle.serf_window.specs.Recall.{entries_offered, recalled}
-use Rattle.serf_window.specs.Window.{SlotOf, TimedEntry, slots_of}
+use Rattle.serf_window.proofs.Names.{Bool, List, ℕ, ◌≡◌, entries_offered, recalled, SlotOf, TimedEntry, slots_of, Offer}
 
 -- The slots, whatever entries they were of at first, are of some now, and what is left makes of these what all make of the first.
 abbrev pub Goes : {K L : Type 0} → (K → K → Bool) → (L → K) → ℕ → ℕ → ℕ → List (SlotOf K) → ℕ → List (Offer L) → List (SlotOf K) → ℕ → List (Offer L) → Type 0

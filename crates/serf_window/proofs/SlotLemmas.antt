@@ -1,6 +1,5 @@
-use Rattle.serf_window.proofs.Names.{◌≡◌, ◌≢◌, ℕ, ◌+◌, ◌%◌, ◌/◌, ◌<◌, ◌≤◌, ◌==◌, ◌⊎◌, inl, inr, max, cond, Bool, true, false, List, [], ◌∷◌, ◌++◌, length, refl, sym, ◌∙◌, subst, arith, set, list_any, cases_lt, cases_order, cases_eq, cases_Bool, eqb-true, eqb-false, eq-eqb, ne_eqb, common_steps, filter-append, fill_by_all, get_or-map-range_with_len, length-map-range_with_len, mod_below, get_or-set_same, get_or-set_other, div-add-mod, mul-le-mul_left}
+use Rattle.serf_window.proofs.Names.{Bool, List, [], arith, cond, false, inl, inr, length, max, refl, set, subst, sym, true, ℕ, ◌%◌, ◌++◌, ◌+◌, ◌/◌, ◌<◌, ◌==◌, ◌∙◌, ◌∷◌, ◌≡◌, ◌≢◌, ◌≤◌, ◌⊎◌, div-add-mod, mul-le-mul_left, cases_Bool, cases_eq, cases_lt, cases_order, eq-eqb, eqb-false, eqb-true, ne_eqb, common_steps, get_or-set_other, get_or-set_same, filter-append, fill_by_all, get_or-map-range_with_len, length-map-range_with_len, mod_below, list_any, TimedEntry, entries_of, greatest_time, held_at, held_of, slot_after, slot_of, slots_of, was_entered}
 use Rattle.std.proofs.Math.ListN.{length-set}
-use Rattle.serf_window.specs.Window.{TimedEntry, greatest_time, held_at, held_of, entries_of, slot_of, slots_of, slot_after, was_entered}
 
 -- times of one slot are at least n apart
 pub time_apart : (n s t : ℕ) → s % n ≡ t % n → t < s → t + n ≤ s

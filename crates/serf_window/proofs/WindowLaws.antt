@@ -1,7 +1,5 @@
 -- The laws of the slots of any entries.
-use Rattle.serf_window.proofs.Names.{◌≡◌, ℕ, ◌+◌, ◌%◌, ◌<◌, ◌≤◌, ◌==◌, ◌⊎◌, inl, inr, List, [], ◌∷◌, length, false, get_or, refl, sym, ◌∙◌, ap, subst, arith, filter, All, Contains, range_with_len, cases_Bool, cases_lt, eqb-true, ne_eqb, All-contains_itself, All-filter, All-head, All-map, All-nil, All-tail, filter_passes, length-map-range_with_len, sum_by-le}
-use Rattle.serf_window.specs.Laws.{SlotLaws}
-use Rattle.serf_window.specs.Window.{SlotOf, TimedEntry, TimesBelow, count_in, entries_of, greatest_time, held_at, held_of, slot_for, slot_of, slots_of, time_in}
+use Rattle.serf_window.proofs.Names.{List, [], ap, arith, false, filter, get_or, inl, inr, length, refl, subst, sym, ℕ, ◌%◌, ◌+◌, ◌<◌, ◌==◌, ◌∙◌, ◌∷◌, ◌≡◌, ◌≤◌, ◌⊎◌, cases_Bool, cases_lt, eqb-true, ne_eqb, All-contains_itself, All-filter, All-head, All-map, All-nil, All-tail, filter_passes, length-map-range_with_len, sum_by-le, All, Contains, range_with_len, SlotLaws, SlotOf, TimedEntry, TimesBelow, count_in, entries_of, greatest_time, held_at, held_of, slot_for, slot_of, slots_of, time_in}
 use Rattle.serf_window.proofs.SlotLemmas.{held_of-slot}
 use Rattle.serf_window.proofs.WindowLemmas.{slot_for-below, slot_for-slots_of}
 

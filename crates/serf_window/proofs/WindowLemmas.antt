@@ -1,7 +1,4 @@
-use Rattle.serf_window.proofs.Names.{◌≡◌, ◌≢◌, ℕ, ◌+◌, ◌*◌, ◌%◌, ◌<◌, ◌≤◌, inl, inr, cond, Bool, true, false, List, [], ◌∷◌, ◌++◌, length, map, refl, sym, ◌∙◌, ap, subst, arith, get_or, set, nat_le, length-append, sum_by, list_any, range_with_len, cases_eq, cases_order, le-ltb, lt-ltb, lt-leb, eq-eqb, ne_eqb, nat_tests, get_or-map, get_or-set_same, get_or-set_other, map-set, length-set, length-map, All-map, All-set, fold-map, get_or-map-range_with_len, mod_below, sum_by-le, mul-le-mul_left}
-use Rattle.serf_window.specs.declared.verdict.Verdict.TheVariants.{Seen, TimeFull, New}
-use Rattle.serf_window.specs.OneSlot.{slot_verdict}
-use Rattle.serf_window.specs.Window.{TimedEntry, SlotOf, count_at, count_in, EachAtMost, IsWindow, empty_slot, held_at, held_count, held_of, room_for, slot_after, slot_for, slot_of, slots_after, slots_of, time_in, TimesBelow, verdict_of, was_entered}
+use Rattle.serf_window.proofs.Names.{Bool, List, [], ap, arith, cond, false, get_or, inl, inr, length, length-append, map, nat_le, refl, set, subst, sum_by, sym, true, ℕ, ◌%◌, ◌*◌, ◌++◌, ◌+◌, ◌<◌, ◌∙◌, ◌∷◌, ◌≡◌, ◌≢◌, ◌≤◌, mul-le-mul_left, cases_eq, cases_order, eq-eqb, le-ltb, lt-leb, lt-ltb, ne_eqb, nat_tests, get_or-map, get_or-set_other, get_or-set_same, length-map, length-set, map-set, All-map, All-set, fold-map, get_or-map-range_with_len, sum_by-le, mod_below, list_any, range_with_len, slot_verdict, EachAtMost, IsWindow, SlotOf, TimedEntry, TimesBelow, count_at, count_in, empty_slot, held_at, held_count, held_of, room_for, slot_after, slot_for, slot_of, slots_after, slots_of, time_in, verdict_of, was_entered, New, Seen, TimeFull}
 use Rattle.serf_window.proofs.SlotLemmas.{held_of-slot, slot-not_later, slots_of-append, was_entered-held}
 
 -- What a window's slots say, over plain lists of slots

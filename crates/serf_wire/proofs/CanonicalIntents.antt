@@ -1,8 +1,5 @@
 -- The canonical packet of each intent spells it.
-use Rattle.serf_wire.proofs.Names.{◌≡◌, ℕ, ◌<◌, List, [], ◌∷◌, ◌++◌, length, lit<, false, codes, refl, sym, subst, arith, append_assoc, append-nil, AllByRecursion, pairs, Packs, map_head, raw_bytes, uint_bytes, flag_bytes, pair_list, greatest_clock}
-use Rattle.serf_wire.specs.Below.{Below}
-use Rattle.serf_wire.specs.Canonical.{entry}
-use Rattle.serf_wire.specs.Intent.{Join, Leave, join, leave, IsJoin, IsLeave, SpellsIntent, canonical_join, canonical_leave, CanonicalIntents}
+use Rattle.serf_wire.proofs.Names.{List, [], append-nil, append_assoc, arith, codes, false, length, lit<, refl, subst, sym, ℕ, ◌++◌, ◌<◌, ◌∷◌, ◌≡◌, AllByRecursion, greatest_clock, flag_bytes, map_head, raw_bytes, uint_bytes, Packs, pairs, pair_list, Below, entry, CanonicalIntents, IsJoin, IsLeave, Join, Leave, SpellsIntent, canonical_join, canonical_leave, join, leave}
 use Rattle.serf_wire.proofs.CanonicalPackets.{text_entry, number_entry, regroup_two}
 use Rattle.serf_wire.proofs.Short.{short}
 use Rattle.serf_wire.proofs.Spelling.{text_part, number_part, flag_part, flag_is_part, Entry, IsEntry, pairs_from, entries_are_part, within}

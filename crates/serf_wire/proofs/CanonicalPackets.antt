@@ -1,13 +1,5 @@
 -- The canonical packet of each message spells it.
-use Rattle.serf_wire.proofs.Names.{◌≡◌, ℕ, ◌+◌, ◌<◌, List, [], ◌∷◌, ◌++◌, map, length, lit<, false, ◌||◌, Option, Some, codes, refl, sym, ap, subst, ◌∙◌, arith, append_assoc, append-nil, list_any, AllByRecursion, Tree, nil, pairs, Packs, map_head, raw_bytes, uint_bytes, int_bytes, flag_bytes, item_list, pair_list, greatest_clock}
-use Rattle.serf_wire.specs.Below.{Below}
-use Rattle.serf_wire.specs.declared.texts.EventBody.{EventBody}
-use Rattle.serf_wire.specs.Slots.{SlotContent, empty, held}
-use Rattle.serf_wire.specs.Canonical.{entry, list_bytes, status_bytes, event_bytes, slot_bytes, canonical_event, canonical_query, canonical_response, canonical_push_pull, canonical, without_events, without_empty_slots, is_long, is_long_event, is_long_slot, has_long}
-use Rattle.serf_wire.specs.Message.{Message, UserEvent, Query, QueryResponse, PushPull, user_event, query, query_response, push_pull, foreign}
-use Rattle.serf_wire.specs.Fields.{all, text, time, both, event_body, slot, status_time}
-use Rattle.serf_wire.specs.Spells.{IsUserEvent, IsQuery, IsQueryResponse, IsPushPull, SpellsBehind, Spells}
-use Rattle.serf_wire.specs.Ranges.{IsRangedQuery, IsRangedResponse, IsTimed, IsRangedPushPull, InRange}
+use Rattle.serf_wire.proofs.Names.{List, Option, Some, [], ap, append-nil, append_assoc, arith, codes, false, length, lit<, map, refl, subst, sym, ℕ, ◌++◌, ◌+◌, ◌<◌, ◌||◌, ◌∙◌, ◌∷◌, ◌≡◌, AllByRecursion, list_any, greatest_clock, flag_bytes, int_bytes, map_head, raw_bytes, uint_bytes, Packs, Tree, nil, pairs, item_list, pair_list, Below, canonical_event, canonical_push_pull, canonical_query, canonical_response, entry, event_bytes, is_long, is_long_event, is_long_slot, list_bytes, slot_bytes, status_bytes, without_empty_slots, without_events, canonical, has_long, all, both, event_body, slot, status_time, text, time, Message, PushPull, Query, QueryResponse, UserEvent, foreign, push_pull, query, query_response, user_event, InRange, IsRangedPushPull, IsRangedQuery, IsRangedResponse, IsTimed, SlotContent, empty, held, IsPushPull, IsQuery, IsQueryResponse, IsUserEvent, Spells, SpellsBehind, EventBody}
 use Rattle.serf_wire.proofs.Short.{short, neither, short_query}
 use Rattle.serf_wire.proofs.Spelling.{Part, IsPart, text_part, number_part, int_part, flag_part, text_is_part, number_is_part, int_is_part, flag_is_part, items_from, array_part, array_is_part, Entry, IsEntry, pairs_from, map_part, map_is_part, entries_part, entries_are_part, all_read, map_same, none_all, both_all, all_true, within}
 

@@ -1,15 +1,6 @@
 -- Maps that are looked at as a whole: what is checked of bytes is exact, whichever layout.
-use Rattle.serf_wire.proofs.Names.{◌≡◌, ℕ, List, [], Option, Some, None, Result, Ok, Err, MatchResult, refl, sym, ap, subst, ◌∙◌, PackFault, Tree, nil, flag, int, raw, array, pairs, Pairs, Packs, whole_at, pair_list, kind_of, Map}
-use Rattle.serf_wire.specs.Below.{Below}
-use Rattle.serf_wire.specs.declared.fault.WireFault.{WireFault}
+use Rattle.serf_wire.proofs.Names.{Err, List, MatchResult, None, Ok, Option, Result, Some, [], ap, refl, subst, sym, ℕ, ◌∙◌, ◌≡◌, Packs, whole_at, Pairs, Tree, array, flag, int, nil, pairs, raw, kind_of, pair_list, PackFault, Map, Below, FindsChecked, checked_pairs, made_of, sound_pairs, first, layout_faults, Finds, unless_fault, IsFirstMapFault, in_map, no_map, no_value, WireFault, FoundFields, Layout}
 use Rattle.serf_wire.specs.declared.fault.WireFault.TheVariants as faults
-use Rattle.serf_wire.specs.declared.found.FoundFields.{FoundFields}
-use Rattle.serf_wire.specs.declared.layout.Layout.{Layout}
-use Rattle.serf_wire.specs.Checked.{sound_pairs, checked_pairs, made_of, FindsChecked}
-use Rattle.serf_wire.specs.Faults.{layout_faults, first}
-use Rattle.serf_wire.specs.Found.{Finds}
-use Rattle.serf_wire.specs.Reading.{unless_fault}
-use Rattle.serf_wire.specs.Spells.{IsFirstMapFault, no_value, no_map, in_map}
 use Rattle.serf_wire.proofs.Stepping.{no_first}
 
 -- the bytes are a map of these pairs, which have no fault

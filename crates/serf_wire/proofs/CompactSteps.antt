@@ -1,7 +1,5 @@
 -- A step over a compact item.
-use Rattle.serf_wire.proofs.Names.{◌≡◌, ℕ, ◌-◌, ◌<◌, List, ◌∷◌, map, length, take, Option, Some, ap, ◌∙◌, Tree, PacksAlone}
-use Rattle.serf_wire.specs.declared.fault.WireFault.{WireFault}
-use Rattle.serf_wire.specs.Fast.{ReadsIn, Spans}
+use Rattle.serf_wire.proofs.Names.{List, Option, Some, ap, length, map, take, ℕ, ◌-◌, ◌<◌, ◌∙◌, ◌∷◌, ◌≡◌, Tree, PacksAlone, ReadsIn, Spans, WireFault}
 use Rattle.serf_wire.proofs.Meanings.{IsExact}
 use Rattle.serf_wire.proofs.FastLists.{packed_alone}
 

@@ -1,13 +1,7 @@
 -- User events that are maps in compact spellings.
-use Rattle.serf_wire.proofs.Names.{◌+◌, ◌<◌, ◌≡◌, ℕ, List, [], ◌∷◌, ◌++◌, Bool, false, codes, Option, Some, None, IfSome, unwrap_or, refl, sym, subst, ◌∙◌, arith, append-nil, option_copied, Tree, raw, PackPairs, pair_list, greatest_clock}
-use denote.Bor.{Bor}
-use Rattle.serf_wire.specs.declared.fast.event.EventFields.{EventFields}
+use Rattle.serf_wire.proofs.Names.{Bool, IfSome, List, None, Option, Some, [], append-nil, arith, codes, false, refl, subst, sym, unwrap_or, ℕ, ◌++◌, ◌+◌, ◌<◌, ◌∙◌, ◌∷◌, ◌≡◌, option_copied, Bor, greatest_clock, PackPairs, Tree, raw, pair_list, IsEventSoFar, IsReadSoFar, found_event, number, text, truth, values_of, event_said, user_event, SpellsMap, EventFields}
 use Rattle.serf_wire.specs.declared.message.UserEvent.{UserEvent as LentEvent}
 use Rattle.serf_wire.specs.declared.layout.MessageType.TheVariants as types
-use Rattle.serf_wire.specs.Fields.{text, truth, number, values_of}
-use Rattle.serf_wire.specs.Fast.{IsEventSoFar, IsReadSoFar, found_event}
-use Rattle.serf_wire.specs.Message.{event_said, user_event}
-use Rattle.serf_wire.specs.Spells.{SpellsMap}
 use Rattle.serf_wire.proofs.FastPairs.{keys_push, kept, added, sole_shown, narrow_sole, map_packs}
 
 pub finds_time : (old : EventFields) (x : ℕ) → old.time ≡ None → (p : ℕ) (v : Tree) (ps : List (Tree × Tree)) → number greatest_clock v ≡ Some x → IsEventSoFar old ps → IsEventSoFar (record old { time = Some x }) (ps ++ (raw p (codes "LTime"), v) ∷ [])

@@ -1,10 +1,6 @@
 -- Lists at the front of bytes.
-use Rattle.serf_wire.proofs.Names.{◌≡◌, ℕ, ◌+◌, ◌-◌, ◌<◌, ◌≤◌, List, [], ◌∷◌, ◌++◌, map, length, take, Option, Some, Ok, refl, sym, ap, subst, ◌∙◌, arith, append_assoc, append-nil, length-append, take_at, length_push, flat_map, head_at, Tree, nil, array, no_items, Packs, IsHead, PacksAlone}
+use Rattle.serf_wire.proofs.Names.{List, Ok, Option, Some, [], ap, append-nil, append_assoc, arith, length, length-append, map, refl, subst, sym, take, ℕ, ◌++◌, ◌+◌, ◌-◌, ◌<◌, ◌∙◌, ◌∷◌, ◌≡◌, ◌≤◌, length_push, take_at, flat_map, IsHead, Packs, head_at, Tree, array, nil, no_items, PacksAlone, Below, AreItems, AreParts, Item, ReadsIn, Spans, list, text, WireFault}
 use Rattle.serf_pack.specs.declared.head.Head.TheVariants as heads
-use Rattle.serf_wire.specs.Below.{Below}
-use Rattle.serf_wire.specs.declared.fault.WireFault.{WireFault}
-use Rattle.serf_wire.specs.Fields.{text, list}
-use Rattle.serf_wire.specs.Fast.{ReadsIn, Spans, AreParts, Item, AreItems}
 use Rattle.serf_wire.proofs.Spelling.{Part, items_from, count_items, items_pack, all_read, all_true}
 use Rattle.serf_wire.proofs.Meanings.{IsExact}
 use Rattle.serf_wire.proofs.FastReading.{anywhere, nil_front}

@@ -1,10 +1,6 @@
 -- Pair after pair of a map in compact spellings.
-use Rattle.serf_wire.proofs.Names.{◌≡◌, ℕ, suc, ◌+◌, ◌-◌, ◌<◌, ◌≤◌, List, [], ◌∷◌, ◌++◌, length, lit<, true, false, cond, Option, Some, None, IfSome, unwrap_or, refl, sym, ap, subst, ◌∙◌, arith, append_assoc, append-nil, Tree, nil, raw, pairs, Pairs, no_pairs, pair, Packs, PackPairs, IsHead, pair_count, pair_list, raw_head, raw_bytes}
+use Rattle.serf_wire.proofs.Names.{IfSome, List, None, Option, Some, [], ap, append-nil, append_assoc, arith, cond, false, length, lit<, refl, subst, suc, sym, true, unwrap_or, ℕ, ◌++◌, ◌+◌, ◌-◌, ◌<◌, ◌∙◌, ◌∷◌, ◌≡◌, ◌≤◌, raw_bytes, raw_head, IsHead, PackPairs, Packs, pair_count, Pairs, Tree, nil, no_pairs, pair, pairs, raw, pair_list, Below, Extends, IsReadSoFar, Reads, ReadsIn, Shows, is_key, number, sole, values_of, HasRawKeys}
 use Rattle.serf_pack.specs.declared.head.Head.TheVariants as heads
-use Rattle.serf_wire.specs.Below.{Below}
-use Rattle.serf_wire.specs.Fields.{number, is_key, values_of, sole}
-use Rattle.serf_wire.specs.Fast.{Reads, ReadsIn, Shows, Extends, IsReadSoFar}
-use Rattle.serf_wire.specs.Spells.{HasRawKeys}
 use Rattle.serf_wire.proofs.FastReading.{narrower, anywhere, map_row}
 
 pub if_some : {X : Type 0} (r : Option X) (P Q : X → Type 0) → ((x : X) → P x → Q x) → IfSome r P → IfSome r Q

@@ -1,10 +1,7 @@
 -- What stands at the front of bytes.
-use Rattle.serf_wire.proofs.Names.{◌≡◌, ℕ, suc, ℤ, pos, negsuc, ◌+◌, ◌-◌, ◌<◌, ◌≤◌, List, [], ◌∷◌, ◌++◌, length, take, drop, get_or, Bool, true, false, cond, nat_lt, nat_le, Option, Some, None, IfSome, Ok, refl, sym, ap, subst, ◌∙◌, arith, append_assoc, take-append-drop, nat_tests, drop_more, take_rest, length-take-le, big_number, Head, Field, Whole, Number, row_of, meaning_of, head_at, Tree, nil, flag, int, raw, array, pairs, Packs, IsHead, raw_of, greatest_clock}
+use Rattle.serf_wire.proofs.Names.{Bool, IfSome, List, None, Ok, Option, Some, [], ap, append_assoc, arith, cond, drop, false, get_or, length, nat_le, nat_lt, negsuc, pos, refl, subst, suc, sym, take, take-append-drop, true, ℕ, ℤ, ◌++◌, ◌+◌, ◌-◌, ◌<◌, ◌∙◌, ◌∷◌, ◌≡◌, ◌≤◌, nat_tests, drop_more, length-take-le, take_rest, big_number, greatest_clock, IsHead, Packs, head_at, meaning_of, row_of, Tree, array, flag, int, nil, pairs, raw, raw_of, Field, Head, Number, Whole, Below, Reads, ReadsIn, number, text, truth, up_to}
 use Rattle.serf_pack.specs.declared.head.Head.TheVariants as heads
 use Rattle.serf_pack.specs.declared.head.Field.TheVariants as fields
-use Rattle.serf_wire.specs.Below.{Below}
-use Rattle.serf_wire.specs.Fields.{text, truth, number, up_to}
-use Rattle.serf_wire.specs.Fast.{Reads, ReadsIn}
 use Rattle.serf_wire.proofs.Spelling.{within}
 
 -- ---- literal bytes at the front

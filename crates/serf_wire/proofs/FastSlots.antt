@@ -1,10 +1,5 @@
 -- Events and slots at the front of bytes.
-use Rattle.serf_wire.proofs.Names.{◌≡◌, ℕ, ◌+◌, ◌≤◌, ◌<◌, List, [], ◌∷◌, ◌++◌, length, lit<, codes, Option, Some, refl, sym, ap, ◌∙◌, arith, append_assoc, Tree, raw, raw_bytes, greatest_clock}
-use Rattle.serf_wire.specs.Below.{Below}
-use Rattle.serf_wire.specs.declared.texts.EventBody.{EventBody}
-use Rattle.serf_wire.specs.Slots.{SlotContent, empty, held}
-use Rattle.serf_wire.specs.Fields.{text, time, number, list, both, field, map_of, event_body, slot}
-use Rattle.serf_wire.specs.Fast.{Reads, ReadsIn, ReadsPair}
+use Rattle.serf_wire.proofs.Names.{List, Option, Some, [], ap, append_assoc, arith, codes, length, lit<, refl, sym, ℕ, ◌++◌, ◌+◌, ◌<◌, ◌∙◌, ◌∷◌, ◌≡◌, ◌≤◌, greatest_clock, raw_bytes, Tree, raw, Below, Reads, ReadsIn, ReadsPair, both, event_body, field, list, map_of, number, slot, text, time, SlotContent, empty, held, EventBody}
 use Rattle.serf_wire.proofs.Spelling.{Entry, entries_part, entries_are_part}
 use Rattle.serf_wire.proofs.FastReading.{anywhere, narrower}
 

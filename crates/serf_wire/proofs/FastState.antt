@@ -1,15 +1,6 @@
 -- States that are maps in compact spellings.
-use Rattle.serf_wire.proofs.Names.{◌≡◌, ◌+◌, ◌<◌, ℕ, List, [], ◌∷◌, ◌++◌, codes, Some, None, refl, sym, subst, ◌∙◌, append-nil, option_map, Tree, raw, PackPairs, greatest_clock}
-use Rattle.serf_wire.specs.declared.lists.Texts.{Texts}
-use Rattle.serf_wire.specs.declared.lists.StatusTimes.{StatusTimes}
-use Rattle.serf_wire.specs.declared.lists.SlotViews.{SlotViews}
+use Rattle.serf_wire.proofs.Names.{List, None, Some, [], append-nil, codes, refl, subst, sym, ℕ, ◌++◌, ◌+◌, ◌<◌, ◌∙◌, ◌∷◌, ◌≡◌, option_map, greatest_clock, PackPairs, Tree, raw, IsReadSoFar, IsStateSoFar, found_state, list, number, slot, status, text, slots_left, status_left, texts_left, PushPull, push_pull, SpellsMap, StateFields, SlotViews, StatusTimes, Texts}
 use Rattle.serf_wire.specs.declared.layout.MessageType.TheVariants as types
-use Rattle.serf_wire.specs.declared.fast.state.StateFields.{StateFields}
-use Rattle.serf_wire.specs.Fields.{text, number, list, status, slot}
-use Rattle.serf_wire.specs.Lists.{texts_left, status_left, slots_left}
-use Rattle.serf_wire.specs.Message.{PushPull, push_pull}
-use Rattle.serf_wire.specs.Spells.{SpellsMap}
-use Rattle.serf_wire.specs.Fast.{IsStateSoFar, IsReadSoFar, found_state}
 use Rattle.serf_wire.proofs.FastPairs.{keys_push, kept, added, sole_shown, map_packs}
 
 pub finds_member : (old : StateFields) (x : ℕ) → old.member_clock ≡ None → (p : ℕ) (v : Tree) (ps : List (Tree × Tree)) → number greatest_clock v ≡ Some x → IsStateSoFar old ps → IsStateSoFar (record old { member_clock = Some x }) (ps ++ (raw p (codes "LTime"), v) ∷ [])

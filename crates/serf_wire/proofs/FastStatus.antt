@@ -1,9 +1,6 @@
 -- Names with their times at the front of bytes.
-use Rattle.serf_wire.proofs.Names.{◌≡◌, ℕ, ◌+◌, List, [], ◌∷◌, ◌++◌, map, length, Some, Ok, refl, sym, ap, subst, ◌∙◌, arith, append_assoc, flat_map, head_at, pairs, IsHead, raw_of, pair_list, greatest_clock}
+use Rattle.serf_wire.proofs.Names.{List, Ok, Some, [], ap, append_assoc, arith, length, map, refl, subst, sym, ℕ, ◌++◌, ◌+◌, ◌∙◌, ◌∷◌, ◌≡◌, flat_map, greatest_clock, IsHead, head_at, pairs, pair_list, raw_of, Below, AreParts, Reads, Spans, SpansStatusTime, StatusPart, status_part_bytes, all, number, status, status_time}
 use Rattle.serf_pack.specs.declared.head.Head.TheVariants as heads
-use Rattle.serf_wire.specs.Below.{Below}
-use Rattle.serf_wire.specs.Fields.{number, all, status, status_time}
-use Rattle.serf_wire.specs.Fast.{Reads, Spans, AreParts, StatusPart, SpansStatusTime, status_part_bytes}
 use Rattle.serf_wire.proofs.Spelling.{Part, pairs_by, count_pairs, pairs_pack, all_true}
 use Rattle.serf_wire.proofs.FastReading.{anywhere}
 use Rattle.serf_wire.proofs.FastLists.{item_of, part_of}

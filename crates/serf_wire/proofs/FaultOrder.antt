@@ -1,14 +1,6 @@
 -- The faults of a map stand in reading order.
-use Rattle.serf_wire.proofs.Names.{◌≡◌, ℕ, zero, suc, ◌+◌, ◌≤◌, ℤ, pos, negsuc, List, [], ◌∷◌, ◌++◌, length, Bool, true, false, cond, ◌==◌, Option, Some, None, refl, ap, arith, length-append, Tree, nil, flag, int, raw, array, pairs, Items, no_items, item, Pairs, no_pairs, pair, Packs, PackItems, PackPairs, raw_of, place_of, item_list, pair_list, greatest_clock}
-use Rattle.serf_wire.specs.declared.fault.WireFault.{WireFault}
-use Rattle.serf_wire.specs.declared.fault.WireFault.TheVariants.{BadKey, Twice, WrongKind, OutOfRange, GreatestTime}
-use Rattle.serf_wire.specs.declared.layout.Layout.{Layout}
-use Rattle.serf_wire.specs.declared.layout.Kind.{Kind}
+use Rattle.serf_wire.proofs.Names.{Bool, List, None, Option, Some, [], ap, arith, cond, false, length, length-append, negsuc, pos, refl, suc, true, zero, ℕ, ℤ, ◌++◌, ◌+◌, ◌==◌, ◌∷◌, ◌≡◌, ◌≤◌, greatest_clock, PackItems, PackPairs, Packs, Items, Pairs, Tree, array, flag, int, item, nil, no_items, no_pairs, pair, pairs, raw, item_list, pair_list, place_of, raw_of, at, faults_behind, field_faults, items_faults, key_faults, kind_faults, layout_faults, list_faults, map_faults, name_faults, number_faults, signed_faults, status_faults, status_time_faults, text_faults, time_fault, time_faults, truth_faults, unless, value_faults, fits, has_key, text, truth, up_to, FaultsInOrder, InOrder, map_place, fields_of, kind_in, WireFault, BadKey, GreatestTime, OutOfRange, Twice, WrongKind, Kind, Layout}
 use Rattle.serf_wire.specs.declared.layout.Kind.TheVariants as kinds
-use Rattle.serf_wire.specs.Layout.{fields_of, kind_in}
-use Rattle.serf_wire.specs.Fields.{text, truth, up_to, fits, has_key}
-use Rattle.serf_wire.specs.Faults.{at, unless, number_faults, time_fault, time_faults, text_faults, truth_faults, signed_faults, items_faults, list_faults, name_faults, status_time_faults, status_faults, field_faults, key_faults, faults_behind, map_faults, kind_faults, value_faults, layout_faults}
-use Rattle.serf_wire.specs.Laws.{map_place, InOrder, FaultsInOrder}
 
 -- ---- lists in order
 

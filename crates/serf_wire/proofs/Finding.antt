@@ -1,17 +1,7 @@
 -- What is found of a map's fields, one pair after another.
-use Rattle.serf_wire.proofs.Names.{◌≡◌, ◌≢◌, ℕ, ◌+◌, ◌<◌, ◌≤◌, List, [], ◌∷◌, ◌++◌, length, Bool, true, false, ◌||◌, cond, Option, Some, None, is_some, IfNone, get_or, set, refl, sym, ap, ◌∙◌, arith, bytes_eq, option_map, get_or-set_same, get_or-set_other, length-set, length-map, View, Tree, raw_of, tree_of}
-use Rattle.serf_wire.specs.declared.found.FoundFields.{FoundFields}
-use Rattle.serf_wire.specs.declared.layout.Layout.{Layout}
+use Rattle.serf_wire.proofs.Names.{Bool, IfNone, List, None, Option, Some, [], ap, arith, cond, false, get_or, is_some, length, refl, set, sym, true, ℕ, ◌++◌, ◌+◌, ◌<◌, ◌||◌, ◌∙◌, ◌∷◌, ◌≡◌, ◌≢◌, ◌≤◌, get_or-set_other, get_or-set_same, length-map, length-set, option_map, bytes_eq, Tree, raw_of, tree_of, View, at, first, key_faults, has_key, is_key, values_of, Finds, found_at, trees_found, field_at, field_in, fields_of, kind_in, tree_or_nil, value_of_key, WireFault, Twice, FoundFields, Kind, Layout}
 use Rattle.serf_wire.specs.declared.layout.Layout.TheVariants as layouts
 use Rattle.serf_wire.specs.declared.layout.Field.{Field}
-use Rattle.serf_wire.specs.declared.layout.Kind.{Kind}
-use Rattle.serf_wire.specs.Layout.{fields_of, field_at, field_in, kind_in}
-use Rattle.serf_wire.specs.Fields.{is_key, has_key, values_of}
-use Rattle.serf_wire.specs.declared.fault.WireFault.{WireFault}
-use Rattle.serf_wire.specs.declared.fault.WireFault.TheVariants.{Twice}
-use Rattle.serf_wire.specs.Faults.{at, key_faults, first}
-use Rattle.serf_wire.specs.Lookups.{value_of_key, tree_or_nil}
-use Rattle.serf_wire.specs.Found.{trees_found, found_at, Finds}
 use Rattle.serf_wire.proofs.Sound.{same_text, text_is}
 
 -- ---- fields and their places

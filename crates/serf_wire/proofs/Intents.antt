@@ -1,23 +1,12 @@
 -- What packets are as intents, exactly.
-use Rattle.serf_wire.proofs.Names.{◌≡◌, ◌↔◌, ℕ, List, [], ◌∷◌, false, Option, Some, None, Result, Ok, Err, MatchResult, IfOk, IfErr, IfSome, IsOkAnd, codes, refl, sym, ap, subst, ◌∙◌, option_map, same_Some, Tree, Gives, whole_at, pair_list}
-use Rattle.std.specs.Prelude.{Bool, IsSomeAnd}
-use Rattle.serf_wire.specs.Below.{Below}
-use Rattle.serf_wire.specs.declared.fault.WireFault.{WireFault}
+use Rattle.serf_wire.proofs.Names.{Err, IfErr, IfOk, IfSome, IsOkAnd, List, MatchResult, None, Ok, Option, Result, Some, [], ap, codes, false, refl, subst, sym, ℕ, ◌↔◌, ◌∙◌, ◌∷◌, ◌≡◌, same_Some, option_map, IsSomeAnd, Gives, whole_at, Tree, pair_list, Below, checked_pairs, made_of, layout_faults, value_faults, text, time, truth, values_of, HasIntent, Intent, IsFirstIntentFault, IsFirstIntentFaultBehind, IsJoin, IsLeave, IsOther, IsUnknown, Join, Leave, ReadsIntents, SpellsIntent, SpellsIntentBehind, intent_behind, intent_in, intent_layout, intent_of, intent_type_of, join, join_in, leave, leave_in, other_message, read_intent_map, intent_read, class_of, fields_of, text_in, time_in, truth_in, IsFirstMapFault, WireFault, IntentType, Class}
+use Rattle.std.specs.Prelude.{Bool}
 use Rattle.serf_wire.specs.declared.fault.WireFault.TheVariants as faults
 use Rattle.serf_wire.specs.declared.intent.Intent.{Intent as Lent}
-use Rattle.serf_wire.specs.declared.intent.IntentType.{IntentType}
 use Rattle.serf_wire.specs.declared.intent.IntentType.TheVariants as types
-use Rattle.serf_wire.specs.declared.layout.Class.{Class}
 use Rattle.serf_wire.specs.declared.layout.Class.TheVariants as classes
 use Rattle.serf_wire.specs.declared.layout.Kind.TheVariants as kinds
 use Rattle.serf_wire.specs.declared.layout.Layout.TheVariants as layouts
-use Rattle.serf_wire.specs.Layout.{class_of, fields_of}
-use Rattle.serf_wire.specs.Fields.{text, truth, time, values_of}
-use Rattle.serf_wire.specs.Faults.{layout_faults, value_faults}
-use Rattle.serf_wire.specs.Lookups.{text_in, truth_in, time_in}
-use Rattle.serf_wire.specs.Spells.{IsFirstMapFault}
-use Rattle.serf_wire.specs.Checked.{checked_pairs, made_of}
-use Rattle.serf_wire.specs.Intent.{Join, Leave, Intent, join, leave, intent_of, intent_type_of, intent_layout, IsJoin, IsLeave, HasIntent, SpellsIntentBehind, SpellsIntent, IsUnknown, IsFirstIntentFaultBehind, IsFirstIntentFault, IsOther, join_in, leave_in, intent_in, other_message, read_intent_map, intent_behind, intent_read, ReadsIntents}
 use Rattle.serf_wire.proofs.CheckedMaps.{IsChecked, value_checked, sound_checked, faulty_checked}
 use Rattle.serf_wire.proofs.Meanings.{text_exact, truth_exact, time_exact}
 use Rattle.serf_wire.proofs.MessageFields.{field_there, sole_there}

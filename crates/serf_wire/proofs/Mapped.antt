@@ -1,11 +1,5 @@
 -- Lists that were handed in for a push/pull, and what they mean.
-use Rattle.serf_wire.proofs.Names.{◌≡◌, ◌<◌, List, [], ◌∷◌, ◌++◌, map, Bool, false, ◌||◌, ap, refl, sym, ◌∙◌, length, list_any, flat_map, length-map, raw_bytes}
-use Rattle.serf_wire.specs.declared.message.PushPullParts.{PushPullParts}
-use Rattle.serf_wire.specs.Buffers.{slots_lent}
-use Rattle.serf_wire.specs.Canonical.{is_long, is_long_slot, has_long, canonical, status_time_bytes, slot_bytes}
-use Rattle.serf_wire.specs.Message.{push_pull}
-use Rattle.serf_wire.specs.Lists.{status_of}
-use Rattle.serf_wire.specs.Parts.{push_pull_of, parts_bytes, slot_content}
+use Rattle.serf_wire.proofs.Names.{Bool, List, [], ap, false, length, map, refl, sym, ◌++◌, ◌<◌, ◌||◌, ◌∙◌, ◌∷◌, ◌≡◌, length-map, flat_map, list_any, raw_bytes, slots_lent, is_long, is_long_slot, slot_bytes, status_time_bytes, canonical, has_long, status_of, push_pull, parts_bytes, push_pull_of, slot_content, PushPullParts}
 use Rattle.serf_wire.proofs.Short.{short, neither}
 use Rattle.serf_wire.proofs.Unused.{any_lent}
 

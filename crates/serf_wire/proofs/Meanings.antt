@@ -1,13 +1,6 @@
 -- Kinds of fields: a value without faults has a meaning, and one with a meaning has no faults.
-use Rattle.serf_wire.proofs.Names.{◌≡◌, ℕ, ℤ, pos, List, [], ◌∷◌, ◌++◌, map, Bool, true, false, ◌&&◌, cond, is_some, Option, Some, None, unwrap_or, refl, ap, ◌∙◌, Tree, nil, flag, int, raw, array, pairs, item_list, pair_list, raw_of, greatest_clock}
-use Rattle.serf_wire.specs.declared.fault.WireFault.{WireFault}
-use Rattle.serf_wire.specs.declared.layout.Layout.{Layout}
-use Rattle.serf_wire.specs.declared.layout.Kind.{Kind}
-use Rattle.serf_wire.specs.Spells.{HasRawKeys}
+use Rattle.serf_wire.proofs.Names.{Bool, List, None, Option, Some, [], ap, cond, false, is_some, map, pos, refl, true, unwrap_or, ℕ, ℤ, ◌&&◌, ◌++◌, ◌∙◌, ◌∷◌, ◌≡◌, greatest_clock, Tree, array, flag, int, nil, pairs, raw, item_list, pair_list, raw_of, faults_behind, items_faults, list_faults, map_faults, name_faults, number_faults, signed_faults, status_faults, status_time_faults, text_faults, time_faults, truth_faults, unless, all, both, fits, in_front, list, map_of, number, raw_keys, signed, status, status_time, text, time, truth, up_to, list_in, number_in, signed_in, status_in, status_time_in, text_in, time_in, truth_in, HasRawKeys, WireFault, Kind, Layout}
 use Rattle.serf_wire.proofs.Sound.{raw_keys as keys_of}
-use Rattle.serf_wire.specs.Fields.{text, truth, number, time, signed, up_to, fits, in_front, all, list, both, status_time, status, raw_keys, map_of}
-use Rattle.serf_wire.specs.Lookups.{text_in, truth_in, number_in, time_in, signed_in, list_in, status_time_in, status_in}
-use Rattle.serf_wire.specs.Faults.{unless, number_faults, time_faults, text_faults, truth_faults, signed_faults, items_faults, list_faults, name_faults, status_time_faults, status_faults, map_faults, faults_behind}
 
 -- the meaning is there where there is no fault, and only there
 pub record IsExact {X A : Type 0} (meaning : X → Option A) (value : X → A) (faults : X → List WireFault) : Type 0 where

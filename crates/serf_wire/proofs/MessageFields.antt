@@ -1,18 +1,8 @@
 -- Messages, slots and their events: the fields of a map without faults, and back.
-use Rattle.serf_wire.proofs.Names.{◌≡◌, ℕ, zero, suc, ℤ, List, [], ◌∷◌, Bool, false, Option, Some, codes, refl, sym, ◌∙◌, Tree, nil, flag, int, raw, array, pairs, greatest_clock}
-use Rattle.serf_wire.specs.declared.layout.Layout.{Layout}
+use Rattle.serf_wire.proofs.Names.{Bool, List, Option, Some, [], codes, false, refl, suc, sym, zero, ℕ, ℤ, ◌∙◌, ◌∷◌, ◌≡◌, greatest_clock, Tree, array, flag, int, nil, pairs, raw, faults_behind, map_faults, value_faults, both, event_body, field, list, number, signed, slot, sole, status, text, time, truth, values_of, fields_of, kind_in, event_body_in, list_in, number_in, signed_in, slot_in, status_in, text_in, time_in, truth_in, value_of_key, PushPull, Query, QueryResponse, UserEvent, push_pull_in, query_in, response_in, SlotContent, empty, held, HasRawKeys, IsPushPull, IsQuery, IsQueryResponse, IsUserEvent, Kind, Layout, EventBody}
 use Rattle.serf_wire.specs.declared.layout.Layout.TheVariants as layouts
-use Rattle.serf_wire.specs.declared.layout.Kind.{Kind}
 use Rattle.serf_wire.specs.declared.layout.Kind.TheVariants as kinds
-use Rattle.serf_wire.specs.Layout.{fields_of, kind_in}
-use Rattle.serf_wire.specs.Fields.{field, sole, values_of, text, truth, number, time, signed, list, status, both, event_body, slot}
-use Rattle.serf_wire.specs.Faults.{value_faults, faults_behind, map_faults}
-use Rattle.serf_wire.specs.Message.{UserEvent, Query, QueryResponse, PushPull}
-use Rattle.serf_wire.specs.Lookups.{value_of_key, text_in, truth_in, number_in, time_in, signed_in, list_in, status_in, event_body_in, slot_in}
-use Rattle.serf_wire.specs.Reading.{event_in, query_in, response_in, push_pull_in}
-use Rattle.serf_wire.specs.Spells.{IsUserEvent, IsQuery, IsQueryResponse, IsPushPull, HasRawKeys}
-use Rattle.serf_wire.specs.declared.texts.EventBody.{EventBody}
-use Rattle.serf_wire.specs.Slots.{SlotContent, empty, held}
+use Rattle.serf_wire.specs.Reading.{event_in}
 use Rattle.serf_wire.proofs.Meanings.{IsExact, text_exact, truth_exact, number_exact, time_exact, signed_exact, list_exact, status_exact, map_exact, pairs_value, both_from}
 use Rattle.serf_wire.proofs.Sound.{Pairs, first_is, first_sound, raw_keys, IsSole, clean, each_known}
 

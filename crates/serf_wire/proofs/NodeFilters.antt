@@ -1,8 +1,5 @@
 -- Node filters that were written.
-use Rattle.serf_wire.proofs.Names.{◌≡◌, ℕ, ◌+◌, ◌<◌, ◌↔◌, List, ◌∷◌, length, map, false, lit<, refl, sym, subst, ◌∙◌, Contains, list_any, bytes_eq, Packs, array, Items, array_head, raw_bytes, length-map}
-use Rattle.serf_wire.specs.Below.{Below}
-use Rattle.serf_wire.specs.Canonical.{is_long, list_bytes}
-use Rattle.serf_wire.specs.Passes.{Passes, passes_of, canonical_filter}
+use Rattle.serf_wire.proofs.Names.{List, false, length, lit<, map, refl, subst, sym, ℕ, ◌+◌, ◌<◌, ◌↔◌, ◌∙◌, ◌∷◌, ◌≡◌, length-map, Contains, list_any, bytes_eq, array_head, raw_bytes, Packs, Items, array, Below, is_long, list_bytes, Passes, canonical_filter, passes_of}
 use Rattle.serf_wire.proofs.Mapped.{any_mapped, joined_mapped}
 use Rattle.serf_wire.proofs.Spelling.{items_from, text_part}
 use Rattle.serf_wire.proofs.CanonicalPackets.{texts_are_part, texts_read}

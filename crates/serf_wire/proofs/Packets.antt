@@ -1,20 +1,9 @@
 -- What packets are, exactly.
-use Rattle.serf_wire.proofs.Names.{◌≡◌, ℕ, List, [], ◌∷◌, Option, Some, None, Result, Ok, Err, MatchResult, IfOk, IfErr, IsOkAnd, refl, sym, ap, subst, ◌∙◌, PackFault, Tree, nil, flag, int, raw, array, pairs, Gives, whole_at, pair_list}
-use Rattle.serf_wire.specs.Below.{Below}
-use Rattle.serf_wire.specs.declared.fault.WireFault.{WireFault}
+use Rattle.serf_wire.proofs.Names.{Err, IfErr, IfOk, IsOkAnd, List, MatchResult, None, Ok, Option, Result, Some, [], ap, refl, subst, sym, ℕ, ◌∙◌, ◌∷◌, ◌≡◌, Gives, whole_at, Tree, array, flag, int, nil, pairs, raw, pair_list, PackFault, Below, checked_pairs, made_of, decoded_behind, read_value, decoded, first, message_faults, class_of, layout_of, Message, foreign, message_of, push_pull, query, query_response, user_event, message_in, unless_fault, HasFields, IsFirstFault, IsFirstFaultBehind, IsFirstMapFault, Spells, SpellsBehind, SpellsMap, WireFault, Class, MessageType}
 use Rattle.serf_wire.specs.declared.fault.WireFault.TheVariants as faults
-use Rattle.serf_wire.specs.declared.layout.MessageType.{MessageType}
 use Rattle.serf_wire.specs.declared.layout.MessageType.TheVariants as types
-use Rattle.serf_wire.specs.declared.layout.Class.{Class}
 use Rattle.serf_wire.specs.declared.layout.Class.TheVariants as classes
 use Rattle.serf_wire.specs.declared.message.Message.{Message as Lent}
-use Rattle.serf_wire.specs.Layout.{class_of, layout_of}
-use Rattle.serf_wire.specs.Checked.{checked_pairs, made_of}
-use Rattle.serf_wire.specs.Faults.{message_faults, first}
-use Rattle.serf_wire.specs.Message.{Message, user_event, query, query_response, push_pull, foreign, message_of}
-use Rattle.serf_wire.specs.Reading.{message_in, unless_fault}
-use Rattle.serf_wire.specs.Spells.{HasFields, SpellsMap, SpellsBehind, Spells, IsFirstMapFault, IsFirstFaultBehind, IsFirstFault}
-use Rattle.serf_wire.specs.Decoded.{read_value, decoded_behind, decoded}
 use Rattle.serf_wire.proofs.CheckedMaps.{IsChecked, value_checked, sound_checked, faulty_checked}
 use Rattle.serf_wire.proofs.MessageFields.{event_there, event_clean, event_is, query_there, query_clean, query_is, response_there, response_clean, response_is, push_pull_there, push_pull_clean, push_pull_is}
 

@@ -1,13 +1,7 @@
 -- Which filters let which nodes pass.
-use Rattle.serf_wire.proofs.Names.{◌≡◌, ℕ, suc, List, [], ◌∷◌, Bool, true, false, ◌||◌, cond, ◌==◌, Option, Some, None, Result, Ok, Err, refl, ap, subst, arith, eqb-true, Contains, list_any, bytes_eq, list_any_at, PackFault, Tree, nil, flag, int, raw, array, pairs, Items, Packs, whole_at, item_list, kind_of, Array}
-use Rattle.serf_wire.specs.declared.fault.WireFault.{WireFault}
-use Rattle.serf_wire.specs.Faults.{first, list_faults, text_faults}
-use Rattle.serf_wire.specs.Lookups.{text_in, list_in}
+use Rattle.serf_wire.proofs.Names.{Bool, Err, List, None, Ok, Option, Result, Some, [], ap, arith, cond, eqb-true, false, refl, subst, suc, true, ℕ, ◌==◌, ◌||◌, ◌∷◌, ◌≡◌, list_any_at, Contains, list_any, bytes_eq, Packs, whole_at, Items, Tree, array, flag, int, nil, pairs, raw, item_list, kind_of, PackFault, Array, Below, first, list_faults, text_faults, all, text, list_in, text_in, NamesNode, Passes, is_among, names_node, value_names_node, passes_of, WireFault}
 use Rattle.serf_wire.proofs.Stepping.{no_first}
 use Rattle.serf_wire.proofs.Meanings.{list_exact, text_exact}
-use Rattle.serf_wire.specs.Below.{Below}
-use Rattle.serf_wire.specs.Fields.{text, all}
-use Rattle.serf_wire.specs.Passes.{NamesNode, Passes, is_among, names_node, value_names_node, passes_of}
 use Rattle.serf_wire.proofs.Sound.{same_text, text_is}
 
 pub any_contains : (node : List ℕ) (names : List (List ℕ)) → list_any (λ name. bytes_eq name node) names ≡ true → Contains names node

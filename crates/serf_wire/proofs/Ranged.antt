@@ -1,14 +1,5 @@
 -- What is written is in range.
-use Rattle.serf_wire.proofs.Names.{◌≡◌, ◌<◌, List, [], ◌∷◌, map, ℤ, pos, negsuc, Bool, true, false, ◌&&◌, nat_lt, Some, refl, arith, nat_tests, list_all, AllByRecursion}
-use mir.Val.{SFits}
-use mir.Syntax.{w64}
-use Rattle.serf_wire.specs.declared.lists.StatusTime.{StatusTime}
-use Rattle.serf_wire.specs.declared.texts.EventBody.{EventBody}
-use Rattle.serf_wire.specs.declared.texts.TimeSlot.{TimeSlot}
-use Rattle.serf_wire.specs.Fields.{fits}
-use Rattle.serf_wire.specs.Ranges.{IsTimed}
-use Rattle.serf_wire.specs.Lists.{status_of}
-use Rattle.serf_wire.specs.Parts.{slot_content}
+use Rattle.serf_wire.proofs.Names.{Bool, List, Some, [], arith, false, map, nat_lt, negsuc, pos, refl, true, ℤ, ◌&&◌, ◌<◌, ◌∷◌, ◌≡◌, nat_tests, AllByRecursion, list_all, w64, SFits, fits, status_of, slot_content, IsTimed, StatusTime, EventBody, TimeSlot}
 
 and_true : (a b : Bool) → (a && b) ≡ true → (a ≡ true) × (b ≡ true)
 and_true true b e = (refl, e)

@@ -1,7 +1,5 @@
 -- Lists of which no text is too long.
-use Rattle.serf_wire.proofs.Names.{◌≡◌, ℕ, ◌<◌, List, length, Bool, true, false, ◌||◌, arith, refl, nat_tests, list_any}
-use Rattle.serf_wire.specs.Canonical.{is_long, has_long}
-use Rattle.serf_wire.specs.Message.{UserEvent, Query, QueryResponse, user_event, query, query_response}
+use Rattle.serf_wire.proofs.Names.{Bool, List, arith, false, length, refl, true, ℕ, ◌<◌, ◌||◌, ◌≡◌, nat_tests, list_any, is_long, has_long, Query, QueryResponse, UserEvent, query, query_response, user_event}
 
 pub short : {X : Type 0} (xs : List X) → is_long xs ≡ false → length xs < 4294967296
 short xs e = grind (arith, nat_tests)

@@ -1,19 +1,8 @@
 -- The texts of the events of a message are bytes, where the packet is.
-use Rattle.serf_wire.proofs.Names.{◌≡◌, ℕ, zero, suc, ◌+◌, Bool, true, false, cond, List, [], ◌∷◌, ◌++◌, length, Option, Some, None, Ok, refl, sym, subst, arith, AllByRecursion, same_Some, Tree, nil, flag, int, raw, array, pairs, Items, no_items, item, Pairs, no_pairs, pair, Packs, PackItems, PackPairs, item_list, pair_list}
+use Rattle.serf_wire.proofs.Names.{Bool, List, None, Ok, Option, Some, [], arith, cond, false, length, refl, subst, suc, sym, true, zero, ℕ, ◌++◌, ◌+◌, ◌∷◌, ◌≡◌, same_Some, AllByRecursion, PackItems, PackPairs, Packs, Items, Pairs, Tree, array, flag, int, item, nil, no_items, no_pairs, pair, pairs, raw, item_list, pair_list, Below, AreBytes, EventsHaveBytes, HasBytes, SlotHasBytes, decoded, all, both, event_body, field, in_front, is_key, list, raw_keys, slot, sole, text, time, values_of, class_of, Message, push_pull, query, query_response, user_event, SlotContent, empty, held, HasFields, Spells, SpellsBehind, Class, MessageType, EventBody}
 use Rattle.std.specs.Prelude.{codes}
-use Rattle.serf_wire.specs.Below.{Below}
-use Rattle.serf_wire.specs.declared.layout.MessageType.{MessageType}
 use Rattle.serf_wire.specs.declared.layout.MessageType.TheVariants as types
-use Rattle.serf_wire.specs.declared.layout.Class.{Class}
 use Rattle.serf_wire.specs.declared.layout.Class.TheVariants as classes
-use Rattle.serf_wire.specs.declared.texts.EventBody.{EventBody}
-use Rattle.serf_wire.specs.Bytes.{AreBytes, EventsHaveBytes, HasBytes, SlotHasBytes}
-use Rattle.serf_wire.specs.Layout.{class_of}
-use Rattle.serf_wire.specs.Fields.{all, both, event_body, field, in_front, is_key, list, raw_keys, slot, sole, text, time, values_of}
-use Rattle.serf_wire.specs.Slots.{SlotContent, empty, held}
-use Rattle.serf_wire.specs.Message.{Message, user_event, query, query_response, push_pull}
-use Rattle.serf_wire.specs.Spells.{HasFields, Spells, SpellsBehind}
-use Rattle.serf_wire.specs.Decoded.{decoded}
 use Rattle.serf_wire.proofs.Packets.{decoded_spelled}
 use Rattle.serf_wire.proofs.SpelledRanges.{both_has}
 

@@ -1,18 +1,8 @@
 -- The numbers of a message that a packet spells are in range.
-use Rattle.serf_wire.proofs.Names.{◌≡◌, ℕ, ◌<◌, ◌≤◌, nat_le, nat_lt, Bool, true, false, cond, List, [], ◌∷◌, Option, Some, None, Ok, ℤ, pos, negsuc, refl, sym, subst, arith, AllByRecursion, leb-true, same_Some, cond_some, Tree, nil, flag, int, raw, array, pairs, raw_of, item_list, pair_list, greatest_clock}
+use Rattle.serf_wire.proofs.Names.{Bool, List, None, Ok, Option, Some, [], arith, cond, false, nat_le, nat_lt, negsuc, pos, refl, subst, sym, true, ℕ, ℤ, ◌<◌, ◌∷◌, ◌≡◌, ◌≤◌, leb-true, cond_some, same_Some, AllByRecursion, greatest_clock, Tree, array, flag, int, nil, pairs, raw, item_list, pair_list, raw_of, Below, decoded, all, both, event_body, field, fits, in_front, list, number, raw_keys, signed, slot, sole, status, status_time, time, up_to, values_of, class_of, Message, push_pull, query, query_response, user_event, InRange, IsTimed, SlotContent, empty, held, HasFields, Spells, SpellsBehind, Class, MessageType}
 use Rattle.std.specs.Prelude.{codes}
-use Rattle.serf_wire.specs.Below.{Below}
-use Rattle.serf_wire.specs.declared.layout.MessageType.{MessageType}
 use Rattle.serf_wire.specs.declared.layout.MessageType.TheVariants as types
-use Rattle.serf_wire.specs.declared.layout.Class.{Class}
 use Rattle.serf_wire.specs.declared.layout.Class.TheVariants as classes
-use Rattle.serf_wire.specs.Layout.{class_of}
-use Rattle.serf_wire.specs.Fields.{number, up_to, time, fits, signed, event_body, sole, values_of, field, list, all, in_front, slot, status, status_time, both, raw_keys}
-use Rattle.serf_wire.specs.Slots.{SlotContent, empty, held}
-use Rattle.serf_wire.specs.Message.{Message, user_event, query, query_response, push_pull}
-use Rattle.serf_wire.specs.Ranges.{InRange, IsTimed}
-use Rattle.serf_wire.specs.Spells.{Spells, SpellsBehind, HasFields}
-use Rattle.serf_wire.specs.Decoded.{decoded}
 use Rattle.serf_wire.proofs.Packets.{decoded_spelled}
 
 -- ---- what holds of all that values stand for holds of all that is made of them

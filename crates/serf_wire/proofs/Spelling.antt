@@ -1,9 +1,6 @@
 -- Canonical packets are spellings: parts of values, put together.
-use Rattle.serf_wire.proofs.Names.{◌≡◌, ℕ, suc, ℤ, pos, negsuc, ◌+◌, ◌<◌, ◌≤◌, List, [], ◌∷◌, ◌++◌, map, length, Bool, true, false, ◌||◌, cond, Option, Some, None, nat_le, nat_lt, refl, sym, ap, subst, arith, nat_tests, flat_map, list_any, AllByRecursion, Tree, flag, int, raw, array, pairs, Items, no_items, item, Pairs, no_pairs, pair, Packs, PackItems, PackPairs, item_count, pair_count, IsHead, map_head, array_head, raw_head, raw_bytes, uint_bytes, int_bytes, flag_bytes, item_list}
+use Rattle.serf_wire.proofs.Names.{Bool, List, None, Option, Some, [], ap, arith, cond, false, length, map, nat_le, nat_lt, negsuc, pos, refl, subst, suc, sym, true, ℕ, ℤ, ◌++◌, ◌+◌, ◌<◌, ◌||◌, ◌∷◌, ◌≡◌, ◌≤◌, nat_tests, AllByRecursion, flat_map, list_any, array_head, flag_bytes, int_bytes, map_head, raw_bytes, raw_head, uint_bytes, IsHead, PackItems, PackPairs, Packs, item_count, pair_count, Items, Pairs, Tree, array, flag, int, item, no_items, no_pairs, pair, pairs, raw, item_list, Below, entry, all, fits, up_to}
 use Rattle.serf_pack.specs.declared.head.Head.TheVariants as heads
-use Rattle.serf_wire.specs.Below.{Below}
-use Rattle.serf_wire.specs.Canonical.{entry}
-use Rattle.serf_wire.specs.Fields.{all, up_to, fits}
 
 -- a value's bytes, and the value, wherever it stands
 pub record Part : Type 0 where

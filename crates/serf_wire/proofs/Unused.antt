@@ -1,8 +1,5 @@
 -- Slots that were never used, behind those in memory.
-use Rattle.serf_wire.proofs.Names.{◌≡◌, ℕ, zero, suc, ◌-◌, ◌<◌, ◌≤◌, List, [], ◌∷◌, ◌++◌, length, map, Some, slice_get, Bool, true, false, ◌||◌, replicate, refl, ◌∙◌, arith, list_any, list_all, list_any-append, list_all-append}
-use Rattle.serf_wire.specs.declared.lent_slots.LentSlots.{LentSlots}
-use Rattle.serf_wire.specs.declared.texts.TimeSlot.{TimeSlot}
-use Rattle.serf_wire.specs.Buffers.{slots_lent, unused_slot}
+use Rattle.serf_wire.proofs.Names.{Bool, List, Some, [], arith, false, length, map, refl, replicate, slice_get, suc, true, zero, ℕ, ◌++◌, ◌-◌, ◌<◌, ◌||◌, ◌∙◌, ◌∷◌, ◌≡◌, ◌≤◌, list_all-append, list_any-append, list_all, list_any, slots_lent, unused_slot, LentSlots, TimeSlot}
 
 any_none : {X : Type 0} (test : X → Bool) (n : ℕ) (x : X) → test x ≡ false → list_any test (replicate n x) ≡ false
 any_none test zero x fails = refl

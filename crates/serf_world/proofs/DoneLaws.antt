@@ -1,7 +1,5 @@
 -- What a world has done is a run: its lines show the run's turns, and all promises are kept in it.
-use Rattle.serf_world.proofs.Names.{zero, suc, inr, ◌≡◌, ℕ, Some, List, [], ◌∷◌, ◌++◌, refl, sym, ap, subst, ◌∙◌, map, All, slice_get, option_map, append-nil, map-append, All-nil, All-push, fold_push, Config, Action, Line, OpenQuery, ConcreteState, view_of, HoldsCounted, HoldsSent, Cluster, IdealNode, Run, after, run_of, start, step, trace_of, AreRepresentable, AreConfigs, HasSizes, Turn, turns_of}
-use Rattle.serf_model.specs.Tails.{BringsTold}
-use Rattle.serf_world.specs.View.{HasDone, IsViewed, NodeState, StoresOpen, TakesStep, WorldState, node_of}
+use Rattle.serf_world.proofs.Names.{List, Some, [], ap, inr, map, refl, subst, suc, sym, zero, ℕ, ◌++◌, ◌∙◌, ◌∷◌, ◌≡◌, append-nil, map-append, All-nil, All-push, fold_push, option_map, All, slice_get, ConcreteState, view_of, Config, OpenQuery, HoldsCounted, HoldsSent, Cluster, IdealNode, Run, after, run_of, start, step, trace_of, AreRepresentable, AreConfigs, HasSizes, BringsTold, Turn, turns_of, Action, Line, HasDone, IsViewed, NodeState, StoresOpen, TakesStep, WorldState, node_of}
 use Rattle.serf_world.proofs.ResultLaws.{AreKept, AreShown}
 
 -- an agent that is stored is the view of one of the cluster

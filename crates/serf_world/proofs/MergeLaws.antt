@@ -1,17 +1,8 @@
 -- Over a sink with a plan a merge has one end.
-use Rattle.serf_world.proofs.Names.{All, Call, ◌≡◌, ◌≢◌, ℕ, ◌<◌, ◌-◌, ◌^◌, cond, Bool, true, false, List, [], ◌∷◌, ◌++◌, Option, Some, None, Result, Ok, Err, refl, sym, ap, subst, ◌∙◌, inl, inr, AllByRecursion, WireFault, EventBody, decoded, Message, PushPull, user_event, query, query_response, push_pull, foreign, TimedEntry, Device, Kept, EventOut, MergeFault, Outcome, Reason, ReceiveFault, SinkFault, Step, planned, ended, will, device_after, admission, received_as, IdealAgent, Receives, EndsAt, Merges, receive_one, after_event, delivered, handed_by, events_of, merge_refusal, AgentState, ConcreteState, view_of, IdealNode, Merged, merges_as, merges_events, merges_on, merges_packet, MergesRepresentable, IsRepresentable, append-nil, map, event_line, Handed}
-use Rattle.std.proofs.lemmas.List.Elements.{All-head, All-tail}
+use Rattle.serf_world.proofs.Names.{Bool, Err, List, None, Ok, Option, Result, Some, [], ap, cond, false, inl, inr, map, refl, subst, sym, true, ℕ, ◌++◌, ◌-◌, ◌<◌, ◌^◌, ◌∙◌, ◌∷◌, ◌≡◌, ◌≢◌, append-nil, All-head, All-tail, AllByRecursion, All, decoded, Message, PushPull, foreign, push_pull, query, query_response, user_event, WireFault, EventBody, Device, Kept, TimedEntry, Call, Step, ended, planned, will, device_after, admission, received_as, Handed, IdealAgent, IsTold, EndsAt, EndsHearing, Merges, Receives, ReceivesAfter, after_event, delivered, events_of, handed_by, hear, heard_by, merge_refusal, receive_one, told_least, AgentState, ConcreteState, view_of, EventOut, MergeFault, Outcome, Reason, ReceiveFault, SinkFault, IdealNode, Merged, event_line, merge_gives, merge_refusal_of, merges_as, merges_events, merges_heard, merges_on, merges_packet, MergesRepresentable, IsRepresentable, events_brought, events_in_packet, Answer, Line, Shows, TakesTurn, merge_answer}
 use Rattle.serf_agent.specs.declared.outcome.MergeFault.TheVariants as merges
-use Rattle.serf_model.specs.declared.line.Line.{Line}
-use Rattle.serf_model.specs.declared.line.Answer.{Answer}
 use Rattle.serf_model.specs.declared.line.Answer.TheVariants as answers
 use Rattle.serf_model.specs.declared.line.Refusal.TheVariants.{SinkFault as FailedSink}
-use Rattle.serf_agent.specs.KeptTexts.{IsTold}
-use Rattle.serf_agent.specs.States.{EndsHearing, ReceivesAfter, hear, heard_by, told_least}
-use Rattle.serf_model.specs.Cluster.{merge_gives, merge_refusal_of, merges_heard}
-use Rattle.serf_model.specs.Trace.{events_brought, events_in_packet}
-use Rattle.serf_world.specs.Turns.{merge_answer}
-use Rattle.serf_world.specs.Turns.{Shows, TakesTurn}
 use Rattle.serf_world.proofs.TurnLaws.{may-will, shows, steps-planned}
 
 -- a reason that isn't given

@@ -1,8 +1,7 @@
 -- What a run hands back shows a run of the model, which keeps all promises.
-use Rattle.serf_world.proofs.Names.{◌≡◌, ◌⊎◌, inl, inr, List, [], ◌∷◌, ◌++◌, Result, Ok, Err, refl, sym, ap, ◌∙◌, length, take, drop, take_all, arith, All, take-append-drop, All-take, Config, Action, RunFault, Trace, run_of, start, trace_of, KeepsPromises, AreConfigs, IsRun, ShowsKept, ShowsRun, HasSizes, outcome_of, turns_of}
+use Rattle.serf_world.proofs.Names.{Err, List, Ok, Result, [], ap, arith, drop, inl, inr, length, refl, sym, take, take_all, ◌++◌, ◌∙◌, ◌∷◌, ◌≡◌, ◌⊎◌, take-append-drop, All-take, All, Config, run_of, start, trace_of, KeepsPromises, AreConfigs, IsRun, ShowsKept, ShowsRun, HasSizes, BringsTold, CanTell, outcome_of, turns_of, Action, RunFault, Trace}
 use Rattle.std.specs.Prelude.{ℕ}
 use Rattle.serf_model.specs.declared.fault.RunFault.TheVariants as runs
-use Rattle.serf_model.specs.Tails.{BringsTold, CanTell}
 use Rattle.serf_model.specs.Trace.{Outcome}
 
 -- the law `turns_shown`, and the clauses of `run_promises`

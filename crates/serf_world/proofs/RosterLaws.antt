@@ -1,5 +1,5 @@
 -- Agents that can make a cluster, and one more.
-use Rattle.serf_world.proofs.Names.{◌≡◌, ◌+◌, ◌≤◌, ◌++◌, ◌∙◌, ℕ, List, [], ◌∷◌, Bool, true, false, Option, Some, None, refl, sym, ap, cond, length, length-append, arith, not, AllByRecursion, position_or_len, ltb-false, common_steps, append-nil, append_assoc, position_or_len_push, prefix_len-le-length, Config, is_sound, AreConfigs, has_name, twice_after, first_bad}
+use Rattle.serf_world.proofs.Names.{Bool, List, None, Option, Some, [], ap, arith, cond, false, length, length-append, refl, sym, true, ℕ, ◌++◌, ◌+◌, ◌∙◌, ◌∷◌, ◌≡◌, ◌≤◌, ltb-false, common_steps, append-nil, append_assoc, position_or_len_push, prefix_len-le-length, AllByRecursion, position_or_len, not, is_sound, Config, AreConfigs, first_bad, has_name, twice_after}
 use Rattle.std.specs.Prelude.{nat_lt}
 
 not-some : (b : Bool) (n : ℕ) (o : Option ℕ) → cond b (Some n) o ≡ None → b ≡ false

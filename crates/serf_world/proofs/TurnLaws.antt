@@ -1,21 +1,6 @@
 -- Over a sink with a plan a call of an agent has one end.
-use Rattle.serf_world.proofs.Names.{zero, suc, ◌<◌, ◌≤◌, arith, length, set, get_or, ◌≡◌, ℕ, nat_le, cond, Bool, true, false, List, [], ◌∷◌, Option, Some, None, IsSome, MatchBool, map, Result, Ok, Err, refl, sym, ap, subst, ◌∙◌, slice_get, AllByRecursion, length-map, map-set, All-from_recursion, All-set, recursion_from_All, get_or_from_slice_get, slice_get_within, ClockKind, clock_line, Device, FailurePlan, SnapshotView, Writing, Kept, Failed, IsObservable, MayWrite, will_write, durable_left_by, last_line, RespondFault, Handed, respond_fault, Call, Ends, Notes, Replaces, MayNote, MayEnd, planned, ended, will, will_note, IdealAgent, Steps, AgentState, ConcreteState, view_of, Act, Line, NoAgent, IdealNode, Cluster, Applied, Done, apply, called, line_only, on_agent, responds, responds_as, with_handed, AreRepresentable, IsRepresentable, append-nil, EventOut, event_line, only, ◌++◌, ◌≢◌}
-use Rattle.serf_snap.specs.declared.snapshot.NoteFault.{NoteFault}
-use Rattle.serf_snap.specs.KeptNotes.{kept_bytes}
-use Rattle.serf_snap.specs.Notes.{MayReplaceBy, will_put}
-use Rattle.serf_agent.specs.Sound.{IsSound}
-use Rattle.serf_agent.specs.Told.{text_with}
-use Rattle.serf_model.specs.declared.line.Answer.{Answer}
-use Rattle.serf_model.specs.declared.line.Refusal.{Refusal}
-use Rattle.serf_model.specs.Cluster.{does_nothing, note_gives, note_refusal, numbers_from, refused}
+use Rattle.serf_world.proofs.Names.{Bool, Err, IsSome, List, MatchBool, None, Ok, Option, Result, Some, [], ap, arith, cond, false, get_or, length, map, nat_le, refl, set, subst, suc, sym, true, zero, ℕ, ◌++◌, ◌<◌, ◌∙◌, ◌∷◌, ◌≡◌, ◌≢◌, ◌≤◌, append-nil, length-map, map-set, All-from_recursion, All-set, recursion_from_All, get_or_from_slice_get, slice_get_within, AllByRecursion, All, slice_get, clock_line, Device, FailurePlan, kept_bytes, Failed, IsObservable, Kept, MayReplaceBy, MayWrite, SnapshotView, Writing, durable_left_by, last_line, will_put, will_write, ClockKind, NoteFault, Call, Ends, MayEnd, Notes, Replaces, ended, planned, will, Handed, IdealAgent, IsTold, respond_fault, IsSound, Steps, MayNote, text_with, will_note, AgentState, ConcreteState, view_of, EventOut, RespondFault, Applied, Cluster, Done, IdealNode, apply, called, does_nothing, event_line, line_only, note_gives, note_refusal, numbers_from, on_agent, only, refused, responds, responds_as, with_handed, events_given, AreRepresentable, IsRepresentable, BringsToldBy, CanTellAct, given_by, Act, Answer, Line, Refusal, NoAgent, Shows, TakesTurn, answer_after, answer_gives, slot_after, slot_gives, IsViewed, NodeState, TakesStep, WorldState, node_of}
 use Rattle.serf_model.specs.declared.line.Answer.TheVariants as answers
-use Rattle.std.specs.Prelude.{All}
-use Rattle.serf_agent.specs.KeptTexts.{IsTold}
-use Rattle.serf_model.specs.HandOuts.{events_given}
-use Rattle.serf_model.specs.Tails.{BringsToldBy, CanTellAct}
-use Rattle.serf_model.specs.Trace.{given_by}
-use Rattle.serf_world.specs.View.{IsViewed, NodeState, TakesStep, WorldState, node_of}
-use Rattle.serf_world.specs.Turns.{Shows, TakesTurn, slot_gives, slot_after, answer_gives, answer_after}
 
 abbrev view : (m e q : ℕ) (stopped : Bool) (k : Option (List ℕ)) (p : Option FailurePlan) → SnapshotView
 view m e q stopped k p = record { member_clock = m; event_clock = e; query_clock = q; stopped = stopped; durable = k; plan = p }

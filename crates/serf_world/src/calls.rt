@@ -1,4 +1,5 @@
-//! What an agent of a cluster does, but for packets that it is given.
+//! What the agent of `node`, number `number` of the cluster, does by itself; `sent` are all packets of the cluster. A
+//! clause `turn` says that the node takes the turn of each ideal node `m` whose view it is, and gives its line.
 
 ghost use Rattle.std.specs.Prelude.{◌≡◌, ◌≢◌, ◌++◌, ℕ, List, [], IfOk, OnErr, unwrap_or, true, Err};
 ghost use Rattle.serf_window.specs.Texts.{event_of};
@@ -25,7 +26,7 @@ use serf_snap::{MemSink, NoteFault};
 use serf_wire::Bytes;
 use std::alloc::{AllocError, Global};
 
-/// An agent fires an event.
+/// Fires the event `name` with `payload`, and appends its packet to `sent`. `coalesce`: hosts may coalesce it.
 #[inline(always)]
 pub(crate) fn fire_at(
     alloc: Global,
@@ -57,7 +58,7 @@ pub(crate) fn fire_at(
     Ok(line)
 }
 
-/// An agent sends its state.
+/// Appends a push/pull packet with the agent's clocks and events to `sent`; it names no members.
 pub(crate) fn state_at(
     alloc: Global,
     number: u64,
@@ -78,7 +79,7 @@ pub(crate) fn state_at(
     }
 }
 
-/// An agent fires a query.
+/// Fires `query`: appends its packet and the agent's ack, if it makes one, to `sent`; `node` keeps it if handed out.
 pub(crate) fn query_at(
     alloc: Global,
     number: u64,
@@ -122,7 +123,7 @@ pub(crate) fn query_at(
     Ok(line)
 }
 
-/// The line of a note of the member clock, or of a compaction.
+/// The line of a save or a compaction that ended as `noted`: `answer`, or else the refusal.
 fn note_line(
     alloc: Global,
     answer: Answer,
@@ -137,7 +138,7 @@ fn note_line(
     }
 }
 
-/// An agent notes its member clock.
+/// Writes the line of the agent's member clock to its snapshot.
 pub(crate) fn save_at(alloc: Global, node: &mut Node) -> Result<Line, AllocError>
     ensures { (m : IdealNode) (number : ℕ) (sent : List (List ℕ)) → IsRepresentable m.agent
         → node.old ≡ node_of m → IfOk result (TakesTurn number sent sent (saves m) node.new) }
@@ -147,7 +148,7 @@ pub(crate) fn save_at(alloc: Global, node: &mut Node) -> Result<Line, AllocError
     Ok(line)
 }
 
-/// An agent replaces its snapshot's text by its last lines.
+/// Compacts the agent's snapshot: its text is replaced by its last lines.
 pub(crate) fn compact_at(alloc: Global, node: &mut Node) -> Result<Line, AllocError>
     ensures { (m : IdealNode) (number : ℕ) (sent : List (List ℕ)) → IsRepresentable m.agent
         → node.old ≡ node_of m → IfOk result (TakesTurn number sent sent (compacts m) node.new) }
@@ -157,7 +158,7 @@ pub(crate) fn compact_at(alloc: Global, node: &mut Node) -> Result<Line, AllocEr
     Ok(line)
 }
 
-/// An agent closes its open queries that are past their deadlines.
+/// Closes the agent's open queries whose deadlines are past at `now`, in nanoseconds.
 pub(crate) fn close_at(alloc: Global, node: &mut Node, now: u64) -> Line
     ensures { (m : IdealNode) (number : ℕ) (sent : List (List ℕ)) → IsRepresentable m.agent
         → node.old ≡ node_of m → TakesTurn number sent sent (closes m now) node.new result }
@@ -166,7 +167,7 @@ pub(crate) fn close_at(alloc: Global, node: &mut Node, now: u64) -> Line
     line_only(alloc, Answer::Closed(closed as u64))
 }
 
-/// A call of an agent's sink is to fail.
+/// Plans that call number `count` of kind `call` of the agent's sink fails, counted from 1 from now on; 0 plans none.
 pub(crate) fn break_at(alloc: Global, node: &mut Node, call: SinkCall, count: u64) -> Line
     ensures { (m : IdealNode) (number : ℕ) (sent : List (List ℕ)) → node.old ≡ node_of m
         → TakesTurn number sent sent (breaks m call count) node.new result }
@@ -181,15 +182,17 @@ pub(crate) fn break_at(alloc: Global, node: &mut Node, call: SinkCall, count: u6
     line_only(alloc, Answer::Broken)
 }
 
-/// An agent over a new sink that keeps this text, and that fails nowhere: only memory can be wanting.
+/// Opens an agent with the settings `config` over a new sink that has `text` and never fails: only memory can run out.
 pub(crate) fn open_on(
     alloc: Global,
     config: Config,
     text: &[u8],
 ) -> Result<Agent<MemSink>, AllocError>
     requires { is_sound config ≡ true }
+    // On a text that has all that an ideal agent entered, it is the view of this one, opened again.
     ensures opened { (i : IdealAgent) → IsSound i → i.config ≡ config → HasPast config i text.now
         → IfOk result (λ agent. agent.concrete ≡ view_of (reopened i text.now)) }
+    // On any text it is the view of an agent that has no past, opened there.
     ensures first { IfOk result (λ agent. agent.concrete
         ≡ view_of (reopened (unopened config (opened text.now (fresh_device text.now))) text.now)) }
 {
@@ -198,12 +201,13 @@ pub(crate) fn open_on(
         Ok(agent) => Ok(agent),
         Err(not_opened) => match not_opened.fault {
             OpenFault::OutOfMemory => Err(AllocError),
+            // (`config` is sound, and no call of the new sink is planned to fail)
             OpenFault::BadConfig | OpenFault::SinkFault => unreachable!(),
         },
     }
 }
 
-/// What an agent's sink keeps, and then a tail.
+/// The text on which `agent` is opened again: what its sink has durable, and then `tail`.
 fn text_of(alloc: Global, agent: &Agent<MemSink>, tail: &[u8]) -> Result<Vec<u8>, AllocError>
     ensures { IfOk result (λ text. text.items
         ≡ unwrap_or agent.now.concrete.snapshot.durable [] ++ tail.now) }
@@ -213,13 +217,13 @@ fn text_of(alloc: Global, agent: &Agent<MemSink>, tail: &[u8]) -> Result<Vec<u8>
     Ok(text)
 }
 
-/// An agent is opened again on what its sink keeps and a tail. The queries of an earlier life can't be answered.
+/// Opens the agent again on its sink's durable text and `tail`. The queries of its earlier life can't be answered then.
 pub(crate) fn restart_at(alloc: Global, node: &mut Node, tail: &[u8]) -> Result<Line, AllocError>
     ensures { (m : IdealNode) (number : ℕ) (sent : List (List ℕ))
         → IsRepresentable m.agent → node.old ≡ node_of m
         → IfOk result (TakesTurn number sent sent (restarts m tail.now) node.new) }
 {
-    representable_agents();
+    representable_agents(); // for the prover: what the sink keeps has all that the agent's next life needs
     node.handed.clear();
     let agent = &mut node.agent;
     let text = text_of(alloc, agent, tail)?;

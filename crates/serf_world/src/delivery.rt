@@ -1,4 +1,4 @@
-//! An agent is given a packet: a message, or the state of another that it merges.
+//! Packets that an agent is given: a message that it receives, or the state of another agent, which it merges.
 
 ghost use Rattle.std.specs.Prelude.{◌≡◌, ◌≢◌, ◌∷◌, ◌++◌, [], IfOk, OnErr, Err, Some, slice_get, if◌then◌else◌};
 ghost use Rattle.std.specs.Option.{option_to_list};
@@ -19,7 +19,7 @@ use serf_model::{Answer, Line, Refusal, merged_agents, packet_at};
 use serf_wire::{Bytes, PushPull};
 use std::alloc::{AllocError, Global};
 
-/// A copy of a packet, where it is to be sent on.
+/// A copy of `packet` if `rebroadcast` says that it is to be sent on, else `None`.
 fn sent_on(alloc: Global, packet: &[u8], rebroadcast: bool) -> Result<Option<Bytes>, AllocError>
     ensures { IfOk result (λ copy. option_to_list copy
         ≡ (if rebroadcast then packet.now ∷ [] else [])) }
@@ -30,8 +30,8 @@ fn sent_on(alloc: Global, packet: &[u8], rebroadcast: bool) -> Result<Option<Byt
     Ok(Some(Bytes::copy_of(alloc, packet)?))
 }
 
-/// An agent is given a packet, where there is one. A new event and, where it asks for that, a new query is sent on as it
-/// came.
+/// Agent number `number`, in `node`, receives packet number `packet` of `sent` at `now`, in nanoseconds. The packet of
+/// a new event, and of a new query that is to be rebroadcast, is appended to `sent` unchanged.
 #[inline(always)]
 pub(crate) fn deliver_at(
     alloc: Global,
@@ -78,7 +78,7 @@ pub(crate) fn deliver_at(
     }
 }
 
-/// The answer of a merge's line, by what the agent's call gave.
+/// The answer of the trace's line for a merge that ended as `merged`. An `AllocError` where it found no memory.
 fn merge_answer(merged: &Result<PushPull, MergeFault>) -> Result<Answer, AllocError>
     ensures { IfOk result (λ answer. (answer ≡ merge_answer (fault_in merged.now))
         × (fault_in merged.now ≢ Some MergeFault.OutOfMemory)) }
@@ -93,8 +93,8 @@ fn merge_answer(merged: &Result<PushPull, MergeFault>) -> Result<Answer, AllocEr
     }
 }
 
-/// An agent merges the state that a packet brings, where there is one. Where its sink fails, what came before was
-/// handed out.
+/// Agent number `number`, in `node`, merges the state in packet number `packet` of `sent`; `join` says that it joins.
+/// Where its sink fails at an event of the state, the line has the events that were handed out before.
 pub(crate) fn merge_at(
     alloc: Global,
     number: u64,
@@ -107,11 +107,11 @@ pub(crate) fn merge_at(
         → IfOk result (TakesTurn number sent.now sent.now
         (merges_given m join (slice_get sent.now packet)) node.new) }
 {
-    merged_agents();
+    merged_agents(); // for the prover: a merge leaves its agent representable, at each event
     let Some(bytes) = packet_at(sent, packet) else {
         return Ok(refused(alloc, Refusal::NoMessage));
     };
-    know_packet(bytes);
+    know_packet(bytes); // for the prover: the events in the packet have texts of bytes
     let mut events: Vec<EventOut> = Vec::new(alloc);
     let merged = node
         .agent

@@ -1,5 +1,5 @@
-//! A cluster of agents and a network that loses, repeats and reorders: an exact reference of what Serf's user events
-//! and queries do, one action after another.
+//! Real agents on a network that loses, repeats and reorders packets: an exact reference of what Serf's user events and
+//! queries do, one action after another.
 #![tactic(auto)]
 
 mod calls;

@@ -1,4 +1,4 @@
-//! The lines of a trace, each made as its packets are sent.
+//! The lines of a trace, each made as its packets are sent. `sent` has all packets of a cluster, numbered from 0.
 
 ghost use Rattle.std.specs.Prelude.{◌≡◌, ◌+◌, ◌^◌, ◌-◌, ◌≤◌, ◌++◌, ◌∷◌, [], IfOk, OnOk, OnErr, None, Some, length, map};
 ghost use Rattle.std.specs.Option.{option_map, option_to_list};
@@ -10,7 +10,7 @@ use serf_model::{Answer, Boxed, EventLine, EventLines, HandedLine, Line, Numbers
 use serf_wire::Bytes;
 use std::alloc::{AllocError, Global};
 
-/// A line of an answer alone.
+/// A line that has `answer` alone: nothing is sent or handed out.
 #[inline(always)]
 pub(crate) fn line_only(alloc: Global, answer: Answer) -> Line
     ensures { result ≡ line_only answer }
@@ -23,7 +23,7 @@ pub(crate) fn line_only(alloc: Global, answer: Answer) -> Line
     }
 }
 
-/// A line of a refusal.
+/// A line that says the refusal `refusal`: nothing is sent or handed out.
 #[inline(always)]
 pub(crate) fn refused(alloc: Global, refusal: Refusal) -> Line
     ensures { result ≡ line_only (Answer.Refused refusal) }
@@ -31,8 +31,8 @@ pub(crate) fn refused(alloc: Global, refusal: Refusal) -> Line
     line_only(alloc, Answer::Refused(refusal))
 }
 
-/// Appends a packet to those that were sent, and gives the line that names it. Where there is no memory for it, nothing
-/// was sent.
+/// Appends `packet` to `sent`, and gives a line with `answer` and the packet's number. An `AllocError` leaves `sent`
+/// unchanged.
 #[inline(always)]
 pub(crate) fn line_with_packet(
     alloc: Global,
@@ -61,8 +61,8 @@ pub(crate) fn line_with_packet(
     })
 }
 
-/// A line with an event that an agent hands out, and the packet that is sent of it. Where there is no memory for it,
-/// nothing was sent.
+/// Appends `packet` to `sent`, and gives a line with `answer`, the packet's number, and `event`, which agent number
+/// `agent` hands out. Where there is no memory, nothing was sent.
 #[inline(always)]
 pub(crate) fn line_with_event(
     alloc: Global,
@@ -102,7 +102,7 @@ pub(crate) fn line_with_event(
     })
 }
 
-/// A line with the events that an agent hands out.
+/// A line with `answer` and `events`, which agent number `agent` hands out; nothing is sent.
 pub(crate) fn line_with_events(
     alloc: Global,
     agent: u64,
@@ -135,7 +135,7 @@ pub(crate) fn line_with_events(
     })
 }
 
-/// The numbers of packets that are about to be sent, the first of which has the number `first`.
+/// The numbers that `packets` get as they are sent: the first gets the number `first`, each other one more.
 fn numbers_of(alloc: Global, first: u64, packets: &[Bytes]) -> Result<Numbers, AllocError>
     requires { first + length packets.now ≤ 2 ^ 64 - 1 }
     ensures { IfOk result (λ numbers. numbers ≡ numbers_from first packets.now) }
@@ -149,7 +149,7 @@ fn numbers_of(alloc: Global, first: u64, packets: &[Bytes]) -> Result<Numbers, A
     Ok(Numbers::from_vec(numbers))
 }
 
-/// Appends packets to those that were sent, and gives their numbers. Where there is no memory for it, nothing was sent.
+/// Appends `packets` to `sent`, and gives their numbers there. Where there is no memory, nothing was sent.
 fn send(alloc: Global, sent: &mut Vec<Bytes>, packets: BytesList) -> Result<Numbers, AllocError>
     ensures numbers { IfOk result (λ numbers. numbers
         ≡ numbers_from (length sent.old.items) packets) }
@@ -157,13 +157,13 @@ fn send(alloc: Global, sent: &mut Vec<Bytes>, packets: BytesList) -> Result<Numb
     ensures err { OnErr result (sent.new.items ≡ sent.old.items) }
 {
     let mut packets = packets.into_vec();
-    sent.reserve(packets.len())?;
+    sent.reserve(packets.len())?; // room for the append below, which can't fail then
     let numbers = numbers_of(alloc, sent.len() as u64, packets.as_slice())?;
     sent.append(&mut packets)?;
     Ok(numbers)
 }
 
-/// The packets of a query: itself, where it is to be sent, and its ack after it.
+/// The packets that a query's action sends: the packet `query`, if there is one, and then `ack`, if there is one.
 pub(crate) fn query_packets(
     alloc: Global,
     query: Option<Bytes>,
@@ -181,7 +181,7 @@ pub(crate) fn query_packets(
     Ok(packets)
 }
 
-/// Keeps a query that is handed out, where there is one, until it is answered, and gives its line.
+/// Appends `query`, if there is one, to `handed`, the queries that agent number `agent` keeps, and gives its line.
 fn hand_over(
     alloc: Global,
     agent: u64,
@@ -209,8 +209,8 @@ fn hand_over(
     Ok(Some(boxed))
 }
 
-/// A line with packets that are sent and, where there is one, a query that an agent hands out and keeps until it is
-/// answered. Where there is no memory for it, nothing was sent.
+/// Appends `packets` to `sent`, and gives a line with `answer`, their numbers and `query`, if agent number `agent`
+/// hands one out. It is appended to `handed` too, to be answered later. An `AllocError` leaves `sent` unchanged.
 pub(crate) fn line_with_query(
     alloc: Global,
     agent: u64,

@@ -1,4 +1,4 @@
-//! The refusals of a trace, by the faults of an agent's calls. Want of memory is none: it ends the run.
+//! The refusals of a trace, by the faults of an agent's calls. `OutOfMemory` is an `AllocError`: it ends the run.
 
 ghost use Rattle.std.specs.Prelude.{◌≡◌, ◌≢◌, IfOk};
 ghost use Rattle.serf_model.specs.Cluster.{fire_refusal, note_refusal, query_refusal, receive_refusal, state_refusal};
@@ -8,6 +8,7 @@ use serf_model::Refusal;
 use serf_snap::NoteFault;
 use std::alloc::AllocError;
 
+/// The refusal of a user event whose firing failed by `fault`.
 pub(crate) fn fire_refusal(fault: FireFault) -> Result<Refusal, AllocError>
     ensures { IfOk result (λ refusal. (refusal ≡ fire_refusal fault)
         × (fault ≢ FireFault.OutOfMemory)) }
@@ -21,6 +22,7 @@ pub(crate) fn fire_refusal(fault: FireFault) -> Result<Refusal, AllocError>
     }
 }
 
+/// The refusal of a delivery whose packet was not received, by `fault`.
 pub(crate) fn receive_refusal(fault: ReceiveFault) -> Result<Refusal, AllocError>
     ensures { IfOk result (λ refusal. (refusal ≡ receive_refusal fault)
         × (fault ≢ ReceiveFault.OutOfMemory)) }
@@ -34,6 +36,7 @@ pub(crate) fn receive_refusal(fault: ReceiveFault) -> Result<Refusal, AllocError
     }
 }
 
+/// The refusal of an agent's state, which was not made by `fault`.
 pub(crate) fn state_refusal(fault: PushPullFault) -> Result<Refusal, AllocError>
     ensures { IfOk result (λ refusal. (refusal ≡ state_refusal fault)
         × (fault ≢ PushPullFault.OutOfMemory)) }
@@ -45,6 +48,7 @@ pub(crate) fn state_refusal(fault: PushPullFault) -> Result<Refusal, AllocError>
     }
 }
 
+/// The refusal of a query whose firing failed by `fault`.
 pub(crate) fn query_refusal(fault: QueryFault) -> Result<Refusal, AllocError>
     ensures { IfOk result (λ refusal. (refusal ≡ query_refusal fault)
         × (fault ≢ QueryFault.OutOfMemory)) }
@@ -59,6 +63,7 @@ pub(crate) fn query_refusal(fault: QueryFault) -> Result<Refusal, AllocError>
     }
 }
 
+/// The refusal of a save or a compaction that failed by `fault`.
 pub(crate) fn note_refusal(fault: NoteFault) -> Result<Refusal, AllocError>
     ensures { IfOk result (λ refusal. (refusal ≡ note_refusal fault)
         × (fault ≢ NoteFault.OutOfMemory)) }

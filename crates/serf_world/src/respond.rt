@@ -1,4 +1,4 @@
-//! A query that was handed to an agent is answered.
+//! The answer of an agent to a query that was handed to it in its present life.
 
 ghost use Rattle.std.specs.Prelude.{◌≡◌, ℕ, List, Option, IfOk, OnErr, OnOk, slice_get};
 ghost use Rattle.serf_agent.specs.Handed.{Handed};
@@ -13,7 +13,7 @@ use serf_model::{Answer, Line, Refusal};
 use serf_wire::Bytes;
 use std::alloc::{AllocError, Global};
 
-/// Answers the query in a slot, if there is one; a success leaves the slot empty.
+/// Answers the query in `slot`, if it has one, at `now`, and appends the response to `sent`; that empties the slot.
 fn respond_in(
     alloc: Global,
     sent: &mut Vec<Bytes>,
@@ -45,7 +45,8 @@ fn respond_in(
     }
 }
 
-/// An agent answers a query that was handed to it in this life.
+/// Answers query number `handed`, from 0 on, of those handed to the agent of `node` in this life, with `payload` at
+/// `now`, in nanoseconds. The response is appended to `sent`.
 pub(crate) fn respond_at(
     alloc: Global,
     number: u64,
@@ -60,7 +61,7 @@ pub(crate) fn respond_at(
         (responds m handed (slice_get m.handed handed) now payload.now) node.new) }
     ensures err { OnErr result (sent.new.items ≡ sent.old.items) }
 {
-    let slot = handed as usize;
+    let slot = handed as usize; // a query's number is the index of its slot
     if slot >= node.handed.len() {
         return Ok(refused(alloc, Refusal::NoQuery));
     }

@@ -1,4 +1,4 @@
-//! Agents that can make a cluster.
+//! Rosters: the settings of agents that can make a cluster.
 
 ghost use Rattle.std.specs.Prelude.{◌≡◌, ◌↔◌, [], ◌∷◌, ◌++◌, if◌then◌else◌, List, false, true, not, IfErr, IfOk, IsErrOf, OnErr, OnOk};
 ghost use Rattle.serf_agent.specs.declared.config.Config.{Config};
@@ -13,7 +13,7 @@ use std::collections::HashSet;
 use std::marker::Model;
 use thiserror::Error;
 
-/// Why an agent is not added to a roster, which is then as before. `BadConfig` is looked at before `NameTwice`.
+/// Why an agent is not added to a roster, which is then unchanged. `BadConfig` is looked at before `NameTwice`.
 #[derive(Clone, Copy, Debug, PartialEq, Eq, Error)]
 pub enum RosterFault {
     #[error("the settings are out of bounds")]
@@ -26,13 +26,13 @@ pub enum RosterFault {
 
 /// The settings of agents that can make a cluster: in order, each within its bounds, and no two of one name.
 ///
-/// Contracts see the list of them. A name is looked up in a time that does not grow with the number of agents.
+/// Contracts see the list of settings. `names` has the agents' names, so that one of many is found fast.
 pub struct Roster {
     configs: Vec<Config>,
     names: HashSet<Vec<u8>>,
 }
 
-/// Written out, so that a crate above need not prove anew that each part can be let go.
+/// Written out, so that a crate above need not prove again that the fields can be dropped.
 impl Drop for Roster {
     fn drop(self) {
         let Roster {
@@ -55,7 +55,7 @@ impl Model for Roster {
     ghost invariant = { λ r. AreNames r.names r.configs.items × AreConfigs r.configs.items };
 }
 
-/// Adds a name to those of some agents, and says whether it was free: where it was not, nothing is added.
+/// Adds `name` to `names`, the set of some agents' names: true if it was not there yet. An `AllocError` adds nothing.
 fn add_name(alloc: Global, names: &mut HashSet<Vec<u8>>, name: &[u8]) -> Result<bool, AllocError>
     ensures free { (configs : List Config) → AreNames names.old configs
         → IfOk result (λ free. free ≡ not (has_name configs name.now)) }
@@ -73,6 +73,7 @@ fn add_name(alloc: Global, names: &mut HashSet<Vec<u8>>, name: &[u8]) -> Result<
     }
 }
 
+/// The first agent, from 0 on, whose settings are out of bounds; `None` where each agent's are within.
 fn bad_config(configs: &[Config]) -> Option<usize>
     ensures { result ≡ first_bad configs.now }
 {
@@ -80,7 +81,7 @@ fn bad_config(configs: &[Config]) -> Option<usize>
 }
 
 impl Roster {
-    /// No agents. Takes no memory.
+    /// A roster without agents. Takes no memory.
     pub fn new(alloc: Global) -> Roster
         ensures { result ≡ [] }
     {
@@ -90,9 +91,8 @@ impl Roster {
         }
     }
 
-    /// The agents of these settings, in this order.
-    ///
-    /// `NameTwice` is looked at before `BadConfig`; each names the first such agent.
+    /// The roster of the agents with the settings `configs`, in order.
+    /// `NameTwice` is looked at before `BadConfig`; each has the number, from 0 on, of the first agent with this fault.
     pub fn from_vec(alloc: Global, configs: Vec<Config>) -> Result<Roster, NewFault>
         ensures agents { IfOk result (λ roster. roster ≡ configs.items) }
         ensures configs { OnOk result (AreConfigs configs.items) }
@@ -112,7 +112,7 @@ impl Roster {
         }
     }
 
-    /// Adds an agent of these settings after the others.
+    /// Adds an agent with the settings `config` after the others. A fault leaves the roster unchanged.
     pub fn add(&mut self, alloc: Global, config: Config) -> Result<(), RosterFault>
         ensures ok { OnOk result (self.new ≡ self.old ++ config ∷ []) }
         ensures free { OnOk result (has_name self.old config.name ≡ false) }
@@ -135,11 +135,12 @@ impl Roster {
         }
         match self.configs.push(config) {
             Ok(()) => Ok(()),
+            // (room for it was reserved above)
             Err(_) => unreachable!(),
         }
     }
 
-    /// The same agents once more. It is an `AllocError` only where there is no memory for them.
+    /// A copy of this roster. An `AllocError` only where there is no memory for it.
     pub fn try_clone(&self, alloc: Global) -> Result<Roster, AllocError>
         ensures { IfOk result (λ copy. copy ≡ self.now) }
     {
@@ -150,11 +151,12 @@ impl Roster {
         match Roster::from_vec(alloc, configs) {
             Ok(copy) => Ok(copy),
             Err(NewFault::OutOfMemory) => Err(AllocError),
+            // (these are the settings of a roster: sound, and no two of one name)
             Err(NewFault::NameTwice(_) | NewFault::BadConfig(_)) => unreachable!(),
         }
     }
 
-    /// The agents' settings, in order. Takes no memory.
+    /// The agents' settings, in order, lent for reading. Takes no memory.
     pub fn as_slice(&self) -> &[Config]
         ensures agents { result.now ≡ self.now }
         ensures configs { AreConfigs self.now }

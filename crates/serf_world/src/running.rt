@@ -1,4 +1,4 @@
-//! A whole run.
+//! A whole run: a cluster is made of agents' settings, does all actions, and gives the trace.
 
 ghost use Rattle.std.specs.Prelude.{◌≡◌, ◌<◌, ◌++◌, ◌∷◌, ℕ, [], IfErr, IfOk, OnErr, OnOk, length, take};
 ghost use Rattle.std.specs.List.{fold};
@@ -15,7 +15,7 @@ use serf_agent::{BytesList, Config};
 use serf_model::{Action, Line, Lines, NewFault, RunFault, Trace, run_promises, turns_shown};
 use std::alloc::{AllocError, Global};
 
-/// Does one action, and adds its line. Where there is no memory for it, nothing was sent, and no line added.
+/// Does `action` in `world`, and appends its line to `lines`. An `AllocError` sent no packet and added no line.
 fn step_to(
     alloc: Global,
     world: &mut World,
@@ -31,11 +31,12 @@ fn step_to(
     let line = world.step(alloc, action)?;
     match lines.push(line) {
         Ok(()) => Ok(()),
+        // (room for it was reserved above)
         Err(_) => unreachable!(),
     }
 }
 
-/// Does all actions in a cluster. Where memory runs out, gives the trace of those done before.
+/// Does all `actions` in `world`. Where memory runs out, the error is the trace of the actions that were done before.
 fn run_in(alloc: Global, world: World, actions: &[Action]) -> Result<Trace, Trace>
     ensures done { (r : Run) → IsViewed r.cluster world → AreRepresentable r.cluster → r.turns ≡ []
         → IfOk result (λ trace. outcome_of trace ≡ trace_of (fold after r actions.now)) }
@@ -60,7 +61,7 @@ fn run_in(alloc: Global, world: World, actions: &[Action]) -> Result<Trace, Trac
     })
 }
 
-/// The trace of no action.
+/// The trace of a run without actions: no lines and no packets.
 fn no_lines(alloc: Global) -> Trace
     ensures { outcome_of result ≡ record { lines = []; sent = [] } }
 {
@@ -70,7 +71,7 @@ fn no_lines(alloc: Global) -> Trace
     }
 }
 
-/// A run, exactly.
+/// Does what [`run`] does. It is a function of its own, so that its clause is proved without the promises.
 fn run_exactly(alloc: Global, configs: Vec<Config>, actions: &[Action]) -> Result<Trace, RunFault>
     ensures { IsRun configs.items actions.now result }
 {
@@ -89,11 +90,11 @@ fn run_exactly(alloc: Global, configs: Vec<Config>, actions: &[Action]) -> Resul
     }
 }
 
-/// Does all actions, one after another, in a cluster of agents of these settings.
+/// Does all `actions`, one after another, in a cluster of agents with the settings `configs`.
 ///
-/// A refused action is a line of the trace, and the run goes on. `NameTwice` is looked at first, then `BadConfig`; after
-/// both nothing was done. `OutOfMemory` hands back the trace of the actions that were done before. Every run of the model
-/// keeps all promises ([`serf_model::run_promises`]), and this is the run of the model.
+/// A refused action is a line of the trace, and the run goes on. `NameTwice` is looked at first, then `BadConfig`;
+/// after both nothing was done. `OutOfMemory` has the trace of the actions that were done before. Every run of the
+/// model keeps all promises ([`serf_model::run_promises`]), and this is the run of the model.
 pub fn run(alloc: Global, configs: Vec<Config>, actions: &[Action]) -> Result<Trace, RunFault>
     // The trace is that of the ideal cluster.
     ensures exactly { IsRun configs.items actions.now result }
@@ -101,9 +102,9 @@ pub fn run(alloc: Global, configs: Vec<Config>, actions: &[Action]) -> Result<Tr
     // It shows a run that keeps all promises.
     ensures promises { ShowsKept configs.items actions.now result }
 {
-    run_promises();
-    turns_shown();
-    read_all_numbers(actions);
-    look_at_all(actions);
+    run_promises(); // for the prover: every run of the model keeps the promises
+    turns_shown(); // the turns of a run are what its trace shows
+    read_all_numbers(actions); // the actions' numbers have their types' sizes
+    look_at_all(actions); // their texts are bytes, and their queries' IDs have 32 bits
     run_exactly(alloc, configs, actions)
 }

@@ -1,5 +1,5 @@
-//! What the types of an action say of it: its numbers have their types' sizes, its texts are bytes, and its query's ID has
-//! 32 bits.
+//! What the prover learns of an action by its types: its numbers have their types' sizes, its texts are bytes, and its
+//! query's ID has 32 bits. No function here does anything: a call gives its caller the clause.
 
 ghost use Rattle.std.specs.Prelude.{All};
 ghost use Rattle.serf_window.specs.Texts.{event_of};
@@ -12,13 +12,13 @@ ghost use Rattle.serf_model.specs.Trace.{events_in_packet, given_by};
 use serf_model::{Act, Action, told_packets};
 use serf_wire::Bytes;
 
-/// Numbers have their types' sizes. Does nothing.
+/// Tells the prover that the numbers of a query have their types' sizes. Does nothing.
 #[tactic(auto, using(crate::proofs::SizeLaws::fits_signed))]
 fn know_sizes(id: u32, port: u16, relay_factor: u8, timeout: i64)
     ensures { IsSized id port relay_factor timeout }
 {}
 
-/// Reads the numbers of an action, so that contracts know their sizes. Does nothing.
+/// Tells the prover that the numbers of `action` have their types' sizes. Does nothing.
 pub(crate) fn read_numbers(action: &Action)
     ensures { HasSizes action.now }
 {
@@ -35,7 +35,7 @@ pub(crate) fn read_numbers(action: &Action)
     }
 }
 
-/// Reads the numbers of all actions, on whose sizes promises on queries and their answers rest. Does nothing.
+/// Tells the prover that the numbers of all `actions` have their types' sizes. Does nothing.
 pub(crate) fn read_all_numbers(actions: &[Action])
     ensures { All HasSizes actions.now }
 {
@@ -44,7 +44,7 @@ pub(crate) fn read_all_numbers(actions: &[Action])
     }
 }
 
-/// Texts are bytes. Does nothing.
+/// Tells the prover that an event's name and payload are bytes, as a snapshot's line can tell them. Does nothing.
 fn know_texts(name: &[u8], payload: &[u8])
     ensures { IsTold (event_of name.now payload.now) }
 {
@@ -52,20 +52,20 @@ fn know_texts(name: &[u8], payload: &[u8])
     let _payload = payload;
 }
 
-/// An ID has 32 bits. Does nothing.
+/// Tells the prover that a query's ID has 32 bits. Does nothing.
 fn know_id(id: u32)
     ensures { IsIdTold id }
 {}
 
-/// The events that a packet carries have texts of bytes. Does nothing.
+/// Tells the prover that the events in `packet` have texts of bytes. Does nothing.
 pub(crate) fn know_packet(packet: &[u8])
     ensures { All (λ e. IsTold e.key) (events_in_packet packet.now) }
 {
-    told_packets();
+    told_packets(); // for the prover: the events in a packet of bytes have texts of bytes
     let _bytes = packet;
 }
 
-/// Looks at what an act brings, so that contracts know that it can be told in lines. Does nothing.
+/// Tells the prover that a snapshot's lines can tell the event or the query that `act` fires. Does nothing.
 fn look_at_act(act: &Act)
     ensures { BringsToldBy act.now }
 {
@@ -76,7 +76,7 @@ fn look_at_act(act: &Act)
     }
 }
 
-/// Looks at the packet that an act gives, where these were sent. Does nothing.
+/// Tells the prover that the events in the packet of `sent` that `act` gives have texts of bytes. Does nothing.
 pub(crate) fn look_at_given(sent: &[Bytes], act: &Act)
     ensures { All (λ e. IsTold e.key) (events_given (given_by sent.now act.now)) }
 {
@@ -86,7 +86,7 @@ pub(crate) fn look_at_given(sent: &[Bytes], act: &Act)
     }
 }
 
-/// Looks at what an action brings, so that contracts know that it can be told in lines. Does nothing.
+/// Tells the prover that a snapshot's lines can tell what `action` injects or fires. Does nothing.
 pub fn look_at(action: &Action)
     ensures { BringsTold action.now }
 {
@@ -96,7 +96,7 @@ pub fn look_at(action: &Action)
     }
 }
 
-/// Looks at what all actions bring. Does nothing.
+/// Tells the prover that a snapshot's lines can tell what `actions` inject or fire. Does nothing.
 pub(crate) fn look_at_all(actions: &[Action])
     ensures { All BringsTold actions.now }
 {

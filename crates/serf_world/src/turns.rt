@@ -1,4 +1,4 @@
-//! What is told of the turns of a run.
+//! Tellers: who is told of each turn of a run, and writes a text about it.
 
 ghost use Rattle.std.specs.Prelude.{◌≡◌, ◌++◌, ◌∷◌, ◌+◌, [], List, ℕ, OnOk, length};
 ghost use Rattle.serf_agent.specs.declared.config.Config.{Config};
@@ -11,11 +11,11 @@ use crate::world::World;
 use serf_model::{Action, Line};
 use std::alloc::{AllocError, Global};
 
-/// Is told of the turns of a run, one after another, and puts what it says of them into a text.
+/// A teller: it is told of the turns of a run, one after another, and appends what it says of each to a text.
 ///
-/// `told` says which text was told of agents of these settings that did these actions, where this is asked of it; and
-/// `saw` that this was found before the next action. `streams` says what is asked where the lines of a schedule are done
-/// one by one.
+/// Words of its contracts: `told asked teller configs actions text` says that it was asked `asked`, and told `text` of
+/// agents with the settings `configs` that did `actions`; `saw`, that it found `seen` before one action more; `streams
+/// asked`, that this is asked where the lines of a schedule are done one by one.
 pub trait Turns {
     ghost use Rattle.std.specs.Prelude.{◌≡◌, ◌++◌, ◌∷◌, ◌+◌, [], List, ℕ, IfOk, OnOk, length};
     ghost use Rattle.serf_agent.specs.declared.config.Config.{Config};
@@ -24,10 +24,10 @@ pub trait Turns {
     ghost use Rattle.serf_model.specs.Cluster.{run_of, step};
     ghost use Rattle.serf_world.specs.View.{HasDone, TakesStep};
 
-    /// What is asked of it, which stays.
+    /// What is asked of the teller (which lines to show, say); it stays through the run.
     type Asked;
 
-    /// What is found before an action is done.
+    /// What the teller notes of the cluster before an action, to tell of the action afterwards.
     type Seen: Drop;
 
     ghost told: { Self.Asked → Self → List Config → List Action → List ℕ → Type 0 };
@@ -37,13 +37,13 @@ pub trait Turns {
 
     ghost streams: { Self.Asked → Type 0 };
 
-    /// The cluster is there, with so many agents, and did nothing.
+    /// Begins a run in `world`, which has `agents` agents and did nothing.
     fn begin(&mut self, alloc: Global, world: &World, agents: u64) -> Result<(), AllocError>
         ensures { (asked : Self.Asked) (configs : List Config) (text : List ℕ)
             → told asked self.old configs [] text → HasDone configs [] [] world.now
             → agents ≡ length configs → OnOk result (told asked self.new configs [] text) };
 
-    /// Looks at the cluster before the action of this number, counted from 1.
+    /// Looks at `world` before action number `number`, counted from 1, is done in it; gives what is noted.
     fn look(
         &mut self,
         alloc: Global,
@@ -56,7 +56,7 @@ pub trait Turns {
             → HasDone configs done lines world.now → number ≡ length done + 1
             → IfOk result (λ seen. saw asked self.new seen configs done action.now text) };
 
-    /// The action was done, and this came of it: appends what is told of it.
+    /// Appends what is told of action `number` to `out`; `line` came of it in `world`, and `seen` was noted before it.
     fn tell(
         &mut self,
         alloc: Global,
@@ -77,7 +77,7 @@ pub trait Turns {
             (front ++ out.new.items)) };
 }
 
-/// Does the action of this number, counted from 1, and appends what is told of it.
+/// Does `action`, number `number` of a run, from 1 on, in `world`, and appends what `teller` tells of it to `out`.
 pub fn act<T: Turns>(
     alloc: Global,
     world: &mut World,

@@ -1,4 +1,4 @@
-//! A cluster that does one action after another.
+//! The real cluster, which does one action after another: agents over sinks in memory, and the packets that were sent.
 
 ghost use Rattle.std.specs.Prelude.{◌≡◌, ◌++◌, ◌∷◌, ℕ, List, [], true, map, IfOk, OnErr, OnOk};
 ghost use Rattle.std.specs.List.{AllByRecursion};
@@ -30,7 +30,7 @@ use serf_wire::Bytes;
 use std::alloc::{AllocError, Global};
 use std::marker::Model;
 
-/// An agent, and the queries that were handed to it in this life, in order; one that was answered is gone.
+/// An agent, and the queries that were handed to it in this life, in order: `None` stands for one that was answered.
 #[derive(Drop)]
 pub(crate) struct Node {
     pub(crate) agent: Agent<MemSink>,
@@ -46,14 +46,13 @@ impl Model for Node {
 }
 
 /// A cluster: its agents, each over a sink in memory, and all packets that were sent.
-///
-/// Contracts see what it stores of an ideal cluster.
+/// Contracts see what it stores of an ideal cluster. Agents (`nodes`) and packets (`sent`) are numbered from 0.
 pub struct World {
     nodes: Vec<Node>,
     sent: Vec<Bytes>,
 }
 
-/// Written out, so that a crate above need not prove anew that each part can be let go.
+/// Written out, so that a crate above need not prove again that the fields can be dropped.
 impl Drop for World {
     fn drop(self) {
         let World { nodes: _, sent: _ } = self;
@@ -68,7 +67,7 @@ impl Model for World {
     ghost view = { λ w. record { nodes = w.nodes.items; sent = w.sent.items } };
 }
 
-/// Agents of these settings that have done nothing.
+/// Opens an agent for each of the settings `configs`, over an empty sink, in order.
 fn open_all(alloc: Global, configs: Vec<Config>) -> Result<Vec<Node>, AllocError>
     requires { AllByRecursion (λ c. is_sound c ≡ true) configs.items }
     ensures { IfOk result (λ nodes. nodes.items ≡ map (λ c. node_of (first_node c)) configs.items) }
@@ -84,8 +83,8 @@ fn open_all(alloc: Global, configs: Vec<Config>) -> Result<Vec<Node>, AllocError
     Ok(nodes)
 }
 
-/// Applies an act to the agent of this number. These packets were sent before, and what it sends is appended. Where
-/// there is no memory for it, nothing was sent.
+/// Does `act` on `node`, agent number `number` of the cluster, and gives its line. What the agent sends is appended to
+/// `sent`, the cluster's packets. Where there is no memory, nothing was sent.
 fn take_turn(
     alloc: Global,
     number: u64,
@@ -134,25 +133,25 @@ fn take_turn(
 }
 
 impl World {
-    /// A cluster of these agents, which are numbered from 0 in their order and have done nothing.
+    /// Opens a cluster of the agents in `roster`, numbered from 0 in its order, which have done nothing.
     pub fn new(alloc: Global, roster: Roster) -> Result<World, AllocError>
         ensures start { IfOk result (IsViewed (start roster).cluster) }
         ensures configs { OnOk result (AreConfigs roster) }
         ensures representable { OnOk result (AreRepresentable (start roster).cluster) }
         ensures done { IfOk result (λ world. HasDone roster [] [] world) }
     {
-        representable_agents();
-        run_promises();
-        turns_shown();
+        representable_agents(); // for the prover: agents that did nothing are representable
+        run_promises(); // a run without actions keeps the promises
+        turns_shown(); // the turns of a run are what its trace shows
         Ok(World {
             nodes: open_all(alloc, roster.into_vec())?,
             sent: Vec::new(alloc),
         })
     }
 
-    /// Does an action. A refused action is a line too.
+    /// Does `action`, and gives its line of the trace. A refused action has a line too.
     ///
-    /// An `AllocError` where it found no memory. The agent may have done the action then, without a line: so what the
+    /// An `AllocError` where it found no memory. The agent may have done the action then, without a line: what the
     /// cluster does from then on belongs to no run.
     ///
     /// Where each step so far answered a line, these lines are those of a run that keeps all promises, and the agents
@@ -167,11 +166,11 @@ impl World {
             → IfOk result (λ line.
             HasDone configs (actions ++ action.now ∷ []) (lines ++ line ∷ []) self.new) }
     {
-        run_promises();
-        turns_shown();
-        representable_agents();
-        read_numbers(action);
-        look_at(action);
+        run_promises(); // for the prover: every run of the model keeps the promises
+        turns_shown(); // the turns of a run are what its trace shows
+        representable_agents(); // what an agent does leaves it representable
+        read_numbers(action); // the action's numbers have their types' sizes
+        look_at(action); // its texts are bytes, and its query's ID has 32 bits
         match action {
             Action::Inject { bytes } => {
                 let packet = Bytes::copy_of(alloc, bytes.as_slice())?;
@@ -183,14 +182,14 @@ impl World {
                 if number >= self.nodes.len() {
                     return Ok(refused(alloc, Refusal::NoAgent));
                 }
-                look_at_given(self.sent.as_slice(), act);
+                look_at_given(self.sent.as_slice(), act); // for the prover: its packet's texts are bytes
                 let line = take_turn(alloc, *agent, &mut self.nodes[number], &mut self.sent, act)?;
                 Ok(line)
             }
         }
     }
 
-    /// The agent of this number, lent for reading. Takes no memory.
+    /// Agent number `number`, from 0 on, lent for reading; `None` where there is no such agent. Takes no memory.
     pub fn agent(&self, number: u64) -> Option<&Agent<MemSink>>
         ensures { option_map (λ a. a.now.concrete) result ≡ agent_at self.now number }
     {
@@ -200,7 +199,7 @@ impl World {
         }
     }
 
-    /// All packets that were sent, numbered from 0 in this order. Takes no memory.
+    /// All packets that were sent, in order and numbered from 0, lent for reading. Takes no memory.
     pub fn sent(&self) -> &[Bytes]
         ensures { result.now ≡ self.now.sent }
     {
@@ -208,7 +207,7 @@ impl World {
         sent.as_slice()
     }
 
-    /// All packets that were sent. Takes no memory.
+    /// All packets that were sent, in order; the cluster is dropped. Takes no memory.
     pub(crate) fn into_sent(self) -> BytesList
         ensures { result ≡ self.sent }
     {

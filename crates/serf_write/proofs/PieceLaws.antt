@@ -1,14 +1,5 @@
 -- The parts of a line behind an opening quote.
-use Rattle.std.proofs.Common.{◌≡◌, ◌+◌, ◌++◌, ◌∷◌, ℕ, List, [], Some, None, true, false, arith, length, refl}
-use Rattle.std.specs.Prelude.{◌==◌}
-use Rattle.std.specs.List.{slice_split}
-use Rattle.std.proofs.lemmas.Grind.{common_steps}
-use Rattle.std.proofs.lemmas.List.Splits.{length-slice_split}
-use Rattle.serf_write.specs.declared.fault.Wanted.TheVariants.{ClosingQuote, Escape}
-use Rattle.serf_write.specs.declared.piece.Piece.{Piece}
-use Rattle.serf_write.specs.declared.piece.Piece.TheVariants.{Text}
-use Rattle.serf_write.specs.Gives.{wrong}
-use Rattle.serf_write.specs.Pieces.{pieces_from, text_within}
+use Rattle.serf_write.proofs.Names.{List, None, Some, [], arith, false, length, refl, true, ℕ, ◌++◌, ◌+◌, ◌∷◌, ◌≡◌, common_steps, length-slice_split, slice_split, ◌==◌, wrong, pieces_from, text_within, ClosingQuote, Escape, Piece, Text}
 
 some_parts : (xs : List ℕ) → (length (slice_split (λ b. b == 34) xs) == 0) ≡ false
 some_parts xs = let n = length-slice_split (λ (b : ℕ). b == 34) xs in grind (arith, common_steps, n)

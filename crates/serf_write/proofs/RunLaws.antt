@@ -1,10 +1,5 @@
 -- How many packets were sent.
-use Rattle.std.proofs.Common.{◌≡◌, List, [], ap, length, refl, sym}
-use Rattle.serf_agent.specs.declared.config.Config.{Config}
-use Rattle.serf_model.specs.declared.action.Action.{Action}
-use Rattle.serf_world.specs.View.{WorldState}
-use Rattle.serf_write.specs.Running.{HasWorld}
-use Rattle.serf_write.specs.Written.{sent_count}
+use Rattle.serf_write.proofs.Names.{List, [], ap, length, refl, sym, ◌≡◌, Config, Action, WorldState, HasWorld, sent_count}
 
 pub sent_is : (configs : List Config) (actions : List Action) (world : WorldState) → HasWorld configs actions world
     → length world.sent ≡ sent_count configs actions

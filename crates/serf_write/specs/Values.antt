@@ -8,7 +8,7 @@ use Rattle.serf_text.specs.Words.{bytes_of, choice_of, number_of}
 use Rattle.serf_schedule.specs.Sinks.{sink_call_of}
 use Rattle.serf_write.specs.declared.fault.Fault.{Fault}
 use Rattle.serf_write.specs.declared.fault.Wanted.TheVariants as wanted
-use Rattle.serf_write.specs.declared.label.Label.{Label}
+use Rattle.serf_write.specs.declared.labels.Label.{Label}
 use Rattle.serf_write.specs.declared.piece.Piece.{Piece}
 use Rattle.serf_write.specs.declared.piece.Piece.TheVariants.{Word, Text}
 use Rattle.serf_write.specs.Gives.{wrong, or_wrong}

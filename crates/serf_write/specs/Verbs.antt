@@ -4,8 +4,8 @@ use Rattle.std.specs.Str.{bytes_eq}
 use Rattle.serf_schedule.specs.declared.command.Command.{Command}
 use Rattle.serf_schedule.specs.declared.command.Command.TheVariants as commands
 use Rattle.serf_schedule.specs.Command.{command_of}
-use Rattle.serf_write.specs.declared.verb.Verb.{Verb}
-use Rattle.serf_write.specs.declared.verb.Verb.TheVariants as verbs
+use Rattle.serf_write.specs.declared.said.Verb.{Verb}
+use Rattle.serf_write.specs.declared.said.Verb.TheVariants as verbs
 
 -- the verbs of two actions
 abbrev pub double_verb_of : List ℕ → Option Verb

@@ -14,10 +14,10 @@ use Rattle.serf_schedule.specs.Line.{Parsed}
 use Rattle.serf_text.specs.Words.{number_of}
 use Rattle.serf_write.specs.declared.fault.Fault.{Fault}
 use Rattle.serf_write.specs.declared.fault.Wanted.TheVariants as wanted
-use Rattle.serf_write.specs.declared.label.Label.{Label}
+use Rattle.serf_write.specs.declared.labels.Label.{Label}
 use Rattle.serf_write.specs.declared.piece.Piece.{Piece}
-use Rattle.serf_write.specs.declared.verb.Verb.{Verb}
-use Rattle.serf_write.specs.declared.verb.Verb.TheVariants as verbs
+use Rattle.serf_write.specs.declared.said.Verb.{Verb}
+use Rattle.serf_write.specs.declared.said.Verb.TheVariants as verbs
 use Rattle.serf_write.specs.Gives.{◌>>=◌, wrong, or_wrong}
 use Rattle.serf_write.specs.Lines.{agent_behind, answer_of, break_of, by_agent, closing_of, delivery_of, firing_of, giving_of, injection_of, lone_of, merging_of, restart_of, taking_of}
 use Rattle.serf_write.specs.Pieces.{pieces_of}

@@ -1,11 +1,11 @@
-//! The actions of a line.
+//! The actions of a line, by its pieces. A place counts the pieces of a line from 1.
 
 ghost use Rattle.std.specs.Prelude.{◌<◌};
 ghost use Rattle.serf_write.specs.Gives.{Gives};
 ghost use Rattle.serf_write.specs.Lines.{actions_of, answer_of, break_of, closing_of, coalesce_in, count_in, delivery_of, firing_of, giving_of, injection_of, lone_of, merging_of, restart_of, tail_in, taking_of};
 
 use crate::fault::{LineFault, Wanted, bad, or_bad};
-use crate::label::Label;
+use crate::labels::Label;
 use crate::piece::Piece;
 use crate::values::{
     agent_at, between, bytes_at, end_behind, mode_at, moment_at, number_at, optional_bytes_at,
@@ -24,7 +24,7 @@ pub(crate) enum Deed {
     Two(Action, Action),
 }
 
-/// Whether `coalesce` stands at a place, or the line ends before it.
+/// Whether `coalesce` stands at `place`; it doesn't where the line ends before it. Any other piece is a fault.
 #[tactic(auto, unfolding(crate::specs::Lines::coalesce_in))]
 fn coalesce_at(pieces: &[Piece], place: usize) -> Result<bool, LineFault>
     ensures { Gives (λ b. b) result (coalesce_in place pieces.now) }
@@ -38,7 +38,7 @@ fn coalesce_at(pieces: &[Piece], place: usize) -> Result<bool, LineFault>
     }
 }
 
-/// The bytes after `tail`; none where the line ends before it.
+/// The bytes after the word `tail` at `place`; no bytes where the line ends before it.
 #[tactic(auto, unfolding(crate::specs::Lines::tail_in))]
 fn tail_at(alloc: Global, pieces: &[Piece], place: usize) -> Result<Bytes, LineFault>
     requires { place < 100 }
@@ -53,7 +53,7 @@ fn tail_at(alloc: Global, pieces: &[Piece], place: usize) -> Result<Bytes, LineF
     }
 }
 
-/// The number of a sink's call, from 1 on; 1 where the line ends before it.
+/// Which call of a sink is to fail, from 1 on: the number at `place`, or 1 where the line ends before it.
 #[tactic(auto, unfolding(crate::specs::Lines::count_in))]
 fn count_at(pieces: &[Piece], place: usize) -> Result<u64, LineFault>
     ensures { Gives (λ n. n) result (count_in place pieces.now) }
@@ -150,7 +150,7 @@ pub(crate) fn closing(pieces: &[Piece]) -> Result<Act, LineFault>
     Ok(Act::Close { now })
 }
 
-/// An act of which nothing more is said.
+/// The act `act`, of a line that says nothing after its agent.
 #[tactic(auto, unfolding(crate::specs::Lines::lone_of))]
 pub(crate) fn lone(act: Act, pieces: &[Piece]) -> Result<Act, LineFault>
     ensures { Gives (λ a. a) result (lone_of act pieces.now) }
@@ -169,7 +169,7 @@ pub(crate) fn injection(alloc: Global, pieces: &[Piece]) -> Result<Deed, LineFau
     Ok(Deed::One(Action::Inject { bytes }))
 }
 
-/// Bytes are injected, as the packet of the number `sent`, and the agent gets them.
+/// A line's bytes are injected, as packet number `sent`, and its agent gets them.
 #[tactic(auto, unfolding(crate::specs::Lines::giving_of))]
 pub(crate) fn giving(
     alloc: Global,
@@ -187,7 +187,7 @@ pub(crate) fn giving(
     Ok(Deed::Two(Action::Inject { bytes }, Action::Of { agent, act }))
 }
 
-/// Bytes are injected, as the packet of the number `sent`, and the agent merges them.
+/// A line's bytes are injected, as packet number `sent`, and its agent merges them.
 #[tactic(auto, unfolding(crate::specs::Lines::taking_of))]
 pub(crate) fn taking(
     alloc: Global,

@@ -14,14 +14,14 @@ use serf_text::{hex_bytes, is_word, number};
 use serf_wire::Bytes;
 use std::alloc::Global;
 
-/// What a query's line says beside its texts.
+/// The ID of a query and how it is fired, as the options of its line say.
 #[derive(Drop)]
 pub(crate) struct Asked {
     pub(crate) id: u32,
     pub(crate) params: QueryParams,
 }
 
-/// A query of whose line nothing but its texts is said.
+/// The ID of a query and how it is fired, where its line has no option: ID 0, and a timeout of one second.
 fn plain(alloc: Global) -> Asked
     ensures { result ≡ plain_query }
 {
@@ -40,7 +40,7 @@ fn plain(alloc: Global) -> Asked
     }
 }
 
-/// Takes the value of a key.
+/// Takes the option `key` with its `value`, which stand at `place`.
 fn take_value(
     alloc: Global,
     asked: &mut Asked,
@@ -147,7 +147,7 @@ fn options(alloc: Global, pieces: &[Piece]) -> Result<Asked, LineFault>
     }
 }
 
-/// The query of a line.
+/// The firing of a query, by the pieces of its line.
 #[tactic(auto, unfolding(crate::specs::Queries::query_of))]
 pub(crate) fn query(alloc: Global, pieces: &[Piece]) -> Result<Act, LineFault>
     ensures { Gives (λ a. a) result (query_of pieces.now) }

@@ -61,7 +61,7 @@ pub struct Fault {
 /// Why a line is not taken.
 #[derive(Clone, Copy, Drop, PartialEq, Eq)]
 pub(crate) enum LineFault {
-    /// It is not sound.
+    /// A word of it is wrong.
     Bad(Fault),
     /// There was no memory for what it says.
     OutOfMemory,
@@ -81,7 +81,7 @@ impl From<AllocError> for LineFault {
 ghost use Rattle.std.specs.Prelude.{◌≡◌};
 ghost use Rattle.serf_write.specs.Gives.{Gives, or_wrong};
 
-/// A word that is wrong.
+/// The fault of a line whose word at `place`, from 1 on, is wrong: `wanted` may stand there.
 pub(crate) fn bad(place: usize, wanted: Wanted) -> LineFault
     ensures { result ≡ LineFault.Bad (record { place = place; wanted = wanted }) }
 {
@@ -91,7 +91,7 @@ pub(crate) fn bad(place: usize, wanted: Wanted) -> LineFault
     })
 }
 
-/// What the word at a place stands for; where it is `None`, that this word is wrong.
+/// What the word at `place` stands for, which is `found`; where that is `None`, the fault that this word is wrong.
 pub(crate) fn or_bad<T>(found: Option<T>, place: usize, wanted: Wanted) -> Result<T, LineFault>
     ensures { Gives (λ x. x) result (or_wrong place wanted found) }
 {

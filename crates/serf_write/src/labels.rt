@@ -7,11 +7,19 @@ ghost use Rattle.serf_write.specs.Written.{is_new_label, label_of};
 ghost use Rattle.serf_write.specs.Placed.{placed_behind};
 
 use crate::fault::{Fault, LineFault};
-use crate::label::Label;
 use crate::values::named_label;
 use serf_text::number;
+use serf_wire::Bytes;
 
-/// What stands before the colon that ends a word.
+/// The label of a line, and the numbers of the packets that its line sent: from `first` on, and below `past`.
+#[derive(Drop)]
+pub struct Label {
+    pub name: Bytes,
+    pub first: u64,
+    pub past: u64,
+}
+
+/// The label that `word` is: what stands before the colon that ends it. `None` where no colon does.
 pub(crate) fn label_in(word: &[u8]) -> Option<&[u8]>
     ensures { option_map (λ name. name.now) result ≡ label_of word.now }
 {
@@ -23,7 +31,7 @@ pub(crate) fn label_in(word: &[u8]) -> Option<&[u8]>
     }
 }
 
-/// Whether a name has a slash.
+/// Whether `name` has a slash.
 fn has_slash(name: &[u8]) -> bool
     ensures { result ≡ list_any (λ b. b == 47) name.now }
 {
@@ -40,7 +48,7 @@ pub(crate) fn may_be_label(labels: &[Label], name: &[u8]) -> bool
     !name.is_empty() && !is_number && !has_slash && !is_taken
 }
 
-/// The same fault, whose place counts a label too.
+/// The fault of a line of which `fault` is that of the pieces after its label: the label counts as a piece too.
 pub(crate) fn behind_label(fault: LineFault) -> LineFault
     ensures { result ≡ placed_behind fault }
 {

@@ -80,7 +80,7 @@ fn put_piece(pieces: &mut Vec<Piece>, piece: Piece) -> Result<(), AllocError>
     Ok(())
 }
 
-/// Puts the words of a part outside of quotes after the pieces, and says whether a comment ends the line.
+/// Puts the words of `part`, which stands outside of quotes, after `pieces`, and gives whether a comment ends the line.
 fn put_words(alloc: Global, part: &[u8], pieces: &mut Vec<Piece>) -> Result<bool, AllocError>
     ensures { IfOk result (λ is_over. words_behind pieces.old.items (words_of part.now)
         ≡ record { pieces = pieces.new.items; is_over = is_over }) }

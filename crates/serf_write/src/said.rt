@@ -1,4 +1,4 @@
-//! What a line of actions says.
+//! What a line of actions says, by the word with which it begins.
 
 ghost use Rattle.std.specs.Prelude.{◌≡◌};
 ghost use Rattle.serf_write.specs.Gives.{Gives, or_wrong};
@@ -15,14 +15,44 @@ use crate::actions::{
 };
 use crate::asked::query;
 use crate::fault::{LineFault, Wanted, or_bad};
-use crate::label::Label;
+use crate::labels::Label;
 use crate::piece::Piece;
 use crate::values::{agent_at, word};
-use crate::verb::{Verb, verb_in};
 use serf_agent::Config;
 use serf_model::{Act, Action};
-use serf_schedule::Verb as ReplayVerb;
+use serf_schedule::{Command, Verb as ReplayVerb, command_in};
+use serf_text::is_word;
 use std::alloc::Global;
+
+/// What a line does.
+#[derive(Clone, Copy, PartialEq, Eq)]
+pub(crate) enum Verb {
+    /// What an agent does by such a line of a schedule.
+    Act(ReplayVerb),
+    /// Bytes are injected.
+    Inject,
+    Query,
+    /// Bytes are injected, and an agent gets them.
+    Give,
+    /// Bytes are injected, and an agent merges them.
+    Take,
+}
+
+/// The verb that a word names.
+#[tactic(auto, unfolding(crate::specs::Verbs::verb_of))]
+fn verb_in(word: &[u8]) -> Option<Verb>
+    ensures { result ≡ verb_of word.now }
+{
+    match command_in(word) {
+        Some(Command::Act(verb)) => Some(Verb::Act(verb)),
+        Some(Command::Inject) => Some(Verb::Inject),
+        Some(Command::Query) => Some(Verb::Query),
+        Some(Command::Agent) => None,
+        None if is_word(word, b"give") => Some(Verb::Give),
+        None if is_word(word, b"take") => Some(Verb::Take),
+        None => None,
+    }
+}
 
 /// What an agent does by a line whose word is one of a schedule's, other than a query's.
 fn act(

@@ -24,7 +24,7 @@ pub enum WriteFault {
     OutOfMemory,
 }
 
-/// Reads all lines.
+/// Reads all lines of `text`; `watch` is told how many bytes are read.
 fn read_lines<T: Watch>(alloc: Global, text: &[u8], watch: &mut T) -> Result<Writing, WriteFault>
     ensures { Reads result (written_of text.now) }
 {
@@ -50,9 +50,7 @@ fn read_lines<T: Watch>(alloc: Global, text: &[u8], watch: &mut T) -> Result<Wri
                 let all = text.len() as u64;
                 watch.acted(all.saturating_sub(rest.len() as u64), all);
             }
-            None => {
-                return Ok(writing);
-            }
+            None => return Ok(writing),
         }
     }
 }

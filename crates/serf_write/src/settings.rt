@@ -14,7 +14,7 @@ use serf_text::{is_word, number};
 use serf_world::{Roster, RosterFault};
 use std::alloc::Global;
 
-/// Sets the number of a key.
+/// Sets the setting `key` to `value`, by a word at `place`.
 fn set(config: &mut Config, place: usize, key: &[u8], value: u64) -> Result<(), LineFault>
     ensures { Gives (λ _. config.new) result (set_number place config.old key.now (Some value)) }
 {
@@ -38,7 +38,7 @@ fn set(config: &mut Config, place: usize, key: &[u8], value: u64) -> Result<(), 
     Ok(())
 }
 
-/// Sets a setting that is a key with its value.
+/// Sets the setting that `word`, at `place`, is: a key with its value, a number.
 fn set_pair(config: &mut Config, place: usize, word: &[u8]) -> Result<(), LineFault>
     ensures { Gives (λ _. config.new) result
         (set_key place config.old word.now (position (λ b. b == 61) word.now)) }
@@ -52,7 +52,7 @@ fn set_pair(config: &mut Config, place: usize, word: &[u8]) -> Result<(), LineFa
     }
 }
 
-/// Sets a setting: a word alone, or a key with its value.
+/// Sets the setting that `word`, at `place`, is: a word alone, or a key with its value.
 #[tactic(auto, unfolding(crate::specs::Lines::with_setting))]
 fn set_word(config: &mut Config, place: usize, word: &[u8]) -> Result<(), LineFault>
     ensures { Gives (λ _. config.new) result (with_setting place config.old word.now) }
@@ -81,7 +81,7 @@ pub(crate) fn word_in(piece: &Piece) -> &[u8]
     }
 }
 
-/// The settings of the pieces, of which the first stands at the third place.
+/// The settings `config` with those that `pieces` say, of which the first stands at place 3.
 fn settings(config: Config, pieces: &[Piece]) -> Result<Config, LineFault>
     ensures { Gives (λ c. c) result (settings_from 3 config pieces.now) }
 {
@@ -100,7 +100,7 @@ fn settings(config: Config, pieces: &[Piece]) -> Result<Config, LineFault>
     }
 }
 
-/// The pieces after so many.
+/// The pieces after the first `count`.
 pub(crate) fn behind(pieces: &[Piece], count: usize) -> &[Piece]
     ensures { result.now ≡ drop count pieces.now }
 {
@@ -111,7 +111,7 @@ pub(crate) fn behind(pieces: &[Piece], count: usize) -> &[Piece]
     }
 }
 
-/// The name that a piece is.
+/// The name that `piece`, a word or a text, is.
 fn name(piece: Option<&Piece>) -> Option<&[u8]>
     ensures { option_map (λ n. n.now) result
         ≡ name_of (option_map (λ p. p.now) piece.entry) }
@@ -122,7 +122,7 @@ fn name(piece: Option<&Piece>) -> Option<&[u8]>
     }
 }
 
-/// The agent of an agent line.
+/// The settings of the agent of an agent line.
 #[tactic(auto, unfolding(crate::specs::Lines::agent_of))]
 fn agent(alloc: Global, pieces: &[Piece]) -> Result<Config, LineFault>
     ensures { Gives (λ c. c) result (agent_of pieces.now) }

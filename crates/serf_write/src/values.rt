@@ -1,4 +1,4 @@
-//! What the pieces of a line stand for.
+//! What the pieces of a line stand for. A place counts them from 1.
 
 ghost use Rattle.std.specs.Prelude.{◌≡◌, ◌==◌, ◌+◌, ◌<◌, ◌≤◌, ℕ, IfOk, IfSome, MatchOption, drop, length, not, position, take};
 ghost use Rattle.std.specs.Char.{is_ascii_digit};
@@ -9,7 +9,7 @@ ghost use Rattle.serf_write.specs.Gives.{Gives};
 ghost use Rattle.serf_write.specs.Values.{agent_in, agent_named, agent_said, bytes_in, bytes_or_none, bytes_said, ends_behind, label_named, mode_in, moment_in, number_in, packet_behind, packet_cut, packet_in, packet_of, piece_at, sink_call_in, time_in, time_of, times, unit_of, word_at, word_of};
 
 use crate::fault::{LineFault, Wanted, bad, or_bad};
-use crate::label::Label;
+use crate::labels::Label;
 use crate::piece::Piece;
 use serf_agent::Config;
 use serf_model::SinkCall;
@@ -18,14 +18,14 @@ use serf_text::{choice, hex_bytes, is_word, number};
 use serf_wire::Bytes;
 use std::alloc::{AllocError, Global};
 
-/// The piece at a place, counting from 1. Place 0 is the first too.
+/// The piece at `place`. At place 0 is the first one too.
 pub(crate) fn nth(pieces: &[Piece], place: usize) -> Option<&Piece>
     ensures { option_map (λ p. p.now) result ≡ piece_at place pieces.now }
 {
     pieces.get(place.saturating_sub(1))
 }
 
-/// The bytes of the word at a place; none where a text stands there, or nothing.
+/// The bytes of the word at `place`; no bytes where a text stands there, or nothing.
 pub(crate) fn word(pieces: &[Piece], place: usize) -> &[u8]
     ensures { result.now ≡ word_at place pieces.now }
 {
@@ -35,23 +35,20 @@ pub(crate) fn word(pieces: &[Piece], place: usize) -> &[u8]
     }
 }
 
-/// A number from a least to a greatest one.
+/// `number`, where it is from `low` to `high`; else `None`.
 pub(crate) fn between(number: Option<u64>, low: u64, high: u64) -> Option<u64>
     ensures value { result ≡ between low high number }
     ensures within { IfSome result (λ n. n ≤ high) }
 {
-    match number {
-        Some(found) => {
-            if low <= found && found <= high {
-                Some(found)
-            } else {
-                None
-            }
-        }
-        None => None,
+    let found = number?;
+    if low <= found && found <= high {
+        Some(found)
+    } else {
+        None
     }
 }
 
+/// The index of the first `byte` in `word`.
 fn place_of(word: &[u8], byte: u8) -> Option<usize>
     ensures place { result ≡ position (λ b. b == byte) word.now }
     ensures within { IfSome result (λ at. at < length word.now) }
@@ -59,19 +56,17 @@ fn place_of(word: &[u8], byte: u8) -> Option<usize>
     word.iter().position(|b| *b == byte)
 }
 
-/// The bytes before a byte, and those after it; `None` where there is no such byte.
+/// The bytes of `word` before the first `byte`, and those after it; `None` where `word` has no `byte`.
 pub(crate) fn halves(word: &[u8], byte: u8) -> Option<(&[u8], &[u8])>
     ensures { MatchOption result (position (λ b. b == byte) word.now ≡ None) (λ parts. (at : ℕ)
         × (position (λ b. b == byte) word.now ≡ Some at) × (parts.0.now ≡ take at word.now)
         × (parts.1.now ≡ drop (at + 1) word.now)) }
 {
-    match place_of(word, byte) {
-        Some(at) => Some((&word[..at], &word[at + 1..])),
-        None => None,
-    }
+    let at = place_of(word, byte)?;
+    Some((&word[..at], &word[at + 1..]))
 }
 
-/// A line that has no more than so many pieces.
+/// Nothing where the line has at most `count` pieces; else the fault that it should end there.
 #[tactic(auto, unfolding(crate::specs::Values::ends_behind))]
 pub(crate) fn end_behind(pieces: &[Piece], count: usize) -> Result<(), LineFault>
     requires { count < 100 }
@@ -84,7 +79,7 @@ pub(crate) fn end_behind(pieces: &[Piece], count: usize) -> Result<(), LineFault
     }
 }
 
-/// The number at a place.
+/// The number that the word at `place` is.
 #[tactic(auto, unfolding(crate::specs::Values::number_in))]
 pub(crate) fn number_at(pieces: &[Piece], place: usize) -> Result<u64, LineFault>
     ensures { Gives (λ n. n) result (number_in place pieces.now) }
@@ -92,7 +87,7 @@ pub(crate) fn number_at(pieces: &[Piece], place: usize) -> Result<u64, LineFault
     or_bad(number(word(pieces, place)), place, Wanted::Number)
 }
 
-/// How many nanoseconds a unit has.
+/// How many nanoseconds the unit `word` has.
 fn unit(word: &[u8]) -> Option<u64>
     ensures { result ≡ unit_of word.now }
 {
@@ -113,16 +108,10 @@ fn unit(word: &[u8]) -> Option<u64>
 fn product(number: Option<u64>, unit: Option<u64>) -> Option<u64>
     ensures { result ≡ times number unit }
 {
-    match number {
-        Some(number) => match unit {
-            Some(unit) => number.checked_mul(unit),
-            None => None,
-        },
-        None => None,
-    }
+    number?.checked_mul(unit?)
 }
 
-/// Where the digits that a word begins with end.
+/// The index where the digits end with which `word` begins; `None` where it has only digits.
 fn end_of_digits(word: &[u8]) -> Option<usize>
     ensures place { result ≡ position (λ b. not (is_ascii_digit b)) word.now }
     ensures within { IfSome result (λ at. at < length word.now) }
@@ -130,7 +119,7 @@ fn end_of_digits(word: &[u8]) -> Option<usize>
     word.iter().position(|b| !b.is_ascii_digit())
 }
 
-/// A time in nanoseconds, below 2^64: digits and `ns`, `us`, `ms`, `s` or nothing.
+/// The time that `word` is, in nanoseconds, below 2^64: digits and `ns`, `us`, `ms`, `s` or nothing.
 #[tactic(auto, unfolding(crate::specs::Values::time_of))]
 pub(crate) fn time(word: &[u8]) -> Option<u64>
     ensures { result ≡ time_of word.now }
@@ -141,7 +130,7 @@ pub(crate) fn time(word: &[u8]) -> Option<u64>
     }
 }
 
-/// The time at a place.
+/// The time that the word at `place` is, in nanoseconds.
 #[tactic(auto, unfolding(crate::specs::Values::time_in))]
 pub(crate) fn time_at(pieces: &[Piece], place: usize) -> Result<u64, LineFault>
     ensures { Gives (λ n. n) result (time_in place pieces.now) }
@@ -149,7 +138,7 @@ pub(crate) fn time_at(pieces: &[Piece], place: usize) -> Result<u64, LineFault>
     or_bad(time(word(pieces, place)), place, Wanted::Time)
 }
 
-/// The moment after `at`, or 0 where the line ends before it.
+/// The moment, in nanoseconds, after the word `at` at `place`; 0 where the line ends before it.
 #[tactic(auto, unfolding(crate::specs::Values::moment_in))]
 pub(crate) fn moment_at(pieces: &[Piece], place: usize) -> Result<u64, LineFault>
     requires { place < 100 }
@@ -164,7 +153,7 @@ pub(crate) fn moment_at(pieces: &[Piece], place: usize) -> Result<u64, LineFault
     }
 }
 
-/// The bytes that a piece stands for: a text, or hex digits.
+/// The bytes that `piece` stands for: a text, or hex digits.
 fn said_bytes(alloc: Global, piece: Option<&Piece>) -> Result<Option<Bytes>, AllocError>
     ensures { IfOk result (λ found. found ≡ bytes_said (option_map (λ p. p.now) piece.entry)) }
 {
@@ -175,7 +164,7 @@ fn said_bytes(alloc: Global, piece: Option<&Piece>) -> Result<Option<Bytes>, All
     }
 }
 
-/// The bytes at a place: a text, or hex digits.
+/// The bytes that the piece at `place` stands for: a text, or hex digits.
 #[tactic(auto, unfolding(crate::specs::Values::bytes_in))]
 pub(crate) fn bytes_at(alloc: Global, pieces: &[Piece], place: usize) -> Result<Bytes, LineFault>
     ensures { Gives (λ b. b) result (bytes_in place pieces.now) }
@@ -183,7 +172,7 @@ pub(crate) fn bytes_at(alloc: Global, pieces: &[Piece], place: usize) -> Result<
     or_bad(said_bytes(alloc, nth(pieces, place))?, place, Wanted::Bytes)
 }
 
-/// The bytes at a place; none where the line ends before it.
+/// The bytes that the piece at `place` stands for; no bytes where the line ends before it.
 #[tactic(auto, unfolding(crate::specs::Values::bytes_or_none))]
 pub(crate) fn optional_bytes_at(
     alloc: Global,
@@ -206,35 +195,31 @@ fn has_name(config: &Config, name: &[u8]) -> bool
     config.name.as_slice() == name
 }
 
-/// The number of the agent of this name.
+/// The index of the agent called `name`.
 fn place_of_agent(agents: &[Config], name: &[u8]) -> Option<usize>
     ensures { result ≡ position (λ c. bytes_eq c.name name.now) agents.now }
 {
     agents.iter().position(|config| has_name(config, name))
 }
 
-/// The number of the agent of a name.
+/// The number of the agent called `name`.
 #[tactic(auto, unfolding(crate::specs::Values::agent_named))]
 fn named_agent(agents: &[Config], name: &[u8]) -> Option<u64>
     ensures { result ≡ agent_named agents.now name.now }
 {
-    match place_of_agent(agents, name) {
-        Some(number) => Some(number as u64),
-        None => None,
-    }
+    Some(place_of_agent(agents, name)? as u64)
 }
 
-/// The number of the agent that a piece names: a word of digits is the number itself.
+/// The number of the agent that `piece` names: a word of digits is the number itself.
 fn said_agent(agents: &[Config], piece: Option<&Piece>) -> Option<u64>
     ensures { result ≡ agent_said agents.now (option_map (λ p. p.now) piece.entry) }
 {
-    match piece {
-        Some(Piece::Word(word)) => match number(word.as_slice()) {
+    match piece? {
+        Piece::Word(word) => match number(word.as_slice()) {
             Some(found) => Some(found),
             None => named_agent(agents, word.as_slice()),
         },
-        Some(Piece::Text(text)) => named_agent(agents, text.as_slice()),
-        None => None,
+        Piece::Text(text) => named_agent(agents, text.as_slice()),
     }
 }
 
@@ -246,51 +231,41 @@ pub(crate) fn agent_at(agents: &[Config], pieces: &[Piece], place: usize) -> Res
     or_bad(said_agent(agents, nth(pieces, place)), place, Wanted::Agent)
 }
 
-/// Whether a label has this name.
+/// Whether `label` is called `name`.
 fn is_named(label: &Label, name: &[u8]) -> bool
     ensures { result ≡ bytes_eq label.now.name name.now }
 {
     label.name.as_slice() == name
 }
 
-/// Where the label of this name stands.
+/// The index of the label called `name`.
 fn place_of_label(labels: &[Label], name: &[u8]) -> Option<usize>
     ensures { result ≡ position (λ l. bytes_eq l.name name.now) labels.now }
 {
     labels.iter().position(|label| is_named(label, name))
 }
 
-/// The label of a name.
+/// The label called `name`.
 #[tactic(auto, unfolding(crate::specs::Values::label_named))]
 pub(crate) fn named_label<'a>(labels: &'a [Label], name: &[u8]) -> Option<&'a Label>
     ensures { option_map (λ l. l.now) result ≡ label_named labels.now name.now }
 {
-    match place_of_label(labels, name) {
-        Some(at) => labels.get(at),
-        None => None,
-    }
+    labels.get(place_of_label(labels, name)?)
 }
 
-/// The packet of this number, counted from 0, of those that the line of a label sent.
+/// The number of the packet that is number `number`, from 0 on, of those that the line of `label` sent.
 fn packet_from(label: Option<&Label>, number: Option<u64>) -> Option<u64>
     ensures { result ≡ packet_behind (option_map (λ l. l.now) label.entry) number }
 {
-    match label {
-        Some(label) => match number {
-            Some(number) => {
-                if number < label.past.saturating_sub(label.first) {
-                    Some(label.first + number)
-                } else {
-                    None
-                }
-            }
-            None => None,
-        },
-        None => None,
+    let (label, number) = (label?, number?);
+    if number < label.past.saturating_sub(label.first) {
+        Some(label.first + number)
+    } else {
+        None
     }
 }
 
-/// The packet that a word names, where it is no number.
+/// The number of the packet that `word` names: a label, or a label with the number of its packet after a slash.
 fn labelled_packet(labels: &[Label], word: &[u8]) -> Option<u64>
     ensures { result ≡ packet_cut labels.now word.now (position (λ b. b == 47) word.now) }
 {
@@ -300,7 +275,7 @@ fn labelled_packet(labels: &[Label], word: &[u8]) -> Option<u64>
     }
 }
 
-/// The packet that a word names: a number, a label, or a label with the number of its packet.
+/// The number of the packet that `word` names: the number, a label, or a label with the number of its packet.
 #[tactic(auto, unfolding(crate::specs::Values::packet_of))]
 fn packet(labels: &[Label], word: &[u8]) -> Option<u64>
     ensures { result ≡ packet_of labels.now word.now }
@@ -311,7 +286,7 @@ fn packet(labels: &[Label], word: &[u8]) -> Option<u64>
     }
 }
 
-/// The packet at a place.
+/// The number of the packet that the word at `place` names.
 #[tactic(auto, unfolding(crate::specs::Values::packet_in))]
 pub(crate) fn packet_at(labels: &[Label], pieces: &[Piece], place: usize) -> Result<u64, LineFault>
     ensures { Gives (λ n. n) result (packet_in labels.now place pieces.now) }
@@ -319,7 +294,7 @@ pub(crate) fn packet_at(labels: &[Label], pieces: &[Piece], place: usize) -> Res
     or_bad(packet(labels, word(pieces, place)), place, Wanted::Packet)
 }
 
-/// How a state at a place is merged: true for `join`.
+/// Whether the word at `place` is `join`, and not `sync`: so a state is merged.
 #[tactic(auto, unfolding(crate::specs::Values::mode_in))]
 pub(crate) fn mode_at(pieces: &[Piece], place: usize) -> Result<bool, LineFault>
     ensures { Gives (λ b. b) result (mode_in place pieces.now) }
@@ -331,7 +306,7 @@ pub(crate) fn mode_at(pieces: &[Piece], place: usize) -> Result<bool, LineFault>
     )
 }
 
-/// The call of a sink at a place.
+/// The call of a sink that the word at `place` names.
 #[tactic(auto, unfolding(crate::specs::Values::sink_call_in))]
 pub(crate) fn sink_call_at(pieces: &[Piece], place: usize) -> Result<SinkCall, LineFault>
     ensures { Gives (λ c. c) result (sink_call_in place pieces.now) }

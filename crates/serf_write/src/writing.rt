@@ -5,16 +5,15 @@ ghost use Rattle.serf_schedule.specs.Sayable.{IsSayable};
 ghost use Rattle.serf_schedule.specs.Schedule.{parsed_of};
 ghost use Rattle.serf_write.specs.Gives.{Gives};
 ghost use Rattle.serf_write.specs.Lines.{actions_of};
+ghost use Rattle.serf_write.specs.Running.{HasRun, HasWorld};
 ghost use Rattle.serf_write.specs.Written.{act_line, after_line, agent_line, labelled_line, nothing, plain_line, said_by, schedule_meant, sent_count, with_acts};
 
 use crate::actions::Deed;
 use crate::fault::{LineFault, Wanted, bad};
-use crate::label::Label;
-use crate::labels::{behind_label, label_in, may_be_label};
+use crate::labels::{Label, behind_label, label_in, may_be_label};
 use crate::piece::{Piece, pieces};
 use crate::said::said_deed;
 use crate::settings::{add_agent, behind};
-use crate::stepping::{world_behind, world_of};
 use crate::values::word;
 use serf_model::Action;
 use serf_schedule::{Schedule, is_sayable};
@@ -24,6 +23,44 @@ use serf_world::{Roster, World};
 use std::alloc::{AllocError, Global};
 use std::marker::Model;
 
+/// The cluster after `actions`: `world`, or a new one of `agents` where there is no action yet. `AllocError` where memory
+/// ran out before, or runs out now.
+fn world_of(
+    alloc: Global,
+    world: Option<World>,
+    agents: &Roster,
+    actions: &[Action],
+) -> Result<World, AllocError>
+    requires { HasRun agents.now actions.now world }
+    ensures { IfOk result (λ w. HasWorld agents.now actions.now w) }
+{
+    match world {
+        Some(world) => Ok(world),
+        None => {
+            if !actions.is_empty() {
+                return Err(AllocError);
+            }
+            World::new(alloc, agents.try_clone(alloc)?)
+        }
+    }
+}
+
+/// The cluster after `action`, where `world` is the one after `actions`.
+fn world_behind(
+    alloc: Global,
+    world: World,
+    agents: &Roster,
+    actions: &[Action],
+    action: &Action,
+) -> Result<World, AllocError>
+    requires { HasWorld agents.now actions.now world }
+    ensures { IfOk result (λ w. HasWorld agents.now (actions.now ++ action.now ∷ []) w) }
+{
+    let mut world = world;
+    world.step(alloc, action)?;
+    Ok(world)
+}
+
 /// The agents, the actions and the labels of the lines so far, and the cluster that has done the actions.
 ///
 /// Contracts see the first three.
@@ -32,7 +69,7 @@ pub(crate) struct Writing {
     agents: Roster,
     actions: Vec<Action>,
     labels: Vec<Label>,
-    /// There is none before the first action, and where memory ran out.
+    /// The cluster after the actions: none before the first action, and where memory ran out.
     world: Option<World>,
 }
 
@@ -52,7 +89,7 @@ impl Model for Writing {
 }
 
 impl Writing {
-    /// Nothing is read yet. Takes no memory.
+    /// The reading of a text of which no line is read yet. Takes no memory.
     pub(crate) fn new(alloc: Global) -> Writing
         ensures { result ≡ nothing }
     {
@@ -64,7 +101,7 @@ impl Writing {
         }
     }
 
-    /// How many packets were sent. `AllocError` where memory ran out before.
+    /// How many packets the actions so far sent. `AllocError` where memory ran out before.
     fn sent(&self) -> Result<u64, AllocError>
         ensures { IfOk result (λ n. n ≡ sent_count self.now.configs self.now.actions) }
     {
@@ -80,7 +117,7 @@ impl Writing {
         }
     }
 
-    /// Does an action. Lines say only actions that a schedule can say.
+    /// Does `action`, and puts it after the others. Lines say only actions that a schedule can say.
     fn act(&mut self, alloc: Global, action: Action) -> Result<(), AllocError>
         ensures { OnOk result (self.new
             ≡ record self.old { actions = self.old.actions ++ action ∷ [] }) }
@@ -96,6 +133,7 @@ impl Writing {
         Ok(())
     }
 
+    /// Does the actions of `deed`, one after the other.
     fn act_all(&mut self, alloc: Global, deed: Deed) -> Result<(), LineFault>
         ensures { Gives (λ _. self.new) result (with_acts self.old (actions_of deed)) }
     {
@@ -109,7 +147,7 @@ impl Writing {
         Ok(())
     }
 
-    /// Reads a line of actions.
+    /// Reads a line of actions, which has these `pieces` after its label, and does the actions.
     fn add_actions(&mut self, alloc: Global, pieces: &[Piece]) -> Result<(), LineFault>
         ensures { Gives (λ _. self.new) result (act_line self.old pieces.now) }
     {
@@ -124,7 +162,7 @@ impl Writing {
         self.act_all(alloc, deed)
     }
 
-    /// Reads an agent line.
+    /// Reads an agent line, and adds the agent. Agent lines after an action are refused.
     fn add_agent(&mut self, alloc: Global, pieces: &[Piece]) -> Result<(), LineFault>
         ensures { Gives (λ _. self.new) result (agent_line self.old pieces.now) }
     {
@@ -171,7 +209,7 @@ impl Writing {
         }
     }
 
-    /// Reads the pieces of a line.
+    /// Reads the `pieces` of a line; a line without pieces says nothing.
     fn add_pieces(&mut self, alloc: Global, pieces: &[Piece]) -> Result<(), LineFault>
         ensures { Gives (λ _. self.new) result (said_by self.old pieces.now) }
     {
@@ -184,7 +222,7 @@ impl Writing {
         }
     }
 
-    /// Reads a line.
+    /// Reads `line`, without its newline.
     #[tactic(auto, unfolding(crate::specs::Written::after_line))]
     pub(crate) fn add_line(&mut self, alloc: Global, line: &[u8]) -> Result<(), LineFault>
         ensures { Gives (λ _. self.new) result (after_line self.old line.now) }

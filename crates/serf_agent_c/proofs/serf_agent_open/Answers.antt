@@ -1,10 +1,5 @@
-use Rattle.std.proofs.Common.{◌≡◌, ◌≢◌, false, inl, inr, refl, None}
-use Rattle.serf_agent.specs.declared.config.Config.{Config}
-use Rattle.serf_agent.specs.declared.outcome.OpenFault.{OpenFault}
-use Rattle.serf_agent.specs.declared.outcome.OpenFault.TheVariants.{BadConfig, OutOfMemory, SinkFault}
-use Rattle.serf_agent.specs.Config.{is_sound}
-use Rattle.serf_agent_c.specs.Codes.{number_of, open_code}
-use Rattle.serf_agent_c.specs.Opening.{EndsAs, config_of}
+use Rattle.serf_agent_c.proofs.Names.{None, false, inl, inr, refl, ◌≡◌, ◌≢◌, is_sound, Config, OpenFault, BadConfig, SinkFault, number_of, open_code, EndsAs, config_of}
+use Rattle.serf_agent.specs.declared.outcome.OpenFault.TheVariants.{OutOfMemory}
 use Rattle.serf_agent_c.proofs.serf_agent_open.Goals as goal
 
 -- how a refusal ends an opening

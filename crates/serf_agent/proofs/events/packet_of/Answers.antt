@@ -1,4 +1,4 @@
-use Rattle.serf_agent.proofs.Names.{ap, sym, ◌∙◌, Err, true≢false, EncodeFault}
+use Rattle.serf_agent.proofs.Names.{Err, ap, sym, ◌∙◌, true≢false, EncodeFault}
 use Rattle.serf_agent.proofs.WireLaws.{event-not_long}
 use Rattle.serf_agent.proofs.events.packet_of.Goals as goal
 

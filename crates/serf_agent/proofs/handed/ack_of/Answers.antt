@@ -1,4 +1,4 @@
-use Rattle.serf_agent.proofs.Names.{arith, [], ap, sym, ◌∙◌, Err, true≢false, EncodeFault}
+use Rattle.serf_agent.proofs.Names.{Err, [], ap, arith, sym, ◌∙◌, true≢false, EncodeFault}
 use Rattle.serf_agent.proofs.WireLaws.{response-not_long}
 use Rattle.serf_agent.proofs.handed.ack_of.Goals as goal
 

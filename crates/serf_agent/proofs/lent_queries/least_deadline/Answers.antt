@@ -1,6 +1,4 @@
-use Rattle.serf_agent.proofs.Names.{arith, ◌<◌, ◌∙◌, ap, sym, length, map, take, get_or, map_more}
-use Rattle.serf_agent.specs.declared.open_query.OpenQuery.{OpenQuery}
-use Rattle.serf_agent.specs.LentQueries.{least, lesser}
+use Rattle.serf_agent.proofs.Names.{ap, arith, get_or, length, map, sym, take, ◌<◌, ◌∙◌, map_more, least, lesser, OpenQuery}
 use Rattle.serf_agent.proofs.Deadlines.{least-append}
 use Rattle.serf_agent.proofs.lent_queries.least_deadline.Goals as goal
 

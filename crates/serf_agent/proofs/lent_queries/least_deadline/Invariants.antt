@@ -1,5 +1,4 @@
-use Rattle.serf_agent.proofs.Names.{◌≡◌, map, take}
-use Rattle.serf_agent.specs.LentQueries.{least}
+use Rattle.serf_agent.proofs.Names.{map, take, ◌≡◌, least}
 use Rattle.serf_agent.proofs.lent_queries.least_deadline.Given as goal
 
 abbrev pub invariant-loop-query : goal.invariant-loop-query

@@ -1,6 +1,4 @@
-use Rattle.serf_agent.proofs.Names.{List, Option, subst, ℕ}
-use Rattle.serf_snap.specs.KeptNotes.{lines_given}
-use Rattle.serf_agent.specs.Steps.{WritesLine}
+use Rattle.serf_agent.proofs.Names.{List, Option, subst, ℕ, lines_given, WritesLine}
 use Rattle.serf_agent.proofs.NoteLaws.{writes-line}
 use Rattle.serf_agent.proofs.noting.note_line.Goals as goal
 

@@ -1,5 +1,4 @@
-use Rattle.serf_agent.proofs.Names.{◌≡◌, texts_left}
-use Rattle.serf_agent.specs.Queries.{all_pass}
+use Rattle.serf_agent.proofs.Names.{◌≡◌, texts_left, all_pass}
 use Rattle.serf_agent.proofs.queries.lent_filters_pass.Given as goal
 
 abbrev pub invariant-loop-filter : goal.invariant-loop-filter

@@ -1,4 +1,4 @@
-use Rattle.serf_agent.proofs.Names.{ap, sym, ◌∙◌, Err, true≢false, EncodeFault, query_of}
+use Rattle.serf_agent.proofs.Names.{Err, ap, sym, ◌∙◌, true≢false, query_of, EncodeFault}
 use Rattle.serf_agent.proofs.WireLaws.{query-not_long}
 use Rattle.serf_agent.proofs.query_firing.packet_of.Goals as goal
 

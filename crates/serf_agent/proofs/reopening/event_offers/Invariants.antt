@@ -1,7 +1,4 @@
-use Rattle.std.proofs.Common.{◌≡◌, map, take}
-use Rattle.serf_window.specs.Recall.{entries_offered}
-use Rattle.serf_window.specs.Texts.{event_of}
-use Rattle.serf_agent.specs.KeptTexts.{event_entry}
+use Rattle.serf_agent.proofs.Names.{map, take, ◌≡◌, entries_offered, event_of, event_entry}
 use Rattle.serf_agent.proofs.reopening.event_offers.Given as goal
 
 abbrev pub invariant-loop-event : goal.invariant-loop-event

@@ -1,10 +1,4 @@
-use Rattle.serf_agent.proofs.Names.{ap, map, subst, sym, ◌+◌, ◌<◌, ◌≡◌, ◌∙◌, ℕ, All, List, event_of}
-use Rattle.serf_wire.specs.declared.lists.EventView.{EventView}
-use Rattle.serf_window.specs.declared.recall.Offer.{Offer}
-use Rattle.serf_window.specs.Recall.{entries_offered}
-use Rattle.serf_snap.specs.declared.kept.Wanted.{Wanted}
-use Rattle.serf_snap.specs.EventLines.{events_in, queries_in}
-use Rattle.serf_agent.specs.KeptTexts.{IsIdShort, IsShort, event_entry, kept_events, kept_queries, query_entry, within_reach}
+use Rattle.serf_agent.proofs.Names.{List, ap, map, subst, sym, ℕ, ◌+◌, ◌<◌, ◌∙◌, ◌≡◌, All, EventView, events_in, queries_in, Wanted, entries_offered, event_of, Offer, IsIdShort, IsShort, event_entry, kept_events, kept_queries, query_entry, within_reach}
 use Rattle.serf_agent.proofs.RecalledOffers.{offers-below}
 use Rattle.serf_agent.proofs.reopening.first_tracks.Goals as goal
 

@@ -1,6 +1,4 @@
-use Rattle.std.proofs.Common.{◌≡◌, map, take}
-use Rattle.serf_window.specs.Recall.{entries_offered}
-use Rattle.serf_agent.specs.KeptTexts.{query_entry}
+use Rattle.serf_agent.proofs.Names.{map, take, ◌≡◌, entries_offered, query_entry}
 use Rattle.serf_agent.proofs.reopening.query_offers.Given as goal
 
 abbrev pub invariant-loop-query : goal.invariant-loop-query

@@ -1,4 +1,4 @@
-use Rattle.serf_agent.proofs.Names.{◌≡◌, ◌++◌, flat_map, take}
+use Rattle.serf_agent.proofs.Names.{take, ◌++◌, ◌≡◌, flat_map}
 use Rattle.serf_agent.proofs.telling.put_held.Given as goal
 
 abbrev pub invariant-loop-key : goal.invariant-loop-key

@@ -1,6 +1,4 @@
-use Rattle.serf_agent.proofs.Names.{◌≡◌, ◌++◌, flat_map}
-use Rattle.serf_wire.specs.Buffers.{slots_to_come}
-use Rattle.serf_agent.specs.KeptLines.{lines_of_slot}
+use Rattle.serf_agent.proofs.Names.{◌++◌, ◌≡◌, flat_map, slots_to_come, lines_of_slot}
 use Rattle.serf_agent.proofs.telling.put_slots.Given as goal
 
 abbrev pub invariant-loop-slot : goal.invariant-loop-slot

@@ -1,7 +1,4 @@
-use Rattle.serf_agent.proofs.Names.{◌≡◌, ℕ, ◌++◌, List, OnOk, ap, flat_map, subst, ◌∙◌, append_assoc, ClockKind, SlotOf}
-use Rattle.serf_snap.specs.EventLines.{least_line}
-use Rattle.serf_wire.specs.Buffers.{slots_lent, slots_to_come}
-use Rattle.serf_agent.specs.KeptLines.{held_from, least_told, lines_of_slot, lines_told}
+use Rattle.serf_agent.proofs.Names.{List, OnOk, ap, append_assoc, subst, ℕ, ◌++◌, ◌∙◌, ◌≡◌, flat_map, slots_lent, slots_to_come, least_line, ClockKind, SlotOf, held_from, least_told, lines_of_slot, lines_told}
 use Rattle.serf_agent.proofs.ToldLines.{slot-lines}
 use Rattle.serf_agent.proofs.telling.put_stored.Goals as goal
 

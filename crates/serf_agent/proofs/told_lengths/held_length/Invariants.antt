@@ -1,5 +1,4 @@
-use Rattle.serf_agent.proofs.Names.{◌≡◌, flat_map, take}
-use Rattle.serf_snap.specs.Compaction.{counted}
+use Rattle.serf_agent.proofs.Names.{take, ◌≡◌, flat_map, counted}
 use Rattle.serf_agent.proofs.told_lengths.held_length.Given as goal
 
 abbrev pub invariant-loop-key : goal.invariant-loop-key

@@ -1,7 +1,4 @@
-use Rattle.serf_agent.proofs.Names.{◌≡◌, ◌≤◌, ◌+◌, ◌-◌, ◌^◌, flat_map, length, min}
-use Rattle.serf_wire.specs.Buffers.{slots_to_come}
-use Rattle.serf_snap.specs.Compaction.{counted}
-use Rattle.serf_agent.specs.KeptLines.{lines_of_slot}
+use Rattle.serf_agent.proofs.Names.{length, min, ◌+◌, ◌-◌, ◌^◌, ◌≡◌, ◌≤◌, flat_map, slots_to_come, counted, lines_of_slot}
 use Rattle.serf_agent.proofs.told_lengths.slots_length.Given as goal
 
 abbrev pub invariant-loop-slot : goal.invariant-loop-slot

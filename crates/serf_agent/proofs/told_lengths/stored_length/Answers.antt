@@ -1,8 +1,4 @@
-use Rattle.serf_agent.proofs.Names.{ClockKind, ap, ◌∙◌}
-use Rattle.serf_snap.specs.Compaction.{counted}
-use Rattle.serf_wire.specs.Buffers.{slots_lent}
-use Rattle.serf_agent.specs.Inside.{concrete_of}
-use Rattle.serf_agent.specs.KeptLines.{stored_lines}
+use Rattle.serf_agent.proofs.Names.{ap, ◌∙◌, slots_lent, counted, ClockKind, concrete_of, stored_lines}
 use Rattle.serf_agent.proofs.ToldLines.{stored-length}
 use Rattle.serf_agent.proofs.told_lengths.stored_length.Goals as goal
 

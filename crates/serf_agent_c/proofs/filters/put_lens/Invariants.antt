@@ -1,5 +1,4 @@
-use Rattle.std.proofs.Common.{◌≡◌, ◌++◌, length, map}
-use Rattle.serf_wire.specs.Lists.{texts_left}
+use Rattle.serf_agent_c.proofs.Names.{length, map, ◌++◌, ◌≡◌, texts_left}
 use Rattle.serf_agent_c.proofs.filters.put_lens.Given as goal
 
 -- what was put so far, and then what is left

@@ -1,5 +1,5 @@
 use Rattle.serf_snap.specs.declared.kind.ClockKind.TheVariants as kinds
-use Rattle.serf_agent_c.specs.Hosts.{event_kind, query_kind}
+use Rattle.serf_agent_c.proofs.Names.{event_kind, query_kind}
 use Rattle.serf_agent_c.proofs.HostedCalls.{Below}
 use Rattle.serf_agent_c.proofs.HostedKept as kept
 use Rattle.serf_agent_c.proofs.HostedLaws as hosts

@@ -1,4 +1,4 @@
-use Rattle.std.proofs.Common.{◌≡◌, ◌-◌, length}
+use Rattle.serf_agent_c.proofs.Names.{length, ◌-◌, ◌≡◌}
 use Rattle.std.specs.Prelude.{◌^◌, min}
 use Rattle.serf_agent_c.proofs.lookups.count.Given as goal
 

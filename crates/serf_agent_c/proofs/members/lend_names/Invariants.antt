@@ -1,5 +1,4 @@
-use Rattle.std.proofs.Common.{◌≡◌, ℕ, List, map, take}
-use Rattle.std.specs.Borrow.{Bor}
+use Rattle.serf_agent_c.proofs.Names.{List, map, take, ℕ, ◌≡◌, Bor}
 use Rattle.serf_agent_c.proofs.members.lend_names.Given as goal
 
 abbrev pub invariant-loop-name : goal.invariant-loop-name

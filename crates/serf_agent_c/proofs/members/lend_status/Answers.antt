@@ -1,5 +1,4 @@
-use Rattle.std.proofs.Common.{arith}
-use Rattle.std.proofs.lemmas.List.{map-append, take_more}
+use Rattle.serf_agent_c.proofs.Names.{arith, map-append, take_more}
 use Rattle.serf_agent_c.proofs.members.lend_status.Goals as goal
 
 pub loop-member-preserved : goal.loop-member-preserved

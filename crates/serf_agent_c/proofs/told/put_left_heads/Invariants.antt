@@ -1,6 +1,4 @@
-use Rattle.std.proofs.Common.{◌≡◌, ◌++◌, map}
-use Rattle.serf_wire.specs.Lists.{texts_left}
-use Rattle.serf_agent_c.specs.Told.{left_head}
+use Rattle.serf_agent_c.proofs.Names.{map, ◌++◌, ◌≡◌, texts_left, left_head}
 use Rattle.serf_agent_c.proofs.told.put_left_heads.Given as goal
 
 -- what was put so far, and then what is left

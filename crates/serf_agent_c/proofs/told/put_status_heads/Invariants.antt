@@ -1,6 +1,4 @@
-use Rattle.std.proofs.Common.{◌≡◌, ◌++◌, map}
-use Rattle.serf_wire.specs.Lists.{status_left}
-use Rattle.serf_agent_c.specs.Told.{status_head}
+use Rattle.serf_agent_c.proofs.Names.{map, ◌++◌, ◌≡◌, status_left, status_head}
 use Rattle.serf_agent_c.proofs.told.put_status_heads.Given as goal
 
 -- what was put so far, and then what is left

@@ -1,6 +1,4 @@
-use Rattle.std.proofs.Common.{◌≡◌, ◌++◌}
-use Rattle.std.specs.List.{flat_map}
-use Rattle.serf_wire.specs.Lists.{status_left}
+use Rattle.serf_agent_c.proofs.Names.{◌++◌, ◌≡◌, flat_map, status_left}
 use Rattle.serf_agent_c.proofs.told.put_status_names.Given as goal
 
 -- what was put so far, and then what is left

@@ -1,5 +1,4 @@
-use Rattle.std.proofs.Common.{◌∙◌, rules}
-use Rattle.std.proofs.lemmas.List.Sorted.{answers_always}
+use Rattle.serf_agent_c.proofs.Names.{rules, ◌∙◌, answers_always}
 use Rattle.serf_agent_c.proofs.NumberedLaws.{searched}
 use Rattle.serf_agent_c.proofs.waiting.place_of.Goals as goal
 

@@ -1,9 +1,4 @@
-use Rattle.std.proofs.Common.{◌≡◌, Option, Some, true, subst, sym, arith}
-use Rattle.std.proofs.lemmas.Grind.{common_steps}
-use Rattle.serf_conform.specs.declared.asking.Asked.{Asked}
-use Rattle.serf_conform.specs.declared.look.Look.{Look}
-use Rattle.serf_conform.specs.Rules.{is_serf}
-use Rattle.serf_conform.specs.Session.{IsTaken, agrees, then_looked}
+use Rattle.serf_conform.proofs.Names.{Option, Some, arith, subst, sym, true, ◌≡◌, common_steps, is_serf, IsTaken, agrees, then_looked, Asked, Look}
 use Rattle.serf_conform.proofs.SessionLemmas.{then_on}
 use Rattle.serf_conform.proofs.asking.then_look.Goals as goal
 

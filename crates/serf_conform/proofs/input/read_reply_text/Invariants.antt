@@ -1,6 +1,4 @@
-use Rattle.std.proofs.Common.{◌≡◌, length}
-use Rattle.std.specs.Io.KnownBytes.{Consumes}
-use Rattle.serf_conform.specs.Input.{IsCutAlike}
+use Rattle.serf_conform.proofs.Names.{length, ◌≡◌, Consumes, IsCutAlike}
 use Rattle.serf_conform.proofs.input.read_reply_text.Given as goal
 
 -- what is left, behind the text so far, is cut where the whole is; each turn has read a byte

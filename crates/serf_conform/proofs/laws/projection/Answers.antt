@@ -1,9 +1,4 @@
-use Rattle.std.proofs.Common.{◌≡◌, List, [], subst, sym, ap, ◌∙◌}
-use Rattle.std.proofs.lemmas.List.{append-nil}
-use Rattle.serf_model.specs.declared.action.Action.{Action}
-use Rattle.serf_model.specs.Alone.{IsAlone}
-use Rattle.serf_model.specs.Cluster.{run_of, trace_of}
-use Rattle.serf_model.specs.Trace.{Turn, turns_by, turns_of}
+use Rattle.serf_conform.proofs.Names.{List, [], ap, subst, sym, ◌∙◌, ◌≡◌, append-nil, IsAlone, run_of, trace_of, Turn, turns_by, turns_of, Action}
 use Rattle.serf_conform.proofs.laws.projection.Goals as goal
 
 pub returns : goal.returns

@@ -1,4 +1,4 @@
-use Rattle.serf_conform.specs.Lone.{lone_cluster}
+use Rattle.serf_conform.proofs.Names.{lone_cluster}
 use Rattle.serf_conform.proofs.LoneLemmas.{acted_on}
 use Rattle.serf_conform.proofs.lone.act_lone.Goals as goal
 

@@ -1,5 +1,4 @@
-use Rattle.std.proofs.Common.{◌∙◌, ℕ, List, Some, ap, length}
-use Rattle.serf_conform.specs.Lone.{lone_cluster}
+use Rattle.serf_conform.proofs.Names.{List, Some, ap, length, ℕ, ◌∙◌, lone_cluster}
 use Rattle.serf_conform.proofs.LoneLemmas.{sent_at, sent_on}
 use Rattle.serf_conform.proofs.lone.send_lone.Goals as goal
 

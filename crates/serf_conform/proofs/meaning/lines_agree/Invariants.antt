@@ -1,5 +1,4 @@
-use Rattle.std.proofs.Common.{◌≡◌, length}
-use Rattle.serf_conform.specs.Meaning.{lines_mean}
+use Rattle.serf_conform.proofs.Names.{length, ◌≡◌, lines_mean}
 use Rattle.serf_conform.proofs.meaning.lines_agree.Given as goal
 
 -- the lines that are left say whether all mean what is wanted

@@ -1,7 +1,4 @@
-use Rattle.std.proofs.Common.{◌≡◌, ◌++◌}
-use Rattle.std.specs.List.{flat_map}
-use Rattle.serf_wire.specs.Lists.{slots_left}
-use Rattle.serf_conform.specs.Meaning.{held_lines}
+use Rattle.serf_conform.proofs.Names.{◌++◌, ◌≡◌, flat_map, slots_left, held_lines}
 use Rattle.serf_conform.proofs.meaning.put_held_slots.Given as goal
 
 -- the lines so far, and then those of what is left

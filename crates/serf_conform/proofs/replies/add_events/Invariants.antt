@@ -1,5 +1,4 @@
-use Rattle.std.proofs.Common.{◌≡◌, ◌++◌, map, take}
-use Rattle.serf_conform.specs.Wanted.{event_said}
+use Rattle.serf_conform.proofs.Names.{map, take, ◌++◌, ◌≡◌, event_said}
 use Rattle.serf_conform.proofs.replies.add_events.Given as goal
 
 abbrev pub invariant-loop-event : goal.invariant-loop-event

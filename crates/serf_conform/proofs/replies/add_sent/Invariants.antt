@@ -1,5 +1,4 @@
-use Rattle.std.proofs.Common.{◌≡◌, ◌++◌, map, take}
-use Rattle.serf_conform.specs.declared.reply_line.ReplyLine.TheVariants.{Sent}
+use Rattle.serf_conform.proofs.Names.{map, take, ◌++◌, ◌≡◌, Sent}
 use Rattle.serf_conform.proofs.replies.add_sent.Given as goal
 
 abbrev pub invariant-loop-packet : goal.invariant-loop-packet

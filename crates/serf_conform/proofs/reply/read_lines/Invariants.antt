@@ -1,6 +1,4 @@
-use Rattle.std.proofs.Common.{◌≡◌, ◌+◌, ◌≤◌, ◌==◌, [], length}
-use Rattle.std.specs.List.{slice_split}
-use Rattle.serf_conform.specs.Reply.{after_lines}
+use Rattle.serf_conform.proofs.Names.{[], length, ◌+◌, ◌==◌, ◌≡◌, ◌≤◌, slice_split, after_lines}
 use Rattle.serf_conform.proofs.reply.read_lines.Given as goal
 
 -- the lines that are left, after those so far, give the answer

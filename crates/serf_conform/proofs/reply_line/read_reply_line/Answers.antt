@@ -1,10 +1,4 @@
-use Rattle.std.proofs.Common.{◌≡◌, ◌≤◌, ◌<◌, ◌++◌, ◌∙◌, List, ℕ, [], map, length, ap, subst, sym, arith}
-use Rattle.std.specs.Prelude.{Result}
-use Rattle.std.proofs.lemmas.Grind.{common_steps}
-use Rattle.serf_text.specs.declared.cause.Cause.{Cause}
-use Rattle.serf_text.specs.Gives.{Gives}
-use Rattle.serf_text.specs.Words.{words_of}
-use Rattle.serf_conform.specs.declared.reply_line.ReplyLine.{ReplyLine}
+use Rattle.serf_conform.proofs.Names.{List, [], ap, arith, length, map, subst, sym, ℕ, ◌++◌, ◌<◌, ◌∙◌, ◌≡◌, ◌≤◌, common_steps, Result, Gives, words_of, Cause, ReplyLine}
 use Rattle.serf_conform.proofs.LineLemmas.{long_line, short_line}
 use Rattle.serf_conform.proofs.reply_line.read_reply_line.Goals as goal
 

@@ -1,4 +1,4 @@
-use Rattle.std.proofs.Common.{◌∙◌, sym}
+use Rattle.serf_conform.proofs.Names.{sym, ◌∙◌}
 use Rattle.serf_conform.proofs.SessionLemmas.{opened_all}
 use Rattle.serf_conform.proofs.session.hold.Goals as goal
 

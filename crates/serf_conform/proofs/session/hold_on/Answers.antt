@@ -1,7 +1,4 @@
-use Rattle.std.proofs.Common.{◌≡◌, ◌+◌, ◌-◌, ◌∙◌, ap, sym, subst, arith, take, drop, length}
-use Rattle.std.proofs.lemmas.Grind.{common_steps}
-use Rattle.serf_conform.specs.declared.asking.Tally.{Tally}
-use Rattle.serf_conform.specs.Session.{IsFew, made_after, turn_at}
+use Rattle.serf_conform.proofs.Names.{ap, arith, drop, length, subst, sym, take, ◌+◌, ◌-◌, ◌∙◌, ◌≡◌, common_steps, IsFew, made_after, turn_at, Tally}
 use Rattle.serf_conform.proofs.SessionLemmas.{along_last, counted_few, next_ends, next_goes}
 use Rattle.serf_conform.proofs.session.hold_on.Goals as goal
 

@@ -1,10 +1,4 @@
-use Rattle.std.proofs.Common.{◌+◌, ◌≤◌, ℕ, List, [], Option, length}
-use Rattle.std.specs.Io.KnownBytes.{Appends}
-use Rattle.serf_model.specs.Alone.{AgentCall}
-use Rattle.serf_model.specs.Trace.{turns_from}
-use Rattle.serf_conform.specs.Lone.{IsLone}
-use Rattle.serf_conform.specs.Rules.{is_serf}
-use Rattle.serf_conform.specs.Session.{IsAlong, IsFew, session_from}
+use Rattle.serf_conform.proofs.Names.{List, Option, [], length, ℕ, ◌+◌, ◌≤◌, Appends, AgentCall, turns_from, IsLone, is_serf, IsAlong, IsFew, session_from}
 use Rattle.serf_conform.proofs.session.hold_on.Given as goal
 
 -- The turns that are left, and what is left of the input, give the session that all give; the model's agent got the calls so far.

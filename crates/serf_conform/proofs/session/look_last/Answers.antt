@@ -1,4 +1,4 @@
-use Rattle.serf_conform.specs.Rules.{is_serf}
+use Rattle.serf_conform.proofs.Names.{is_serf}
 use Rattle.serf_conform.proofs.SessionLemmas.{last_concludes}
 use Rattle.serf_conform.proofs.session.look_last.Goals as goal
 

@@ -1,11 +1,4 @@
-use Rattle.std.proofs.Common.{◌∙◌, List, ℕ, Some, [], subst}
-use Rattle.std.specs.Prelude.{IfOk, IfSome}
-use Rattle.serf_conform.specs.declared.look.Look.{Look}
-use Rattle.serf_conform.specs.CallText.{open_line}
-use Rattle.serf_conform.specs.Reply.{Said}
-use Rattle.serf_conform.specs.Rules.{is_serf}
-use Rattle.serf_conform.specs.Session.{IsTaken, asked_of, then_looked, with_line}
-use Rattle.serf_conform.specs.Wanted.{opening}
+use Rattle.serf_conform.proofs.Names.{List, Some, [], subst, ℕ, ◌∙◌, IfOk, IfSome, open_line, Said, is_serf, IsTaken, asked_of, then_looked, with_line, opening, Look}
 use Rattle.serf_conform.proofs.session.open.Goals as goal
 
 pub returns : goal.returns

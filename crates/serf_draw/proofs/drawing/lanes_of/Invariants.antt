@@ -1,6 +1,4 @@
-use Rattle.std.proofs.Common.{◌≡◌, ◌++◌, drop, filter}
-use Rattle.serf_draw.specs.Asked.{is_chosen}
-use Rattle.serf_draw.specs.Drawing.{lanes_from, shown_lanes}
+use Rattle.serf_draw.proofs.Names.{drop, filter, ◌++◌, ◌≡◌, is_chosen, lanes_from, shown_lanes}
 use Rattle.serf_draw.proofs.drawing.lanes_of.Given as goal
 
 -- the lanes so far, and then those of the agents that are left

@@ -1,7 +1,4 @@
-use Rattle.std.proofs.Common.{◌∙◌, List, ap}
-use Rattle.serf_agent.specs.declared.config.Config.{Config}
-use Rattle.serf_draw.specs.declared.picture.Packet.{Packet}
-use Rattle.serf_draw.specs.Drawing.{lost_in, shown_lanes}
+use Rattle.serf_draw.proofs.Names.{List, ap, ◌∙◌, Config, lost_in, shown_lanes, Packet}
 use Rattle.serf_draw.proofs.drawing.picture_of.Goals as goal
 
 pub returns : goal.returns

@@ -1,6 +1,4 @@
-use Rattle.std.proofs.Common.{◌≡◌, ◌++◌, ◌∙◌, ◌+◌, ◌∷◌, [], List, ℕ, take, take_all, ap, sym}
-use Rattle.std.proofs.lemmas.List.{flat_map_more, take_more}
-use Rattle.std.specs.List.{flat_map}
+use Rattle.serf_draw.proofs.Names.{List, [], ap, sym, take, take_all, ℕ, ◌++◌, ◌+◌, ◌∙◌, ◌∷◌, ◌≡◌, flat_map_more, take_more, flat_map}
 use Rattle.serf_draw.proofs.filled.put_each.Goals as goal
 
 pub loop-item-preserved : goal.loop-item-preserved

@@ -1,5 +1,4 @@
-use Rattle.std.proofs.Common.{◌≡◌, ◌++◌, OnOk, List, ℕ, take}
-use Rattle.std.specs.List.{flat_map}
+use Rattle.serf_draw.proofs.Names.{List, OnOk, take, ℕ, ◌++◌, ◌≡◌, flat_map}
 use Rattle.serf_draw.proofs.filled.put_each.Given as goal
 
 abbrev pub invariant-loop-item : goal.invariant-loop-item

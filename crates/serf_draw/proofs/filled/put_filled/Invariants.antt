@@ -1,5 +1,4 @@
-use Rattle.std.proofs.Common.{◌≡◌, ◌++◌, drop}
-use Rattle.serf_draw.specs.Filled.{filled}
+use Rattle.serf_draw.proofs.Names.{drop, ◌++◌, ◌≡◌, filled}
 use Rattle.serf_draw.proofs.filled.put_filled.Given as goal
 
 -- what stands there so far, and what the rest of the text gives with the parts that are left

@@ -1,8 +1,4 @@
-use Rattle.std.proofs.Common.{◌≡◌, ◌∙◌, ◌++◌, [], List, ℕ, ap, codes, rules}
-use Rattle.std.specs.List.{flat_map}
-use Rattle.serf_draw.specs.declared.picture.Lane.{Lane}
-use Rattle.serf_draw.specs.declared.picture.Row.{Row}
-use Rattle.serf_draw.specs.Mermaid.{mermaid_of, participant_line, row_line}
+use Rattle.serf_draw.proofs.Names.{List, [], ap, codes, rules, ℕ, ◌++◌, ◌∙◌, ◌≡◌, flat_map, participant_line, row_line, mermaid_of, Lane, Row}
 use Rattle.serf_draw.proofs.FilledLemmas.{three_more}
 use Rattle.serf_draw.proofs.mermaid.mermaid_text.Goals as goal
 

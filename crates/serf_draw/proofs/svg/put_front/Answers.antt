@@ -1,7 +1,4 @@
-use Rattle.std.proofs.Common.{◌≡◌, ◌∙◌, ◌++◌, List, ℕ, ap, rules}
-use Rattle.std.proofs.lemmas.Result.{on_ok_weaker}
-use Rattle.std.specs.List.{flat_map}
-use Rattle.serf_draw.specs.Svg.{arrow_text, cross_text, front_text, row_text}
+use Rattle.serf_draw.proofs.Names.{List, ap, rules, ℕ, ◌++◌, ◌∙◌, ◌≡◌, on_ok_weaker, flat_map, arrow_text, cross_text, front_text, row_text}
 use Rattle.serf_draw.proofs.FilledLemmas.{three_more}
 use Rattle.serf_draw.proofs.svg.put_front.Goals as goal
 

@@ -1,6 +1,4 @@
-use Rattle.std.proofs.Common.{ℕ, ◌*◌, arith}
-use Rattle.std.proofs.lemmas.Grind.{common_steps}
-use Rattle.serf_draw.specs.Svg.{head_text, line_above}
+use Rattle.serf_draw.proofs.Names.{arith, ℕ, ◌*◌, common_steps, head_text, line_above}
 use Rattle.serf_draw.proofs.HeadLemmas.{heads_more}
 use Rattle.serf_draw.proofs.svg.put_heads.Goals as goal
 

@@ -1,6 +1,4 @@
-use Rattle.std.proofs.Common.{◌≡◌, ◌++◌, ◌*◌, map}
-use Rattle.std.specs.List.{flat_map, range_with_len}
-use Rattle.serf_draw.specs.Svg.{head_text, line_above}
+use Rattle.serf_draw.proofs.Names.{map, ◌*◌, ◌++◌, ◌≡◌, flat_map, range_with_len, head_text, line_above}
 use Rattle.serf_draw.proofs.svg.put_heads.Given as goal
 
 -- the names on as many lines as there were so far

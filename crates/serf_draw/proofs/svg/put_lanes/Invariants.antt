@@ -1,5 +1,4 @@
-use Rattle.std.proofs.Common.{◌≡◌, ◌++◌, drop}
-use Rattle.serf_draw.specs.Svg.{lanes_text}
+use Rattle.serf_draw.proofs.Names.{drop, ◌++◌, ◌≡◌, lanes_text}
 use Rattle.serf_draw.proofs.svg.put_lanes.Given as goal
 
 -- the lanes so far, and then those that are left

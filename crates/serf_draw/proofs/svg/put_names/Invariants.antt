@@ -1,5 +1,4 @@
-use Rattle.std.proofs.Common.{◌≡◌, ◌++◌, drop}
-use Rattle.serf_draw.specs.Svg.{names_text}
+use Rattle.serf_draw.proofs.Names.{drop, ◌++◌, ◌≡◌, names_text}
 use Rattle.serf_draw.proofs.svg.put_names.Given as goal
 
 -- the names so far, and then those of the lanes that are left

@@ -1,5 +1,4 @@
-use Rattle.std.proofs.Common.{◌∙◌, ◌++◌, ap}
-use Rattle.std.proofs.lemmas.Result.{on_ok_weaker}
+use Rattle.serf_draw.proofs.Names.{ap, ◌++◌, ◌∙◌, on_ok_weaker}
 use Rattle.serf_draw.proofs.FilledLemmas.{row_filled}
 use Rattle.serf_draw.proofs.svg.put_row.Goals as goal
 

@@ -1,4 +1,4 @@
-use Rattle.std.proofs.lemmas.Result.{on_ok_weaker}
+use Rattle.serf_explain.proofs.Names.{on_ok_weaker}
 use Rattle.serf_explain.proofs.LeftLaws.{buffers_is}
 use Rattle.serf_explain.proofs.answers.put_buffers.Goals as goal
 

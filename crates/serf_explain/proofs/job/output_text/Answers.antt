@@ -1,8 +1,4 @@
-use Rattle.std.proofs.Common.{ap, sym, ◌∙◌, rules}
-use Rattle.serf_schedule.specs.Line.{Parsed}
-use Rattle.serf_schedule.specs.Output.{text_of}
-use Rattle.serf_schedule.specs.Schedule.{parsed_of, schedule_of}
-use Rattle.serf_explain.specs.HandOuts.{notes_in}
+use Rattle.serf_explain.proofs.Names.{ap, rules, sym, ◌∙◌, Parsed, text_of, parsed_of, schedule_of, notes_in}
 use Rattle.serf_explain.proofs.TellLaws.{told-whole}
 use Rattle.serf_explain.proofs.job.output_text.Goals as goal
 

@@ -1,9 +1,4 @@
-use Rattle.std.proofs.Common.{◌≡◌, ◌==◌, ℕ, Option, false, length, cond, [], sym, ap, ◌∙◌}
-use Rattle.std.proofs.lemmas.Bool.{eq-eqb, ne_eqb}
-use Rattle.std.specs.Option.{option_map}
-use Rattle.serf_wire.specs.Buffers.{lent_slot, slots_lent}
-use Rattle.serf_wire.specs.declared.lent_slots.LentSlot.{LentSlot}
-use Rattle.serf_wire.specs.declared.texts.EventBody.{EventBody}
+use Rattle.serf_explain.proofs.Names.{Option, [], ap, cond, false, length, sym, ℕ, ◌==◌, ◌∙◌, ◌≡◌, eq-eqb, ne_eqb, option_map, lent_slot, slots_lent, LentSlot, EventBody}
 use Rattle.serf_explain.proofs.SlotLaws.{count-found, found}
 use Rattle.serf_explain.proofs.judge.count_of.Goals as goal
 

@@ -1,4 +1,4 @@
-use Rattle.std.proofs.Common.{ℕ, Some, ap, arith}
+use Rattle.serf_explain.proofs.Names.{Some, ap, arith, ℕ}
 use Rattle.serf_explain.proofs.judge.time_below.Goals as goal
 
 pub returns-in-Some : goal.returns-in-Some

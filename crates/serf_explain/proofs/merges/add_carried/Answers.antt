@@ -1,9 +1,4 @@
-use Rattle.std.proofs.Common.{◌≡◌, ◌++◌, List, ℕ, ap, ◌∙◌}
-use Rattle.std.proofs.lemmas.Result.{on_ok_weaker}
-use Rattle.serf_window.specs.Texts.{event_of}
-use Rattle.serf_explain.specs.Because.{because_line}
-use Rattle.serf_explain.specs.Carried.{carried_words}
-use Rattle.serf_explain.specs.Judging.{judged_detail}
+use Rattle.serf_explain.proofs.Names.{List, ap, ℕ, ◌++◌, ◌∙◌, ◌≡◌, on_ok_weaker, event_of, because_line, carried_words, judged_detail}
 use Rattle.serf_explain.proofs.merges.add_carried.Goals as goal
 
 pub returns : goal.returns

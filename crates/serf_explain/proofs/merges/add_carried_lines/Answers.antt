@@ -1,7 +1,4 @@
-use Rattle.std.proofs.Common.{[], List, subst, sym}
-use Rattle.serf_wire.specs.Slots.{SlotContent}
-use Rattle.serf_explain.specs.Carried.{heard, placed_from}
-use Rattle.serf_explain.specs.Judging.{HasJudged}
+use Rattle.serf_explain.proofs.Names.{List, [], subst, sym, SlotContent, placed_from, heard, HasJudged}
 use Rattle.serf_explain.proofs.CarriedLaws.{adds_state}
 use Rattle.serf_explain.proofs.merges.add_carried_lines.Goals as goal
 

@@ -1,11 +1,4 @@
-use Rattle.std.proofs.Common.{◌≡◌, ℕ, OnOk, subst}
-use Rattle.std.proofs.lemmas.Result.{on_ok_weaker}
-use Rattle.serf_wire.specs.declared.texts.EventBody.{EventBody}
-use Rattle.serf_wire.specs.Lists.{event_of_view}
-use Rattle.serf_window.specs.Window.{TimedEntry}
-use Rattle.serf_agent.specs.Events.{admission}
-use Rattle.serf_agent.specs.States.{after_event}
-use Rattle.serf_explain.specs.Judging.{AddsJudged, IsJudging}
+use Rattle.serf_explain.proofs.Names.{OnOk, subst, ℕ, ◌≡◌, on_ok_weaker, event_of_view, EventBody, TimedEntry, admission, after_event, AddsJudged, IsJudging}
 use Rattle.serf_explain.proofs.CarriedLaws.{carried-line}
 use Rattle.serf_explain.proofs.ReasonLaws.{on_ok_any}
 use Rattle.serf_explain.proofs.merges.add_event.Goals as goal

@@ -1,10 +1,4 @@
-use Rattle.std.proofs.Common.{◌∷◌, [], List, ap, sym, subst}
-use Rattle.serf_wire.specs.declared.lists.EventViews.{EventViews}
-use Rattle.serf_wire.specs.declared.texts.EventBody.{EventBody}
-use Rattle.serf_wire.specs.Lists.{event_of_view, events_left}
-use Rattle.serf_agent.specs.States.{at_time}
-use Rattle.serf_explain.specs.Carried.{Placed, after_events, placed}
-use Rattle.serf_explain.specs.Judging.{HasJudged}
+use Rattle.serf_explain.proofs.Names.{List, [], ap, subst, sym, ◌∷◌, event_of_view, events_left, EventViews, EventBody, at_time, Placed, after_events, placed, HasJudged}
 use Rattle.serf_explain.proofs.CarriedLaws.{judged-more, judged-start}
 use Rattle.serf_explain.proofs.merges.add_events.Goals as goal
 

@@ -1,9 +1,4 @@
-use Rattle.std.proofs.Common.{ℕ, List}
-use Rattle.serf_wire.specs.Lists.{events_left}
-use Rattle.serf_agent.specs.Ideal.{IdealAgent}
-use Rattle.serf_agent.specs.States.{at_time}
-use Rattle.serf_explain.specs.Carried.{Known, placed}
-use Rattle.serf_explain.specs.Judging.{HasJudged, IsJudging, IsMerging}
+use Rattle.serf_explain.proofs.Names.{List, ℕ, events_left, IdealAgent, at_time, Known, placed, HasJudged, IsJudging, IsMerging}
 use Rattle.serf_explain.proofs.merges.add_events.Given as goal
 
 abbrev pub invariant-loop-event : goal.invariant-loop-event

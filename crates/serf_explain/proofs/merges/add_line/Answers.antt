@@ -1,9 +1,4 @@
-use Rattle.std.proofs.Common.{◌≡◌, List, ℕ, Option, Some, None, OnOk, sym, subst, ap, ◌∙◌}
-use Rattle.std.proofs.lemmas.Result.{on_ok_weaker}
-use Rattle.serf_agent.specs.declared.outcome.Reason.{Reason}
-use Rattle.serf_agent.specs.declared.outcome.Reason.TheVariants.{Seen}
-use Rattle.serf_explain.specs.Judging.{AddsJudged}
-use Rattle.serf_explain.specs.Noted.{event_as}
+use Rattle.serf_explain.proofs.Names.{List, None, OnOk, Option, Some, ap, subst, sym, ℕ, ◌∙◌, ◌≡◌, on_ok_weaker, Reason, Seen, AddsJudged, event_as}
 use Rattle.serf_explain.proofs.merges.add_line.Goals as goal
 
 pub returns-in-Seen : goal.returns-in-Seen
@@ -12,7 +7,7 @@ returns-in-Seen c = λ i j h is.
     let new = c.add_seen.new.lines.text.items in
     let seen : c.args.verdict ≡ Some Seen = c.in-Some.is ∙ ap (λ (r : Reason). Some r) c.in-Seen.is in
     subst (λ (v : Option Reason). OnOk c.add_seen.result (AddsJudged c.args.merging.now c.args.judge.now i j c.args.slot (event_as c.args.event.now) v old new)) (sym seen)
-    (on_ok_weaker c.add_seen.result (λ one. record { handed = c.handed_at-handed.result; added = one; named = λ q. c.handed_at-handed.ensures i j h (sym is ∙ seen) }) c.add_seen.ensures)
+    (on_ok_weaker c.add_seen.result (λ one. record { handed = c.handed_at-handed.result; added = one; named = λ q. c.handed_at-handed.ensures.handed i j h (sym is ∙ seen) }) c.add_seen.ensures)
 
 pub returns-in_default : goal.returns-in_default
 returns-in_default c = λ i j h is.

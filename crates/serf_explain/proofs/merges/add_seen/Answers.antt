@@ -1,7 +1,4 @@
-use Rattle.std.proofs.Common.{◌≡◌, ◌++◌, ℕ, Option, Some, OnOk, subst, sym}
-use Rattle.serf_window.specs.Texts.{event_of}
-use Rattle.serf_agent.specs.declared.outcome.Reason.TheVariants.{Seen}
-use Rattle.serf_explain.specs.Judging.{judged_line}
+use Rattle.serf_explain.proofs.Names.{OnOk, Option, Some, subst, sym, ℕ, ◌++◌, ◌≡◌, event_of, Seen, judged_line}
 use Rattle.serf_explain.proofs.merges.add_seen.Goals as goal
 
 pub returns-in-Some : goal.returns-in-Some

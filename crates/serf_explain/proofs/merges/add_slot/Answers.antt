@@ -1,9 +1,4 @@
-use Rattle.std.proofs.Common.{[], subst, sym}
-use Rattle.serf_wire.specs.declared.lists.SlotView.{SlotView}
-use Rattle.serf_wire.specs.Lists.{event_of_view, slot_of_view}
-use Rattle.serf_agent.specs.States.{events_of_slot}
-use Rattle.serf_explain.specs.Carried.{Placed, placed}
-use Rattle.serf_explain.specs.Judging.{HasJudged}
+use Rattle.serf_explain.proofs.Names.{[], subst, sym, event_of_view, slot_of_view, SlotView, events_of_slot, Placed, placed, HasJudged}
 use Rattle.serf_explain.proofs.CarriedLaws.{judged-one}
 use Rattle.serf_explain.proofs.merges.add_slot.Goals as goal
 

@@ -1,10 +1,4 @@
-use Rattle.std.proofs.Common.{List, ℕ, ap, sym, subst}
-use Rattle.serf_wire.specs.declared.lists.SlotViews.{SlotViews}
-use Rattle.serf_wire.specs.Lists.{slot_of_view, slots_left}
-use Rattle.serf_wire.specs.Slots.{SlotContent}
-use Rattle.serf_agent.specs.States.{events_of_slot}
-use Rattle.serf_explain.specs.Carried.{Placed, after_events, next_slot, placed, placed_from}
-use Rattle.serf_explain.specs.Judging.{HasJudged}
+use Rattle.serf_explain.proofs.Names.{List, ap, subst, sym, ℕ, slot_of_view, slots_left, SlotContent, SlotViews, events_of_slot, Placed, after_events, next_slot, placed, placed_from, HasJudged}
 use Rattle.serf_explain.proofs.CarriedLaws.{judged-agent, judged-lines, judged-more, judged-start}
 use Rattle.serf_explain.proofs.merges.add_slots.Goals as goal
 

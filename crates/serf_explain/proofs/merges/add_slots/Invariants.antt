@@ -1,8 +1,4 @@
-use Rattle.std.proofs.Common.{ℕ, List}
-use Rattle.serf_wire.specs.Lists.{slots_left}
-use Rattle.serf_agent.specs.Ideal.{IdealAgent}
-use Rattle.serf_explain.specs.Carried.{Known, placed_from}
-use Rattle.serf_explain.specs.Judging.{HasJudged, IsJudging, IsMerging}
+use Rattle.serf_explain.proofs.Names.{List, ℕ, slots_left, IdealAgent, Known, placed_from, HasJudged, IsJudging, IsMerging}
 use Rattle.serf_explain.proofs.merges.add_slots.Given as goal
 
 abbrev pub invariant-loop-content : goal.invariant-loop-content

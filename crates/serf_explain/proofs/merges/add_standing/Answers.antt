@@ -1,7 +1,4 @@
-use Rattle.std.proofs.Common.{◌≡◌, ◌<◌, ◌^◌, ◌++◌, List, ℕ, true, ap, sym, ◌∙◌, arith}
-use Rattle.std.proofs.lemmas.Result.{on_ok_weaker}
-use Rattle.serf_window.specs.Texts.{event_of}
-use Rattle.serf_explain.specs.Words.{event_words, stands}
+use Rattle.serf_explain.proofs.Names.{List, ap, arith, sym, true, ℕ, ◌++◌, ◌<◌, ◌^◌, ◌∙◌, ◌≡◌, on_ok_weaker, event_of, stands, event_words}
 use Rattle.serf_explain.proofs.StandingLaws.{adds-standing}
 use Rattle.serf_explain.proofs.merges.add_standing.Goals as goal
 

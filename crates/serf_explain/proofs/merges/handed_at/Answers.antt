@@ -1,11 +1,25 @@
-use Rattle.std.proofs.Common.{inl, inr, refl, sym, ◌∙◌}
+use Rattle.serf_explain.proofs.Names.{None, Some, inl, inr, min, refl, sym, ℕ, ◌+◌, ◌-◌, ◌^◌, ◌∙◌, ◌≡◌}
 use Rattle.serf_explain.proofs.merges.handed_at.Goals as goal
 
-pub returns-in-Some : goal.returns-in-Some
-returns-in-Some c = λ i j h is. record { right = inl c.in-Some.ensures; none = λ q. absurd (cc q) }
+pub returns-in-Some-clause-handed : goal.returns-in-Some-clause-handed
+returns-in-Some-clause-handed c = λ i j h is. record { right = inl c.in-Some.ensures.noted; none = λ q. absurd (cc q) }
 
-pub returns-then-took : goal.returns-then-took
-returns-then-took c = λ i j h is. record { right = inr (refl, sym (c.took.ensures i j h is) ∙ c.if-took.true); none = λ q. absurd (cc q) }
+pub returns-in-Some-clause-near : goal.returns-in-Some-clause-near
+returns-in-Some-clause-near c = λ stands.
+    let both : Some c.in-Some.found.place ≡ Some c.args.near.now.next = c.in-Some.ensures.place stands in
+    let is : c.in-Some.found.place ≡ c.args.near.now.next = cc both in
+    let next : c.saturating_add.result ≡ min (c.args.near.now.next + (c.args.near.now.next - c.args.near.now.named)) (2 ^ 64 - 1) =
+    c.saturating_add.ensures ∙ (λ j. min (c.in-Some.found.place + c.saturating_sub-step.ensures j) (2 ^ 64 - 1)) ∙ (λ j. min (is j + (is j - c.args.near.now.named)) (2 ^ 64 - 1)) in
+    λ k. record { named = is k; next = next k }
 
-pub returns-else-took : goal.returns-else-took
-returns-else-took c = λ i j h is. record { right = tt; none = λ q. sym (c.took.ensures i j h is) ∙ c.if-took.false }
+pub returns-then-took-clause-handed : goal.returns-then-took-clause-handed
+returns-then-took-clause-handed c = λ i j h is. record { right = inr (refl, sym (c.took.ensures i j h is) ∙ c.if-took.true); none = λ q. absurd (cc q) }
+
+pub returns-then-took-clause-near : goal.returns-then-took-clause-near
+returns-then-took-clause-near c = λ stands. let both : None ≡ Some c.args.near.now.next = c.in-None.ensures.place stands in absurd (cc both)
+
+pub returns-else-took-clause-handed : goal.returns-else-took-clause-handed
+returns-else-took-clause-handed c = λ i j h is. record { right = tt; none = λ q. sym (c.took.ensures i j h is) ∙ c.if-took.false }
+
+pub returns-else-took-clause-near : goal.returns-else-took-clause-near
+returns-else-took-clause-near c = λ stands. let both : None ≡ Some c.args.near.now.next = c.in-None.ensures.place stands in absurd (cc both)

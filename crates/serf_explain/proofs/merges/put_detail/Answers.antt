@@ -1,6 +1,4 @@
-use Rattle.std.proofs.lemmas.Result.{on_ok_weaker}
-use Rattle.serf_window.specs.Texts.{event_of}
-use Rattle.serf_explain.specs.Judging.{judge_takes}
+use Rattle.serf_explain.proofs.Names.{on_ok_weaker, event_of, judge_takes}
 use Rattle.serf_explain.proofs.CarriedLaws.{detail-is}
 use Rattle.serf_explain.proofs.merges.put_detail.Goals as goal
 

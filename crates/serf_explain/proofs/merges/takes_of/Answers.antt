@@ -1,5 +1,4 @@
-use Rattle.std.proofs.Common.{ap}
-use Rattle.serf_agent.specs.declared.config.Config.{Config}
+use Rattle.serf_explain.proofs.Names.{ap, Config}
 use Rattle.serf_explain.proofs.merges.takes_of.Goals as goal
 
 pub returns : goal.returns

@@ -1,6 +1,4 @@
-use Rattle.std.proofs.Common.{◌≡◌, sym, ◌∙◌, rules}
-use Rattle.std.specs.List.{flat_map}
-use Rattle.serf_explain.specs.Words.{quoted_byte}
+use Rattle.serf_explain.proofs.Names.{rules, sym, ◌∙◌, ◌≡◌, flat_map, quoted_byte}
 use Rattle.serf_explain.proofs.TextLaws.{plain-text}
 use Rattle.serf_explain.proofs.quoted.put_quoted_bytes.Goals as goal
 

@@ -1,6 +1,4 @@
-use Rattle.std.proofs.Common.{◌≡◌, ◌++◌, take}
-use Rattle.std.specs.List.{flat_map}
-use Rattle.serf_explain.specs.Words.{quoted_byte}
+use Rattle.serf_explain.proofs.Names.{take, ◌++◌, ◌≡◌, flat_map, quoted_byte}
 use Rattle.serf_explain.proofs.quoted.put_quoted_bytes.Given as goal
 
 abbrev pub invariant-loop-byte : goal.invariant-loop-byte

@@ -1,6 +1,4 @@
-use Rattle.std.proofs.Common.{◌++◌, List, ℕ, codes, decimal, ap, ◌∙◌, append_assoc}
-use Rattle.std.proofs.lemmas.Result.{on_ok_weaker}
-use Rattle.serf_explain.specs.Words.{standing_texts}
+use Rattle.serf_explain.proofs.Names.{List, ap, append_assoc, codes, decimal, ℕ, ◌++◌, ◌∙◌, on_ok_weaker, standing_texts}
 use Rattle.serf_explain.proofs.StandingLaws.{standing-words}
 use Rattle.serf_explain.proofs.quoted.put_standing_event.Goals as goal
 

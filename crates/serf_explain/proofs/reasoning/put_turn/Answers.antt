@@ -1,7 +1,4 @@
-use Rattle.std.proofs.Common.{◌∙◌, ◌++◌, Bool, true, ap, subst, sym}
-use Rattle.std.proofs.lemmas.Result.{on_ok_weaker}
-use Rattle.serf_schedule.specs.Show.{action_text}
-use Rattle.serf_explain.specs.Explained.{AddsTurn, TellsAll}
+use Rattle.serf_explain.proofs.Names.{Bool, ap, subst, sym, true, ◌++◌, ◌∙◌, on_ok_weaker, action_text, AddsTurn, TellsAll}
 use Rattle.serf_explain.proofs.TellLaws.{lines-added, nothing-added}
 use Rattle.serf_explain.proofs.reasoning.put_turn.Goals as goal
 

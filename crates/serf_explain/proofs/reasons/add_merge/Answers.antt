@@ -1,11 +1,4 @@
-use Rattle.std.proofs.Common.{◌++◌, ◌∷◌, [], ◌≡◌, ℕ, OnOk, ap, length, refl, subst, sym, ◌∙◌}
-use Rattle.serf_wire.specs.Decoded.{decoded}
-use Rattle.serf_explain.specs.declared.history.History.{History}
-use Rattle.serf_explain.specs.declared.marks.Mark.{Mark}
-use Rattle.serf_explain.specs.Carried.{Known}
-use Rattle.serf_explain.specs.HandOuts.{notes_in}
-use Rattle.serf_explain.specs.Judging.{AddsMerge}
-use Rattle.serf_explain.specs.Leaving.{IsMark}
+use Rattle.serf_explain.proofs.Names.{OnOk, [], ap, length, refl, subst, sym, ℕ, ◌++◌, ◌∙◌, ◌∷◌, ◌≡◌, decoded, Known, notes_in, AddsMerge, IsMark, History, Mark}
 use Rattle.serf_explain.proofs.reasons.add_merge.Goals as goal
 
 pub returns : goal.returns

@@ -1,12 +1,4 @@
-use Rattle.std.proofs.Common.{◌≡◌, ◌+◌, ◌++◌, ◌∷◌, [], ℕ, List, Some, None, OnOk, ap, length, sym, subst, ◌∙◌}
-use Rattle.std.proofs.lemmas.List.{length-map, map-append}
-use Rattle.std.specs.Prelude.{slice_get}
-use Rattle.std.proofs.lemmas.Result.{on_ok_weaker}
-use Rattle.serf_wire.specs.Decoded.{decoded}
-use Rattle.serf_agent.specs.View.{view_of}
-use Rattle.serf_explain.specs.Carried.{Known}
-use Rattle.serf_explain.specs.Judging.{AddsMerge}
-use Rattle.serf_explain.specs.Left.{events_least, number_in, numbers_in}
+use Rattle.serf_explain.proofs.Names.{List, None, OnOk, Some, [], ap, length, subst, sym, ℕ, ◌++◌, ◌+◌, ◌∙◌, ◌∷◌, ◌≡◌, length-map, map-append, on_ok_weaker, slice_get, decoded, view_of, Known, AddsMerge, events_least, number_in, numbers_in}
 use Rattle.serf_explain.proofs.CarriedLaws.{tells-none}
 use Rattle.serf_explain.proofs.MergeLaws.{agent-is, agent-sound, node-of, tells-merge}
 use Rattle.serf_explain.proofs.reasons.add_merge_at.Goals as goal

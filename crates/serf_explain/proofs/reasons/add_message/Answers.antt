@@ -1,5 +1,4 @@
-use Rattle.std.proofs.Common.{refl}
-use Rattle.serf_wire.specs.Message.{push_pull_said}
+use Rattle.serf_explain.proofs.Names.{refl, push_pull_said}
 use Rattle.serf_explain.proofs.reasons.add_message.Goals as goal
 
 pub returns-in-PushPull : goal.returns-in-PushPull

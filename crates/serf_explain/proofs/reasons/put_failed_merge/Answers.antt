@@ -1,4 +1,4 @@
-use Rattle.std.proofs.lemmas.Result.{on_ok_weaker}
+use Rattle.serf_explain.proofs.Names.{on_ok_weaker}
 use Rattle.serf_explain.proofs.ReasonLaws.{adds-behind, adds-both}
 use Rattle.serf_explain.proofs.reasons.put_failed_merge.Goals as goal
 

@@ -1,4 +1,4 @@
-use Rattle.serf_explain.specs.Because.{AddsReasons}
+use Rattle.serf_explain.proofs.Names.{AddsReasons}
 use Rattle.serf_explain.proofs.reasons.put_failed_merge.Given as goal
 
 abbrev pub invariant-loop-line : goal.invariant-loop-line

@@ -1,8 +1,4 @@
-use Rattle.std.proofs.Common.{◌≡◌, ◌++◌, ℕ, Option, OnOk, subst, sym}
-use Rattle.std.specs.List.{flat_map}
-use Rattle.std.proofs.lemmas.Result.{on_ok_weaker}
-use Rattle.serf_explain.specs.Because.{because_line}
-use Rattle.serf_explain.specs.Carried.{raised_reasons}
+use Rattle.serf_explain.proofs.Names.{OnOk, Option, subst, sym, ℕ, ◌++◌, ◌≡◌, on_ok_weaker, flat_map, because_line, raised_reasons}
 use Rattle.serf_explain.proofs.ReasonLaws.{raised_is}
 use Rattle.serf_explain.proofs.reasons.put_raised.Goals as goal
 

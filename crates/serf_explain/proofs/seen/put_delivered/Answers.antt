@@ -1,5 +1,4 @@
-use Rattle.std.proofs.lemmas.Result.{on_ok_weaker}
-use Rattle.serf_explain.specs.Noted.{event_as}
+use Rattle.serf_explain.proofs.Names.{on_ok_weaker, event_as}
 use Rattle.serf_explain.proofs.LeftLaws.{adds_ignored}
 use Rattle.serf_explain.proofs.seen.put_delivered.Goals as goal
 

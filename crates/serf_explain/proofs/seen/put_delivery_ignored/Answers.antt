@@ -1,7 +1,4 @@
-use Rattle.std.proofs.Common.{sym, ap, ◌∙◌}
-use Rattle.std.proofs.lemmas.Result.{on_ok_weaker}
-use Rattle.std.specs.Option.{option_map}
-use Rattle.serf_explain.specs.Noted.{delivered_as}
+use Rattle.serf_explain.proofs.Names.{ap, sym, ◌∙◌, on_ok_weaker, option_map, delivered_as}
 use Rattle.serf_explain.proofs.LeftLaws.{adds_delivered, adds_other}
 use Rattle.serf_explain.proofs.seen.put_delivery_ignored.Goals as goal
 

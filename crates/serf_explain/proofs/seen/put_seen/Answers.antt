@@ -1,7 +1,4 @@
-use Rattle.std.proofs.Common.{ap, sym, ◌∙◌}
-use Rattle.std.proofs.lemmas.Result.{on_ok_weaker}
-use Rattle.serf_window.specs.Texts.{event_of}
-use Rattle.serf_explain.specs.HandOuts.{handed_words}
+use Rattle.serf_explain.proofs.Names.{ap, sym, ◌∙◌, on_ok_weaker, event_of, handed_words}
 use Rattle.serf_explain.proofs.seen.put_seen.Goals as goal
 
 pub returns : goal.returns

@@ -1,6 +1,4 @@
-use Rattle.std.proofs.Common.{◌≡◌, ◌++◌, take}
-use Rattle.std.specs.List.{flat_map}
-use Rattle.serf_hunt.specs.Calls.{injections_of}
+use Rattle.serf_hunt.proofs.Names.{take, ◌++◌, ◌≡◌, flat_map, injections_of}
 use Rattle.serf_hunt.proofs.alone.add_packets.Given as goal
 
 abbrev pub invariant-loop-call : goal.invariant-loop-call

@@ -1,5 +1,4 @@
-use Rattle.std.proofs.Common.{◌≡◌, ◌≤◌, ◌++◌, drop}
-use Rattle.serf_hunt.specs.Calls.{placed_from}
+use Rattle.serf_hunt.proofs.Names.{drop, ◌++◌, ◌≡◌, ◌≤◌, placed_from}
 use Rattle.serf_hunt.proofs.alone.add_placed.Given as goal
 
 -- the actions so far, and those of the calls that are left

@@ -1,6 +1,4 @@
-use Rattle.std.proofs.Common.{◌≡◌, ◌≤◌, ◌++◌, length}
-use Rattle.serf_model.specs.Trace.{turns_from}
-use Rattle.serf_hunt.specs.Calls.{calls_by}
+use Rattle.serf_hunt.proofs.Names.{length, ◌++◌, ◌≡◌, ◌≤◌, turns_from, calls_by}
 use Rattle.serf_hunt.proofs.alone.calls_in.Given as goal
 
 -- the calls so far, and those of the turns that are left

@@ -1,7 +1,4 @@
-use Rattle.std.proofs.Common.{◌≡◌, ◌-◌, ◌∙◌, arith, drop, length, sym, take}
-use Rattle.std.proofs.lemmas.Grind.{common_steps}
-use Rattle.serf_model.specs.Trace.{outcome_of, turns_of}
-use Rattle.serf_conform.specs.Rules.{is_serf}
+use Rattle.serf_hunt.proofs.Names.{arith, drop, length, sym, take, ◌-◌, ◌∙◌, ◌≡◌, common_steps, outcome_of, turns_of, is_serf}
 use Rattle.serf_hunt.proofs.SweepLemmas.{next_ends, next_on}
 use Rattle.serf_hunt.proofs.held.hold_configs.Goals as goal
 

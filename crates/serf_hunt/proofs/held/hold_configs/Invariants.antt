@@ -1,7 +1,4 @@
-use Rattle.std.proofs.Common.{◌+◌, ◌≤◌, [], length}
-use Rattle.serf_model.specs.Trace.{outcome_of, turns_of}
-use Rattle.serf_conform.specs.Rules.{is_serf}
-use Rattle.serf_hunt.specs.Sweep.{IsSweeping, no_counts, sweep_from}
+use Rattle.serf_hunt.proofs.Names.{[], length, ◌+◌, ◌≤◌, outcome_of, turns_of, is_serf, IsSweeping, no_counts, sweep_from}
 use Rattle.serf_hunt.proofs.held.hold_configs.Given as goal
 
 -- The agents that are left, and what is left of the input, give what all give.

@@ -1,5 +1,4 @@
-use Rattle.std.proofs.Common.{◌-◌, arith}
-use Rattle.serf_conform.specs.Rules.{is_serf}
+use Rattle.serf_hunt.proofs.Names.{arith, ◌-◌, is_serf}
 use Rattle.serf_hunt.proofs.HuntLemmas.{hunt_done, next_ends, next_on}
 use Rattle.serf_hunt.proofs.seeds.hunt.Goals as goal
 

@@ -1,7 +1,4 @@
-use Rattle.std.proofs.Common.{◌-◌, []}
-use Rattle.serf_conform.specs.Rules.{is_serf}
-use Rattle.serf_hunt.specs.Hunt.{Hunts, IsHunting}
-use Rattle.serf_hunt.specs.Sweep.{no_counts}
+use Rattle.serf_hunt.proofs.Names.{[], ◌-◌, is_serf, Hunts, IsHunting, no_counts}
 use Rattle.serf_hunt.proofs.seeds.hunt.Given as goal
 
 -- The seeds that are left, and what is left of the input, make a hunt of all.

@@ -1,7 +1,5 @@
-use Rattle.std.proofs.Common.{refl}
-use Rattle.std.proofs.lemmas.Bool.{le-leb}
-use Rattle.serf_conform.specs.Rules.{is_serf}
-use Rattle.serf_hunt.specs.declared.narrowing.Narrowed.TheVariants as narrows
+use Rattle.serf_hunt.proofs.Names.{refl, le-leb, is_serf}
+use Rattle.serf_hunt.specs.declared.shrinking.Narrowed.TheVariants as narrows
 use Rattle.serf_hunt.proofs.TrialLemmas.{along_less, narrowed}
 use Rattle.serf_hunt.proofs.shrinking.settle.Goals as goal
 

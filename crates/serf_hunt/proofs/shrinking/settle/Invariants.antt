@@ -1,7 +1,4 @@
-use Rattle.std.proofs.Common.{◌+◌, ℕ, List, [], Option, length}
-use Rattle.serf_conform.specs.Rules.{is_serf}
-use Rattle.serf_hunt.specs.declared.call.Call.{Call}
-use Rattle.serf_hunt.specs.Trials.{IsAlong}
+use Rattle.serf_hunt.proofs.Names.{List, Option, [], length, ℕ, ◌+◌, is_serf, IsAlong, Call}
 use Rattle.serf_hunt.proofs.shrinking.settle.Given as goal
 
 abbrev pub invariant-steps : goal.invariant-steps

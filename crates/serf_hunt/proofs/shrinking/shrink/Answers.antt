@@ -1,4 +1,4 @@
-use Rattle.serf_conform.specs.Rules.{is_serf}
+use Rattle.serf_hunt.proofs.Names.{is_serf}
 use Rattle.serf_hunt.proofs.TrialLemmas.{shrunk_first}
 use Rattle.serf_hunt.proofs.shrinking.shrink.Goals as goal
 

@@ -1,4 +1,4 @@
-use Rattle.serf_judge.proofs.Names.{AreKept, List, ap, contains, false, firsts_of, refl, subst, sym, take, take_all, ◌∙◌}
+use Rattle.serf_judge.proofs.Names.{List, ap, false, refl, subst, sym, take, take_all, ◌∙◌, contains, firsts_of, AreKept}
 use Rattle.serf_judge.proofs.TallyLaws.{take-next}
 use Rattle.serf_judge.proofs.again.firsts.Goals as goal
 

@@ -1,4 +1,4 @@
-use Rattle.serf_judge.proofs.Names.{AreKept, contains, false, take}
+use Rattle.serf_judge.proofs.Names.{false, take, contains, AreKept}
 use Rattle.serf_judge.proofs.again.firsts.Given as goal
 
 abbrev pub invariant-loop-key : goal.invariant-loop-key

@@ -1,5 +1,4 @@
-use Rattle.serf_judge.proofs.Names.{AreKept, List, [], ap, append-nil, contains, false, subst, sym, true, ◌++◌, ◌∙◌, ◌∷◌}
-use mathlib.Core.Bool.{beq}
+use Rattle.serf_judge.proofs.Names.{List, [], ap, false, subst, sym, true, ◌++◌, ◌∙◌, ◌∷◌, append-nil, contains, beq, AreKept}
 use Rattle.serf_judge.proofs.AgainLaws.{is-dropped, is-kept, kept-more}
 use Rattle.serf_judge.proofs.again.keep.Goals as goal
 

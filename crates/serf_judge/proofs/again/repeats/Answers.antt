@@ -1,4 +1,4 @@
-use Rattle.serf_judge.proofs.Names.{[], ap, handed_seen, is_same, key_eq, map, map-append, refl, repeats_among, rules, sym, take, take_all, ◌++◌, ◌∙◌, ◌∷◌}
+use Rattle.serf_judge.proofs.Names.{[], ap, map, refl, rules, sym, take, take_all, ◌++◌, ◌∙◌, ◌∷◌, map-append, handed_seen, is_same, key_eq, repeats_among}
 use Rattle.serf_judge.proofs.AgainLaws.{picked-map}
 use Rattle.serf_judge.proofs.TallyLaws.{take-next}
 use Rattle.serf_judge.proofs.again.repeats.Goals as goal

@@ -1,4 +1,4 @@
-use Rattle.serf_judge.proofs.Names.{AreKept, Handed, List, contains, handed_seen, key_eq, map, take, true, ◌≡◌}
+use Rattle.serf_judge.proofs.Names.{List, map, take, true, ◌≡◌, contains, handed_seen, key_eq, AreKept, Handed}
 use Rattle.serf_judge.proofs.again.repeats.Given as goal
 
 -- those of the lines so far that come again are kept

@@ -1,4 +1,4 @@
-use Rattle.serf_judge.proofs.Names.{AreNoted, EventEntry, List, subst, sym, take, take_all}
+use Rattle.serf_judge.proofs.Names.{List, subst, sym, take, take_all, AreNoted, EventEntry}
 use Rattle.serf_judge.proofs.TallyLaws.{take-next}
 use Rattle.serf_judge.proofs.fired.first_unfired.Goals as goal
 

@@ -1,4 +1,4 @@
-use Rattle.serf_judge.proofs.Names.{AreNoted, take}
+use Rattle.serf_judge.proofs.Names.{take, AreNoted}
 use Rattle.serf_judge.proofs.fired.first_unfired.Given as goal
 
 abbrev pub invariant-loop-entry : goal.invariant-loop-entry

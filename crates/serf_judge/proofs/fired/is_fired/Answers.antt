@@ -1,4 +1,4 @@
-use Rattle.serf_judge.proofs.Names.{EventContent, ap, content_of, counts, is_same_content, list_any, log_at, one_counts, says, ℕ, ◌&&◌, ◌∙◌}
+use Rattle.serf_judge.proofs.Names.{ap, ℕ, ◌&&◌, ◌∙◌, list_any, EventContent, content_of, is_same_content, log_at, counts, one_counts, says}
 use Rattle.serf_judge.proofs.fired.is_fired.Goals as goal
 
 pub returns-in-Some : goal.returns-in-Some

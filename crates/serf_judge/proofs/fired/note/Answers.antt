@@ -1,4 +1,4 @@
-use Rattle.serf_judge.proofs.Names.{content_key_eq, content_of, counts, get, is_same_content, key_content, one_counts}
+use Rattle.serf_judge.proofs.Names.{get, content_key_eq, content_of, is_same_content, key_content, counts, one_counts}
 use Rattle.serf_judge.proofs.FiredLaws.{content-decides}
 use Rattle.serf_judge.proofs.NotedLaws.{table-more}
 use Rattle.serf_judge.proofs.fired.note.Goals as goal

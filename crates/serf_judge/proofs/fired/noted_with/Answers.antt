@@ -1,4 +1,4 @@
-use Rattle.serf_judge.proofs.Names.{arith, common_steps, max, min, refl, ◌≡◌}
+use Rattle.serf_judge.proofs.Names.{arith, max, min, refl, ◌≡◌, common_steps}
 use Rattle.serf_judge.proofs.FiredLaws.{counts-more}
 use Rattle.serf_judge.proofs.fired.noted_with.Goals as goal
 

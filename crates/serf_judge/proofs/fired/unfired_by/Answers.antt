@@ -1,4 +1,4 @@
-use Rattle.serf_judge.proofs.Names.{Some, ap, arith, common_steps, false, slice_get, slice_get-get_or, slice_get_within, sym, true, was_fired, ◌∙◌, ◌≡◌}
+use Rattle.serf_judge.proofs.Names.{Some, ap, arith, false, sym, true, ◌∙◌, ◌≡◌, common_steps, slice_get-get_or, slice_get_within, slice_get, was_fired}
 use Rattle.serf_judge.proofs.PlaceLaws.{below-or-here}
 use Rattle.serf_judge.proofs.fired.unfired_by.Goals as goal
 

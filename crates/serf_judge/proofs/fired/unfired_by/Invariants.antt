@@ -1,4 +1,4 @@
-use Rattle.serf_judge.proofs.Names.{AreNoted, EventEntry, List, Some, slice_get, true, was_fired, ℕ, ◌<◌, ◌≡◌}
+use Rattle.serf_judge.proofs.Names.{List, Some, true, ℕ, ◌<◌, ◌≡◌, slice_get, was_fired, AreNoted, EventEntry}
 use Rattle.serf_judge.proofs.fired.unfired_by.Given as goal
 
 abbrev pub invariant-loop-place : goal.invariant-loop-place

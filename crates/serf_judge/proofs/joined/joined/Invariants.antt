@@ -1,6 +1,4 @@
-use Rattle.serf_judge.proofs.Names.{map, ◌++◌, ◌≡◌}
-use Rattle.std.specs.Vec.Iter.{into_iter_items}
-use Rattle.serf_judge.specs.Joined.{moved_on}
+use Rattle.serf_judge.proofs.Names.{map, ◌++◌, ◌≡◌, into_iter_items, moved_on}
 use Rattle.serf_judge.proofs.joined.joined.Given as goal
 
 -- those so far, and then those that are left

@@ -1,5 +1,4 @@
-use Rattle.serf_judge.proofs.Names.{ap, arith, cond, counted_from, is_leave, length, lines_of, lt-ltb, nat_lt, sym, true, ◌&&◌, ◌==◌, ◌∙◌, ◌∷◌, ◌≡◌}
-use Rattle.std.proofs.lemmas.List.Splits.{length-slice_split}
+use Rattle.serf_judge.proofs.Names.{ap, arith, cond, length, nat_lt, sym, true, ◌&&◌, ◌==◌, ◌∙◌, ◌∷◌, ◌≡◌, lt-ltb, length-slice_split, lines_of, counted_from, is_leave}
 use Rattle.serf_judge.proofs.kept.behind_leave.Goals as goal
 
 pub lines-preserved-then-is_leave_line : goal.lines-preserved-then-is_leave_line

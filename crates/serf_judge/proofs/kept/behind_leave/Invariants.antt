@@ -1,4 +1,4 @@
-use Rattle.serf_judge.proofs.Names.{counted_from, counted_lines, length, lines_of, ◌≡◌}
+use Rattle.serf_judge.proofs.Names.{length, ◌≡◌, lines_of, counted_from, counted_lines}
 use Rattle.serf_judge.proofs.kept.behind_leave.Given as goal
 
 -- what counts so far, and what is left, come to what counts of all

@@ -1,4 +1,4 @@
-use Rattle.serf_judge.proofs.Names.{is_line_wanted, length, lines_of, list_any, ◌≡◌}
+use Rattle.serf_judge.proofs.Names.{length, ◌≡◌, list_any, lines_of, is_line_wanted}
 use Rattle.serf_judge.proofs.kept.has_line.Given as goal
 
 -- what is left has such a line just where all has one

@@ -1,4 +1,4 @@
-use Rattle.serf_judge.proofs.Names.{Identity, ap, bytes_eq, ℕ, ◌∙◌}
+use Rattle.serf_judge.proofs.Names.{ap, ℕ, ◌∙◌, bytes_eq, Identity}
 use Rattle.serf_judge.proofs.kept.is_of.Goals as goal
 
 pub returns : goal.returns

@@ -1,4 +1,4 @@
-use Rattle.serf_judge.proofs.Names.{EventEntry, IsLater, Some, arith, refl, slice_get, slice_get_read, slice_get_within, ℕ, ◌≡◌}
+use Rattle.serf_judge.proofs.Names.{Some, arith, refl, ℕ, ◌≡◌, slice_get_read, slice_get_within, slice_get, IsLater, EventEntry}
 use Rattle.serf_judge.proofs.PlaceLaws.{below-or-here}
 use Rattle.serf_judge.proofs.later.first_not_later.Goals as goal
 

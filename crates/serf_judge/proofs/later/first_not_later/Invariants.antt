@@ -1,4 +1,4 @@
-use Rattle.serf_judge.proofs.Names.{AreGreatest, EventEntry, IsInOrder, IsLater, Some, length, slice_get, take, ℕ, ◌<◌, ◌≡◌, ◌≤◌}
+use Rattle.serf_judge.proofs.Names.{Some, length, take, ℕ, ◌<◌, ◌≡◌, ◌≤◌, slice_get, IsInOrder, IsLater, AreGreatest, EventEntry}
 use Rattle.serf_judge.proofs.later.first_not_later.Given as goal
 
 -- what was fired so far is later, and the events that are noted stand on lines before all that is fired from here on

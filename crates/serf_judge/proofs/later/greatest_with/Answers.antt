@@ -1,4 +1,4 @@
-use Rattle.serf_judge.proofs.Names.{arith, common_steps, max, refl, ◌≡◌}
+use Rattle.serf_judge.proofs.Names.{arith, max, refl, ◌≡◌, common_steps}
 use Rattle.serf_judge.proofs.LaterLaws.{greatest-more}
 use Rattle.serf_judge.proofs.later.greatest_with.Goals as goal
 

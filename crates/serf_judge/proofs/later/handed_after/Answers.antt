@@ -1,4 +1,4 @@
-use Rattle.serf_judge.proofs.Names.{ap, arith, common_steps, le-leb, lt-leb, nat_le, says, sym, ℕ, ◌<◌, ◌∙◌, ◌≤◌}
+use Rattle.serf_judge.proofs.Names.{ap, arith, nat_le, sym, ℕ, ◌<◌, ◌∙◌, ◌≤◌, le-leb, lt-leb, common_steps, says}
 use Rattle.serf_judge.proofs.LaterLaws.{is-later, is-not-later, notes-say}
 use Rattle.serf_judge.proofs.later.handed_after.Goals as goal
 

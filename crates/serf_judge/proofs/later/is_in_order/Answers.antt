@@ -1,5 +1,4 @@
-use Rattle.serf_judge.proofs.Names.{nat_le, rules}
-use Rattle.std.proofs.lemmas.Fn.{always_returns_same}
+use Rattle.serf_judge.proofs.Names.{nat_le, rules, always_returns_same}
 use Rattle.serf_judge.proofs.LaterLaws.{in-order}
 use Rattle.serf_judge.proofs.later.is_in_order.Goals as goal
 

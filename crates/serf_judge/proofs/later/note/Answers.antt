@@ -1,4 +1,4 @@
-use Rattle.serf_judge.proofs.Names.{bytes_eq, bytes_eq-Decides, get, is_same_text, nat_le}
+use Rattle.serf_judge.proofs.Names.{nat_le, bytes_eq-Decides, get, bytes_eq, is_same_text}
 use Rattle.serf_judge.proofs.NotedLaws.{table-more}
 use Rattle.serf_judge.proofs.later.note.Goals as goal
 

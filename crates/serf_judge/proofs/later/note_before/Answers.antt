@@ -1,4 +1,4 @@
-use Rattle.serf_judge.proofs.Names.{AreGreatest, EventEntry, List, Some, arith, get_or, slice_get, slice_get-get_or, slice_get_within, subst, sym, take, ℕ, ◌<◌, ◌∙◌, ◌≡◌, ◌≤◌}
+use Rattle.serf_judge.proofs.Names.{List, Some, arith, get_or, subst, sym, take, ℕ, ◌<◌, ◌∙◌, ◌≡◌, ◌≤◌, slice_get-get_or, slice_get_within, slice_get, AreGreatest, EventEntry}
 use Rattle.serf_judge.proofs.LaterLaws.{cut-at}
 use Rattle.serf_judge.proofs.PlaceLaws.{below-or-here}
 use Rattle.serf_judge.proofs.TallyLaws.{take-next}

@@ -1,4 +1,4 @@
-use Rattle.serf_judge.proofs.Names.{AreGreatest, EventEntry, Some, length, slice_get, take, ℕ, ◌-◌, ◌<◌, ◌≡◌, ◌≤◌}
+use Rattle.serf_judge.proofs.Names.{Some, length, take, ℕ, ◌-◌, ◌<◌, ◌≡◌, ◌≤◌, slice_get, AreGreatest, EventEntry}
 use Rattle.serf_judge.proofs.later.note_before.Given as goal
 
 -- the first events are noted, and stand on lines before this one

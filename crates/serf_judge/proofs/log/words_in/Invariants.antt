@@ -1,4 +1,4 @@
-use Rattle.serf_judge.proofs.Names.{length, map, words_of, ◌++◌, ◌≡◌}
+use Rattle.serf_judge.proofs.Names.{length, map, ◌++◌, ◌≡◌, words_of}
 use Rattle.serf_judge.proofs.log.words_in.Given as goal
 
 -- the words so far, and then those of the rest

@@ -1,4 +1,4 @@
-use Rattle.serf_judge.proofs.Names.{IfOk-weaker, [], ap, content_key_eq, content_of, firsts_of, is_same_content, key_content, map, not, refl, take_all, ◌∙◌}
+use Rattle.serf_judge.proofs.Names.{[], ap, map, not, refl, take_all, ◌∙◌, IfOk-weaker, firsts_of, content_key_eq, content_of, is_same_content, key_content}
 use Rattle.serf_judge.proofs.AgainLaws.{picked-map}
 use Rattle.serf_judge.proofs.missed.contents.Goals as goal
 

@@ -1,4 +1,4 @@
-use Rattle.serf_judge.proofs.Names.{content_of, key_content, map, take, ◌≡◌}
+use Rattle.serf_judge.proofs.Names.{map, take, ◌≡◌, content_of, key_content}
 use Rattle.serf_judge.proofs.missed.contents.Given as goal
 
 abbrev pub invariant-loop-entry : goal.invariant-loop-entry

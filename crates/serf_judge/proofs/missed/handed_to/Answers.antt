@@ -1,4 +1,4 @@
-use Rattle.serf_judge.proofs.Names.{EventEntry, HasHanded, Identity, List, ap, contains, event_identity, is_same, key_eq, key_identity, subst, sym, take, take_all, ℕ, ◌∙◌}
+use Rattle.serf_judge.proofs.Names.{List, ap, subst, sym, take, take_all, ℕ, ◌∙◌, contains, Identity, event_identity, is_same, key_eq, key_identity, HasHanded, EventEntry}
 use Rattle.serf_judge.proofs.KeyLaws.{same-decides}
 use Rattle.serf_judge.proofs.NotedLaws.{key-more, turned}
 use Rattle.serf_judge.proofs.TallyLaws.{take-next}

@@ -1,4 +1,4 @@
-use Rattle.serf_judge.proofs.Names.{HasHanded, take}
+use Rattle.serf_judge.proofs.Names.{take, HasHanded}
 use Rattle.serf_judge.proofs.missed.handed_to.Given as goal
 
 abbrev pub invariant-loop-entry : goal.invariant-loop-entry

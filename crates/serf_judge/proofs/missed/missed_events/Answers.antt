@@ -1,4 +1,4 @@
-use Rattle.serf_judge.proofs.Names.{Bor, List, None, ap, get_or, key_content, lacks, length, length-map, map, missing_view, not, sym, texts_of, ℕ, ◌∙◌}
+use Rattle.serf_judge.proofs.Names.{Bor, List, None, ap, get_or, length, map, not, sym, ℕ, ◌∙◌, length-map, key_content, missing_view, texts_of, lacks}
 use Rattle.serf_judge.proofs.MissedLaws.{no_content, rows-all, rows-more, some-missing}
 use Rattle.serf_judge.proofs.missed.missed_events.Goals as goal
 

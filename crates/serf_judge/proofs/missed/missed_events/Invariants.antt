@@ -1,4 +1,4 @@
-use Rattle.serf_judge.proofs.Names.{filter, has_nodes, map, missing_view, take, ◌≡◌}
+use Rattle.serf_judge.proofs.Names.{map, take, ◌≡◌, filter, has_nodes, missing_view}
 use Rattle.serf_judge.proofs.MissedLaws.{row_of}
 use Rattle.serf_judge.proofs.missed.missed_events.Given as goal
 

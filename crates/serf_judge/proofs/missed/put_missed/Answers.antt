@@ -1,4 +1,4 @@
-use Rattle.serf_judge.proofs.Names.{Bor, List, ap, arith, common_steps, key_content, length, length-map, map, map_push, missing_view, sym, texts_of, ℕ, ◌<◌, ◌∙◌, ◌≡◌}
+use Rattle.serf_judge.proofs.Names.{Bor, List, ap, arith, length, map, sym, ℕ, ◌<◌, ◌∙◌, ◌≡◌, common_steps, length-map, map_push, key_content, missing_view, texts_of}
 use Rattle.serf_judge.proofs.MissedLaws.{put-none, put-some}
 use Rattle.serf_judge.proofs.missed.put_missed.Goals as goal
 

@@ -1,4 +1,4 @@
-use Rattle.serf_judge.proofs.Names.{nodes_in, take, texts_of, ◌++◌, ◌≡◌}
+use Rattle.serf_judge.proofs.Names.{take, ◌++◌, ◌≡◌, nodes_in, texts_of}
 use Rattle.serf_judge.proofs.nodes.add_nodes.Given as goal
 
 abbrev pub invariant-loop-entry : goal.invariant-loop-entry

@@ -1,4 +1,4 @@
-use Rattle.serf_judge.proofs.Names.{Bor, IfOk-weaker, List, [], ap, bytes_eq, is_same_text, not, refl, texts_of, ℕ, ◌∙◌}
+use Rattle.serf_judge.proofs.Names.{Bor, List, [], ap, not, refl, ℕ, ◌∙◌, IfOk-weaker, bytes_eq, is_same_text, texts_of}
 use Rattle.serf_judge.proofs.AgainLaws.{picked-map}
 use Rattle.serf_judge.proofs.nodes.each_once.Goals as goal
 

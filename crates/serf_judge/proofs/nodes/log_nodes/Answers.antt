@@ -1,4 +1,4 @@
-use Rattle.serf_judge.proofs.Names.{IfOk, List, ap, bytes_eq, event_seen, firsts_of, nodes_in, query_seen, subst, texts_of, ℕ, ◌++◌, ◌∙◌, ◌≡◌}
+use Rattle.serf_judge.proofs.Names.{List, ap, subst, ℕ, ◌++◌, ◌∙◌, ◌≡◌, IfOk, bytes_eq, firsts_of, event_seen, query_seen, nodes_in, texts_of}
 use Rattle.serf_judge.proofs.nodes.log_nodes.Goals as goal
 
 pub returns : goal.returns

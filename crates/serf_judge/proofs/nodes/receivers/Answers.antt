@@ -1,4 +1,4 @@
-use Rattle.serf_judge.proofs.Names.{IfOk, List, ap, bytes_eq, firsts_of, nodes_in, subst, texts_of, ℕ, ◌++◌, ◌∙◌, ◌≡◌}
+use Rattle.serf_judge.proofs.Names.{List, ap, subst, ℕ, ◌++◌, ◌∙◌, ◌≡◌, IfOk, bytes_eq, firsts_of, nodes_in, texts_of}
 use Rattle.serf_judge.proofs.nodes.receivers.Goals as goal
 
 pub returns : goal.returns

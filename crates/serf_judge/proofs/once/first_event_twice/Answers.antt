@@ -1,4 +1,4 @@
-use Rattle.serf_judge.proofs.Names.{IfOk-weaker, event_identity, map}
+use Rattle.serf_judge.proofs.Names.{map, IfOk-weaker, event_identity}
 use Rattle.serf_judge.proofs.OnceLaws.{none-once}
 use Rattle.serf_judge.proofs.once.first_event_twice.Goals as goal
 

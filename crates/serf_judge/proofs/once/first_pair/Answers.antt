@@ -1,4 +1,4 @@
-use Rattle.serf_judge.proofs.Names.{Some, ap, get, rules, slice_get, slice_get-get_or, sym, ◌∙◌, ◌≡◌}
+use Rattle.serf_judge.proofs.Names.{Some, ap, rules, sym, ◌∙◌, ◌≡◌, slice_get-get_or, get, slice_get}
 use Rattle.serf_judge.proofs.PairLaws.{found, no-pair, not-found, nothing-noted}
 use Rattle.serf_judge.proofs.once.first_pair.Goals as goal
 

@@ -1,4 +1,4 @@
-use Rattle.serf_judge.proofs.Names.{IfOk-weaker, map, query_identity}
+use Rattle.serf_judge.proofs.Names.{map, IfOk-weaker, query_identity}
 use Rattle.serf_judge.proofs.OnceLaws.{none-once}
 use Rattle.serf_judge.proofs.once.first_query_twice.Goals as goal
 

@@ -1,4 +1,4 @@
-use Rattle.serf_judge.proofs.Names.{IfOk-weaker, ap, key_eq, key_identity, map, take_all, ◌∙◌, ◌≡◌}
+use Rattle.serf_judge.proofs.Names.{ap, map, take_all, ◌∙◌, ◌≡◌, IfOk-weaker, key_eq, key_identity}
 use Rattle.serf_judge.proofs.KeyLaws.{key-decides}
 use Rattle.serf_judge.proofs.TwiceLaws.{twice-from-pairs}
 use Rattle.serf_judge.proofs.once.first_twice.Goals as goal

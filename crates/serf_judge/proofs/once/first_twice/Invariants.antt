@@ -1,4 +1,4 @@
-use Rattle.serf_judge.proofs.Names.{key_identity, map, take, ◌≡◌}
+use Rattle.serf_judge.proofs.Names.{map, take, ◌≡◌, key_identity}
 use Rattle.serf_judge.proofs.once.first_twice.Given as goal
 
 abbrev pub invariant-loop-entry : goal.invariant-loop-entry

@@ -1,4 +1,4 @@
-use Rattle.serf_judge.proofs.Names.{get, handed_seen, is_same_text, lines_to, refl}
+use Rattle.serf_judge.proofs.Names.{refl, get, handed_seen, is_same_text, lines_to}
 use Rattle.serf_judge.proofs.TallyLaws.{line-tallied}
 use Rattle.serf_judge.proofs.tally.add_line.Goals as goal
 

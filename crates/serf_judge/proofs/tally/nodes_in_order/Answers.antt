@@ -1,4 +1,4 @@
-use Rattle.serf_judge.proofs.Names.{Handed, Identity, IfOk, List, ap, bytes_eq, firsts_of, handed_seen, map, subst, sym, take_all, texts_of, ℕ, ◌∙◌, ◌≡◌}
+use Rattle.serf_judge.proofs.Names.{List, ap, map, subst, sym, take_all, ℕ, ◌∙◌, ◌≡◌, IfOk, bytes_eq, firsts_of, Identity, handed_seen, texts_of, Handed}
 use Rattle.serf_judge.proofs.TallyLaws.{map-map}
 use Rattle.serf_judge.proofs.tally.nodes_in_order.Goals as goal
 

@@ -1,4 +1,4 @@
-use Rattle.serf_judge.proofs.Names.{map, take, texts_of, ◌≡◌}
+use Rattle.serf_judge.proofs.Names.{map, take, ◌≡◌, texts_of}
 use Rattle.serf_judge.proofs.tally.nodes_in_order.Given as goal
 
 abbrev pub invariant-loop-line : goal.invariant-loop-line

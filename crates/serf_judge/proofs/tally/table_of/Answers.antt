@@ -1,4 +1,4 @@
-use Rattle.serf_judge.proofs.Names.{AreTallied, Identity, List, ap, handed_seen, map, map_more, subst, sym, take, take_all, ℕ}
+use Rattle.serf_judge.proofs.Names.{List, ap, map, subst, sym, take, take_all, ℕ, map_more, Identity, handed_seen, AreTallied}
 use Rattle.serf_judge.proofs.TallyLaws.{no_line}
 use Rattle.serf_judge.proofs.tally.table_of.Goals as goal
 

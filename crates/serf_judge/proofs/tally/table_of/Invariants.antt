@@ -1,4 +1,4 @@
-use Rattle.serf_judge.proofs.Names.{AreTallied, handed_seen, map, take}
+use Rattle.serf_judge.proofs.Names.{map, take, handed_seen, AreTallied}
 use Rattle.serf_judge.proofs.tally.table_of.Given as goal
 
 abbrev pub invariant-loop-line : goal.invariant-loop-line

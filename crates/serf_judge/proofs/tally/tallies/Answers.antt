@@ -1,4 +1,4 @@
-use Rattle.serf_judge.proofs.Names.{handed_seen, map, told_of}
+use Rattle.serf_judge.proofs.Names.{map, handed_seen, told_of}
 use Rattle.serf_judge.proofs.TallyLaws.{told-all}
 use Rattle.serf_judge.proofs.tally.tallies.Goals as goal
 

@@ -1,4 +1,4 @@
-use Rattle.serf_judge.proofs.Names.{handed_seen, lines_to, map, take, tally_of, told_of, ◌≡◌}
+use Rattle.serf_judge.proofs.Names.{map, take, ◌≡◌, handed_seen, lines_to, tally_of, told_of}
 use Rattle.serf_judge.proofs.tally.tallies.Given as goal
 
 abbrev pub invariant-loop-node : goal.invariant-loop-node

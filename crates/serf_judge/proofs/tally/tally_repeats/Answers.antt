@@ -1,4 +1,4 @@
-use Rattle.serf_judge.proofs.Names.{Identity, IfOk, List, ap, handed_seen, map, repeats_among, subst, tallies_of, told_of, ℕ, ◌∙◌, ◌≡◌}
+use Rattle.serf_judge.proofs.Names.{List, ap, map, subst, ℕ, ◌∙◌, ◌≡◌, IfOk, Identity, handed_seen, repeats_among, tallies_of, told_of}
 use Rattle.serf_judge.proofs.tally.tally_repeats.Goals as goal
 
 pub returns : goal.returns

@@ -1,5 +1,4 @@
-use Rattle.serf_model.proofs.Names.{inl}
-use Rattle.serf_model.specs.Cluster.{run_of}
+use Rattle.serf_model.proofs.Names.{inl, run_of}
 use Rattle.serf_model.proofs.AnswerLaws.{acked-once, replied-once}
 use Rattle.serf_model.proofs.AnswerPromiseLaws.{counting-run, served-run}
 use Rattle.serf_model.proofs.BoundLaws.{events-bounded, queries-bounded, windows-bounded}

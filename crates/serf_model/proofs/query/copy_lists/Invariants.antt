@@ -1,4 +1,4 @@
-use Rattle.std.proofs.Common.{◌≡◌, take}
+use Rattle.serf_model.proofs.Names.{take, ◌≡◌}
 use Rattle.serf_model.proofs.query.copy_lists.Given as goal
 
 abbrev pub invariant-loop-list : goal.invariant-loop-list

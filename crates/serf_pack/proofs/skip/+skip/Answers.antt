@@ -1,4 +1,4 @@
-use Rattle.serf_pack.proofs.Names.{arith, sym, ◌∙◌, err_from_is_err_and, common_steps}
+use Rattle.serf_pack.proofs.Names.{arith, sym, ◌∙◌, common_steps, err_from_is_err_and}
 use Rattle.serf_pack.proofs.Skipping.{by_fault, by_nil, by_flag, by_int, by_raw, by_raw_short, by_array, by_map, array_too_deep, map_too_deep, item_left, items_end, item_fault, pair_left, pairs_end, key_fault, pair_fault}
 use Rattle.serf_pack.proofs.skip.+skip.Goals as goal
 

@@ -1,5 +1,4 @@
-use Rattle.serf_pack.proofs.Names.{◌≡◌, ◌≤◌, ◌-◌, ◌+◌, ◌*◌, length}
-use Rattle.serf_pack.specs.Reading.{value_at, items_at, pairs_at, rest_of}
+use Rattle.serf_pack.proofs.Names.{length, ◌*◌, ◌+◌, ◌-◌, ◌≡◌, ◌≤◌, rest_of, items_at, pairs_at, value_at}
 use Rattle.serf_pack.proofs.skip.+skip.Given as goal
 
 abbrev pub decreases-skip : goal.decreases-skip

@@ -1,5 +1,4 @@
-use Rattle.serf_pack.proofs.Names.{arith, common_steps}
-use Rattle.serf_pack.specs.declared.head.Head.TheVariants.{Nil}
+use Rattle.serf_pack.proofs.Names.{arith, common_steps, Nil}
 use Rattle.serf_pack.proofs.Skipping.{whole_head, number_head, by_nil, by_flag, by_int, by_raw}
 use Rattle.serf_pack.proofs.skip.skip_short.Goals as goal
 

@@ -1,4 +1,4 @@
-use Rattle.serf_pack.specs.View.{tree_of}
+use Rattle.serf_pack.proofs.Names.{tree_of}
 use Rattle.serf_pack.proofs.Inputs.{check_packs, check_only, check_faulty, check_only_fault, check_place}
 use Rattle.serf_pack.proofs.whole.check.Goals as goal
 

@@ -1,5 +1,4 @@
-use Rattle.serf_pack.proofs.Names.{refl}
-use Rattle.serf_pack.specs.View.{tree_of}
+use Rattle.serf_pack.proofs.Names.{refl, tree_of}
 use Rattle.serf_pack.proofs.Inputs.{packs_value}
 use Rattle.serf_pack.proofs.whole.view_packed.Goals as goal
 

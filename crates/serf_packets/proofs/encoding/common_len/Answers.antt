@@ -1,6 +1,4 @@
-use Rattle.std.proofs.Common.{◌≡◌, ◌≤◌, ◌∙◌, ◌+◌, ℕ, List, [], ap, arith, length, drop}
-use Rattle.std.proofs.lemmas.Grind.{common_steps}
-use Rattle.serf_packets.specs.Encoded.{common}
+use Rattle.serf_packets.proofs.Names.{List, [], ap, arith, drop, length, ℕ, ◌+◌, ◌∙◌, ◌≡◌, ◌≤◌, common_steps, common}
 use Rattle.serf_packets.proofs.ListLaws.{common_nothing}
 use Rattle.serf_packets.proofs.encoding.common_len.Goals as goal
 

@@ -1,5 +1,4 @@
-use Rattle.std.proofs.Common.{◌≡◌, ◌≤◌, ◌+◌, ◌-◌, length, drop}
-use Rattle.serf_packets.specs.Encoded.{common}
+use Rattle.serf_packets.proofs.Names.{drop, length, ◌+◌, ◌-◌, ◌≡◌, ◌≤◌, common}
 use Rattle.serf_packets.proofs.encoding.common_len.Given as goal
 
 -- the bytes so far are common, and then those of the rests are

@@ -1,6 +1,4 @@
-use Rattle.std.proofs.Common.{◌≡◌, ◌++◌, drop, map}
-use Rattle.serf_packets.specs.Rows.{row_seen}
-use Rattle.serf_packets.specs.Meant.{texts_at}
+use Rattle.serf_packets.proofs.Names.{drop, map, ◌++◌, ◌≡◌, texts_at, row_seen}
 use Rattle.serf_packets.proofs.meant.texts_field.Given as goal
 
 -- the bytes so far, and then those of the other lines

@@ -1,5 +1,4 @@
-use Rattle.std.proofs.Common.{◌≡◌, ◌++◌, length, map}
-use Rattle.serf_packets.specs.Rows.{row_seen, rows_in}
+use Rattle.serf_packets.proofs.Names.{length, map, ◌++◌, ◌≡◌, row_seen, rows_in}
 use Rattle.serf_packets.proofs.row.rows_of_text.Given as goal
 
 -- the lines so far, and then those of the rest

@@ -1,5 +1,4 @@
-use Rattle.std.proofs.Common.{◌≡◌, drop, map}
-use Rattle.serf_packets.specs.Rows.{row_seen, value_of}
+use Rattle.serf_packets.proofs.Names.{drop, map, ◌≡◌, row_seen, value_of}
 use Rattle.serf_packets.proofs.row.value.Given as goal
 
 -- none so far has the name

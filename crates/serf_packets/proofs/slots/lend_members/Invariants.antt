@@ -1,6 +1,4 @@
-use Rattle.std.proofs.Common.{◌≡◌, take, map}
-use Rattle.serf_wire.specs.Lists.{status_of}
-use Rattle.serf_packets.specs.States.{member_held}
+use Rattle.serf_packets.proofs.Names.{map, take, ◌≡◌, status_of, member_held}
 use Rattle.serf_packets.proofs.slots.lend_members.Given as goal
 
 abbrev pub invariant-loop-member : goal.invariant-loop-member

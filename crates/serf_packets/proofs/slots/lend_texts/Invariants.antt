@@ -1,4 +1,4 @@
-use Rattle.std.proofs.Common.{◌≡◌, take, map}
+use Rattle.serf_packets.proofs.Names.{map, take, ◌≡◌}
 use Rattle.serf_packets.proofs.slots.lend_texts.Given as goal
 
 abbrev pub invariant-loop-text : goal.invariant-loop-text

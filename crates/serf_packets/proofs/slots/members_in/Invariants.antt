@@ -1,6 +1,4 @@
-use Rattle.std.proofs.Common.{◌≡◌, ◌++◌, drop, map}
-use Rattle.serf_packets.specs.Rows.{row_seen}
-use Rattle.serf_packets.specs.States.{member_held, members_of}
+use Rattle.serf_packets.proofs.Names.{drop, map, ◌++◌, ◌≡◌, row_seen, member_held, members_of}
 use Rattle.serf_packets.proofs.slots.members_in.Given as goal
 
 -- the members so far, and then those of the other lines

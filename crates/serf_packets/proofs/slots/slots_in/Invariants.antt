@@ -1,8 +1,4 @@
-use Rattle.std.proofs.Common.{◌≡◌, drop, map}
-use Rattle.std.specs.List.{fold}
-use Rattle.serf_wire.specs.Parts.{slot_content}
-use Rattle.serf_packets.specs.Rows.{row_seen}
-use Rattle.serf_packets.specs.Meant.{after_row, slots_meant}
+use Rattle.serf_packets.proofs.Names.{drop, map, ◌≡◌, fold, slot_content, after_row, slots_meant, row_seen}
 use Rattle.serf_packets.proofs.slots.slots_in.Given as goal
 
 -- the other lines go on from the slots so far

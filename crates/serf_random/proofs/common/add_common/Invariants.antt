@@ -1,6 +1,4 @@
-use Rattle.std.proofs.Common.{◌+◌, ◌≤◌, length}
-use Rattle.std.specs.Vec.Iter.{into_iter_items}
-use Rattle.serf_random.specs.Cut.{IsAlong}
+use Rattle.serf_random.proofs.Names.{length, ◌+◌, ◌≤◌, into_iter_items, IsAlong}
 use Rattle.serf_random.proofs.common.add_common.Given as goal
 
 -- the world goes along with what is kept, and no more is kept than was done

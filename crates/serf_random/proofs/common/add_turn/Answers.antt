@@ -1,8 +1,4 @@
-use Rattle.std.proofs.Common.{rules}
-use Rattle.std.proofs.lemmas.Result.{IfOk-weaker}
-use Rattle.serf_model.specs.Cluster.{run_of}
-use Rattle.serf_schedule.specs.Sayable.{IsSayable}
-use Rattle.serf_random.specs.Cut.{GoesOn, MayAdd}
+use Rattle.serf_random.proofs.Names.{rules, IfOk-weaker, run_of, IsSayable, GoesOn, MayAdd}
 use Rattle.serf_random.proofs.CutLemmas.{IsCommonTurn, may-keep}
 use Rattle.serf_random.proofs.common.add_turn.Goals as goal
 

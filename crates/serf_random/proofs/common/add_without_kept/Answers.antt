@@ -1,5 +1,4 @@
-use Rattle.std.proofs.Common.{[], subst, sym}
-use Rattle.serf_random.specs.Draft.{AddsAgents}
+use Rattle.serf_random.proofs.Names.{[], subst, sym, AddsAgents}
 use Rattle.serf_random.proofs.DraftLemmas.{more_agents, no_agents}
 use Rattle.serf_random.proofs.common.add_without_kept.Goals as goal
 

@@ -1,5 +1,4 @@
-use Rattle.std.proofs.Common.{[]}
-use Rattle.serf_random.specs.Draft.{AddsAgents}
+use Rattle.serf_random.proofs.Names.{[], AddsAgents}
 use Rattle.serf_random.proofs.common.add_without_kept.Given as goal
 
 abbrev pub invariant-loop-config : goal.invariant-loop-config

@@ -1,9 +1,4 @@
-use Rattle.std.proofs.Common.{◌≡◌, ◌++◌, ◌∙◌, true, ap, append_assoc, subst, sym}
-use Rattle.std.specs.List.{flat_map}
-use Rattle.serf_schedule.specs.Schedule.{schedule_of}
-use Rattle.serf_random.specs.Draft.{IsShort}
-use Rattle.serf_schedule.specs.ScheduleText.{action_text, agent_text}
-use Rattle.serf_random.specs.Comment.{comment_text}
+use Rattle.serf_random.proofs.Names.{ap, append_assoc, subst, sym, true, ◌++◌, ◌∙◌, ◌≡◌, flat_map, schedule_of, action_text, agent_text, comment_text, IsShort}
 use Rattle.serf_random.proofs.CommentBack.{behind-comment, comment-short}
 use Rattle.serf_random.proofs.DraftLemmas.{all_text}
 use Rattle.serf_random.proofs.common.common_schedule.Goals as goal

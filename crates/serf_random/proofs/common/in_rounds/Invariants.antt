@@ -1,4 +1,4 @@
-use Rattle.std.proofs.Common.{◌≤◌, length}
+use Rattle.serf_random.proofs.Names.{length, ◌≤◌}
 use Rattle.serf_random.proofs.common.in_rounds.Given as goal
 
 abbrev pub invariant-loop-round : goal.invariant-loop-round

@@ -1,5 +1,4 @@
-use Rattle.std.proofs.Common.{◌+◌, ◌≤◌, length}
-use Rattle.std.specs.Vec.Iter.{into_iter_items}
+use Rattle.serf_random.proofs.Names.{length, ◌+◌, ◌≤◌, into_iter_items}
 use Rattle.serf_random.proofs.common.round.Given as goal
 
 -- no more are kept than were done

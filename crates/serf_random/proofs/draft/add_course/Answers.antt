@@ -1,4 +1,4 @@
-use Rattle.std.proofs.Common.{◌+◌, ◌≤◌, arith}
+use Rattle.serf_random.proofs.Names.{arith, ◌+◌, ◌≤◌}
 use Rattle.serf_random.proofs.DraftLemmas.{more_actions}
 use Rattle.serf_random.proofs.draft.add_course.Goals as goal
 

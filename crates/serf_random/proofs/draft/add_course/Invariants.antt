@@ -1,5 +1,4 @@
-use Rattle.std.proofs.Common.{[]}
-use Rattle.serf_random.specs.Draft.{AddsActions}
+use Rattle.serf_random.proofs.Names.{[], AddsActions}
 use Rattle.serf_random.proofs.draft.add_course.Given as goal
 
 -- so many actions were added at most

@@ -1,8 +1,4 @@
-use Rattle.std.proofs.Common.{◌≡◌, ◌∙◌, false, All, ap, subst, sym}
-use Rattle.serf_schedule.specs.Schedule.{schedule_of}
-use Rattle.serf_schedule.specs.Sayable.{IsSayable}
-use Rattle.serf_random.specs.Comment.{comment_text}
-use Rattle.serf_random.specs.Draft.{IsShort}
+use Rattle.serf_random.proofs.Names.{All, ap, false, subst, sym, ◌∙◌, ◌≡◌, IsSayable, schedule_of, comment_text, IsShort}
 use Rattle.serf_random.proofs.CommentBack.{behind-comment, comment-short}
 use Rattle.serf_random.proofs.DraftLemmas.{whole_text}
 use Rattle.serf_random.proofs.make.random_schedule.Goals as goal

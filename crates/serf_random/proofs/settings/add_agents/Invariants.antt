@@ -1,5 +1,4 @@
-use Rattle.std.proofs.Common.{[]}
-use Rattle.serf_random.specs.Draft.{AddsAgents}
+use Rattle.serf_random.proofs.Names.{[], AddsAgents}
 use Rattle.serf_random.proofs.settings.add_agents.Given as goal
 
 abbrev pub invariant-loop-number : goal.invariant-loop-number

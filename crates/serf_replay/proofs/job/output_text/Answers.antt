@@ -1,4 +1,4 @@
-use Rattle.std.proofs.Common.{refl}
+use Rattle.serf_replay.proofs.Names.{refl}
 use Rattle.serf_replay.proofs.TextLaws.{whole}
 use Rattle.serf_replay.proofs.job.output_text.Goals as goal
 

@@ -1,5 +1,4 @@
-use Rattle.std.proofs.Common.{refl}
-use Rattle.std.proofs.lemmas.Result.{IfErr-weaker, on_ok_weaker}
+use Rattle.serf_replay.proofs.Names.{refl, IfErr-weaker, on_ok_weaker}
 use Rattle.serf_replay.proofs.TextLaws.{halted, whole}
 use Rattle.serf_replay.proofs.stream_job.replay_lines.Goals as goal
 

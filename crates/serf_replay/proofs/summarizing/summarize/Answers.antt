@@ -1,4 +1,4 @@
-use Rattle.std.proofs.Common.{ap, length, refl}
+use Rattle.serf_replay.proofs.Names.{ap, length, refl}
 use Rattle.serf_replay.proofs.summarizing.summarize.Goals as goal
 
 pub returns-clause-run : goal.returns-clause-run

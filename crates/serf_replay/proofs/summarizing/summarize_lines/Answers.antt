@@ -1,8 +1,4 @@
-use Rattle.std.proofs.Common.{refl, subst, sym}
-use Rattle.serf_text.specs.Lines.{lines_of}
-use Rattle.serf_replay.specs.Summaries.{IsSummary}
-use Rattle.serf_replay.specs.Summing.{sums_up}
-use Rattle.serf_replay.specs.Turns.{lines_in}
+use Rattle.serf_replay.proofs.Names.{refl, subst, sym, lines_of, IsSummary, sums_up, lines_in}
 use Rattle.serf_replay.proofs.TextLaws.{halted-at}
 use Rattle.serf_replay.proofs.summarizing.summarize_lines.Goals as goal
 

@@ -1,8 +1,4 @@
-use Rattle.std.proofs.Common.{refl, sym, ap, Bor, ℕ, List}
-use Rattle.std.specs.Str.{bytes_eq}
-use Rattle.indexmap.specs.IndexMap.{get}
-use Rattle.serf_model.specs.declared.line.Line.{Line}
-use Rattle.serf_schedule.specs.Show.{answer_words}
+use Rattle.serf_replay.proofs.Names.{Bor, List, ap, refl, sym, ℕ, bytes_eq, get, Line, answer_words}
 use Rattle.serf_replay.proofs.KeyLaws.{same-words}
 use Rattle.serf_replay.proofs.TallyLaws.{noted-more, on-ok-both, order-more}
 use Rattle.serf_replay.proofs.summary.note_answer.Goals as goal

@@ -1,10 +1,4 @@
-use Rattle.std.proofs.Common.{◌∙◌, refl, sym, nat_eq}
-use Rattle.std.proofs.lemmas.List.{map-id}
-use Rattle.indexmap.specs.IndexMap.{get, keys}
-use Rattle.serf_model.specs.declared.line.EventLine.{EventLine}
-use Rattle.serf_replay.specs.declared.keys.EventKey.{EventKey}
-use Rattle.serf_replay.specs.Notes.{is_event}
-use Rattle.serf_replay.specs.Summaries.{event_eq, event_in, event_key_eq, event_of}
+use Rattle.serf_replay.proofs.Names.{nat_eq, refl, sym, ◌∙◌, map-id, get, keys, EventLine, is_event, event_eq, event_in, event_key_eq, event_of, EventKey}
 use Rattle.serf_replay.proofs.KeyLaws.{event-found, key-finds, same-agent, same-event}
 use Rattle.serf_replay.proofs.TallyLaws.{noted-more, on-ok-both, order-more}
 use Rattle.serf_replay.proofs.summary.note_event.Goals as goal

@@ -1,7 +1,4 @@
-use Rattle.std.proofs.Common.{◌++◌, ℕ, List, take}
-use Rattle.serf_model.specs.declared.line.EventLine.{EventLine}
-use Rattle.serf_replay.specs.Notes.{events_at}
-use Rattle.serf_replay.specs.Summaries.{AreHandOuts}
+use Rattle.serf_replay.proofs.Names.{List, take, ℕ, ◌++◌, EventLine, events_at, AreHandOuts}
 use Rattle.serf_replay.proofs.summary.note_events.Given as goal
 
 -- the events so far are noted

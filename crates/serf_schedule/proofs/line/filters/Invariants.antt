@@ -1,6 +1,4 @@
-use Rattle.serf_schedule.proofs.Names.{◌≡◌, ◌+◌, ◌≤◌, length, []}
-use Rattle.serf_text.specs.Words.{words_of}
-use Rattle.serf_schedule.specs.Line.{filters_from}
+use Rattle.serf_schedule.proofs.Names.{[], length, ◌+◌, ◌≡◌, ◌≤◌, words_of, filters_from}
 use Rattle.serf_schedule.proofs.line.filters.Given as goal
 
 -- the filters of the words that are left, after those so far, are the answer

@@ -1,5 +1,4 @@
-use Rattle.serf_schedule.proofs.Names.{◌≡◌, Ok, arith, common_steps}
-use Rattle.serf_schedule.specs.Schedule.{parsed_of, schedule_of}
+use Rattle.serf_schedule.proofs.Names.{Ok, arith, ◌≡◌, common_steps, parsed_of, schedule_of}
 use Rattle.serf_schedule.proofs.SizedLaws.{sized-schedule}
 use Rattle.serf_schedule.proofs.parse.parse_schedule.Goals as goal
 

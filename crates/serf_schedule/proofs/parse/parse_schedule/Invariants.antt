@@ -1,5 +1,4 @@
-use Rattle.serf_schedule.proofs.Names.{◌≡◌, ◌+◌, ◌≤◌, ◌==◌, length, slice_split}
-use Rattle.serf_schedule.specs.Schedule.{after_lines, parsed_of, schedule_of}
+use Rattle.serf_schedule.proofs.Names.{length, ◌+◌, ◌==◌, ◌≡◌, ◌≤◌, slice_split, after_lines, parsed_of, schedule_of}
 use Rattle.serf_schedule.proofs.parse.parse_schedule.Given as goal
 
 -- the lines that are left, after those so far, give the answer

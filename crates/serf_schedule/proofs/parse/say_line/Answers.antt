@@ -1,11 +1,5 @@
-use Rattle.serf_schedule.proofs.Names.{◌≡◌, ◌∙◌, ◌<◌, ◌≤◌, subst, map, take, List, ℕ, length, arith, common_steps}
-use Rattle.std.proofs.lemmas.List.{length-map}
+use Rattle.serf_schedule.proofs.Names.{List, arith, length, map, subst, take, ℕ, ◌<◌, ◌∙◌, ◌≡◌, ◌≤◌, common_steps, length-map, Gives, words_of, Cause, Parsed, behind}
 use Rattle.std.specs.Prelude.{Result}
-use Rattle.serf_text.specs.declared.cause.Cause.{Cause}
-use Rattle.serf_text.specs.Gives.{Gives}
-use Rattle.serf_text.specs.Words.{words_of}
-use Rattle.serf_schedule.specs.Line.{Parsed}
-use Rattle.serf_schedule.specs.Said.{behind}
 use Rattle.serf_schedule.proofs.WordLemmas.{line-said}
 use Rattle.serf_schedule.proofs.parse.say_line.Goals as goal
 

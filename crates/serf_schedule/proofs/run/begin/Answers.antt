@@ -1,4 +1,4 @@
-use Rattle.serf_schedule.proofs.Names.{◌++◌, [], arith, ap, length, refl}
+use Rattle.serf_schedule.proofs.Names.{[], ap, arith, length, refl, ◌++◌}
 use Rattle.serf_schedule.proofs.run.begin.Goals as goal
 
 pub returns : goal.returns

@@ -1,7 +1,4 @@
-use Rattle.serf_schedule.proofs.Names.{◌≡◌, ◌++◌, ◌∙◌, ◌∷◌, [], List, Option, ap, subst, sym, Config, Action}
-use Rattle.serf_schedule.specs.Line.{Parsed}
-use Rattle.serf_schedule.specs.Running.{HasActed, IsStage}
-use Rattle.serf_schedule.specs.declared.run.Acting.{Acting}
+use Rattle.serf_schedule.proofs.Names.{List, Option, [], ap, subst, sym, ◌++◌, ◌∙◌, ◌∷◌, ◌≡◌, Config, Action, Parsed, HasActed, IsStage, Acting}
 use Rattle.serf_schedule.proofs.run.do_action.Goals as goal
 
 pub returns-in_ok-begun-in-None : goal.returns-in_ok-begun-in-None

@@ -1,5 +1,4 @@
-use Rattle.serf_schedule.proofs.Names.{◌≡◌, ◌+◌, ◌++◌, ◌∙◌, ◌∷◌, [], List, ap, append-nil, append_assoc, arith, common_steps, length, length-append, refl, subst, sym, Action}
-use Rattle.std.specs.Vec.Iter.{into_iter_items}
+use Rattle.serf_schedule.proofs.Names.{List, [], ap, append_assoc, arith, length, length-append, refl, subst, sym, ◌++◌, ◌+◌, ◌∙◌, ◌∷◌, ◌≡◌, common_steps, append-nil, into_iter_items, Action}
 use Rattle.serf_schedule.proofs.run.tell_schedule.Goals as goal
 
 pub loop-action-init : goal.loop-action-init

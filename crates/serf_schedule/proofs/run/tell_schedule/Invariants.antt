@@ -1,6 +1,4 @@
-use Rattle.serf_schedule.proofs.Names.{◌≡◌, ◌+◌, ◌++◌, [], List, length, Action}
-use Rattle.std.specs.Vec.Iter.{into_iter_items}
-use Rattle.serf_world.specs.Acts.{Acts}
+use Rattle.serf_schedule.proofs.Names.{List, [], length, ◌++◌, ◌+◌, ◌≡◌, into_iter_items, Action, Acts}
 use Rattle.serf_schedule.proofs.run.tell_schedule.Given as goal
 
 -- the actions so far were done and told, and those that are left come after them

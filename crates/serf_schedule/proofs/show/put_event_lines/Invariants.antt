@@ -1,5 +1,4 @@
-use Rattle.serf_schedule.proofs.Names.{◌≡◌, ◌++◌, take, flat_map}
-use Rattle.serf_schedule.specs.Show.{event_line}
+use Rattle.serf_schedule.proofs.Names.{take, ◌++◌, ◌≡◌, flat_map, event_line}
 use Rattle.serf_schedule.proofs.show.put_event_lines.Given as goal
 
 abbrev pub invariant-loop-event : goal.invariant-loop-event

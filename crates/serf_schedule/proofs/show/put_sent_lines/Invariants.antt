@@ -1,5 +1,4 @@
-use Rattle.serf_schedule.proofs.Names.{◌≡◌, ◌++◌, take, flat_map}
-use Rattle.serf_schedule.specs.Show.{sent_line}
+use Rattle.serf_schedule.proofs.Names.{take, ◌++◌, ◌≡◌, flat_map, sent_line}
 use Rattle.serf_schedule.proofs.show.put_sent_lines.Given as goal
 
 abbrev pub invariant-loop-k : goal.invariant-loop-k

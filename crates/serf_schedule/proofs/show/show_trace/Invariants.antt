@@ -1,5 +1,4 @@
-use Rattle.serf_schedule.proofs.Names.{◌≡◌, ◌+◌, ◌++◌, drop, outcome_of}
-use Rattle.serf_schedule.specs.Show.{actions_text, trace_text}
+use Rattle.serf_schedule.proofs.Names.{drop, ◌++◌, ◌+◌, ◌≡◌, outcome_of, actions_text, trace_text}
 use Rattle.serf_schedule.proofs.show.show_trace.Given as goal
 
 -- the actions so far, and then those that are left

@@ -1,5 +1,5 @@
 use Rattle.serf_schedule.proofs.TextNames.{All, subst, parsed_of}
-use Rattle.serf_schedule.specs.Sayable.{HasByteName}
+use Rattle.serf_schedule.proofs.Names.{HasByteName}
 use Rattle.serf_schedule.proofs.written_lines.know_read_back.Goals as goal
 
 pub returns : goal.returns

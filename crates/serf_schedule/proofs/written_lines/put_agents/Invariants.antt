@@ -1,5 +1,5 @@
 use Rattle.serf_schedule.proofs.TextNames.{◌≡◌, ◌++◌, take, flat_map}
-use Rattle.serf_schedule.specs.ScheduleText.{agent_text}
+use Rattle.serf_schedule.proofs.Names.{agent_text}
 use Rattle.serf_schedule.proofs.written_lines.put_agents.Given as goal
 
 abbrev pub invariant-loop-agent : goal.invariant-loop-agent

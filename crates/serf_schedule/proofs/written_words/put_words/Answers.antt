@@ -1,5 +1,5 @@
 use Rattle.serf_schedule.proofs.TextNames.{◌≡◌, ◌++◌, ◌∙◌, ap, arith, take, common_steps}
-use Rattle.serf_schedule.specs.Words.{word_text}
+use Rattle.serf_schedule.proofs.Names.{word_text}
 use Rattle.serf_schedule.proofs.LineLemmas.{spaced-map}
 use Rattle.serf_schedule.proofs.written_words.put_words.Goals as goal
 

@@ -1,5 +1,5 @@
 use Rattle.serf_schedule.proofs.TextNames.{◌≡◌, ◌++◌, take, flat_map}
-use Rattle.serf_schedule.specs.Words.{word_behind}
+use Rattle.serf_schedule.proofs.Names.{word_behind}
 use Rattle.serf_schedule.proofs.written_words.put_words.Given as goal
 
 abbrev pub invariant-loop-word : goal.invariant-loop-word

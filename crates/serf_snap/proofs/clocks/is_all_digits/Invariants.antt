@@ -1,4 +1,4 @@
-use Rattle.serf_snap.proofs.Names.{◌≡◌, drop, all_ascii_digits}
+use Rattle.serf_snap.proofs.Names.{drop, ◌≡◌, all_ascii_digits}
 use Rattle.serf_snap.proofs.clocks.is_all_digits.Given as goal
 
 abbrev pub invariant-loop-b : goal.invariant-loop-b

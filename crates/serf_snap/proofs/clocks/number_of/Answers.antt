@@ -1,5 +1,4 @@
-use Rattle.serf_snap.proofs.Names.{◌≡◌, ◌∙◌, ◌^◌, ◌-◌, ◌<◌, min, drop, [], ap, sym, arith, List, ℕ, common_steps}
-use Rattle.serf_snap.specs.Clocks.{read_on}
+use Rattle.serf_snap.proofs.Names.{List, [], ap, arith, drop, min, sym, ℕ, ◌-◌, ◌<◌, ◌^◌, ◌∙◌, ◌≡◌, common_steps, read_on}
 use Rattle.serf_snap.proofs.ClockLaws.{read_on-step}
 use Rattle.serf_snap.proofs.clocks.number_of.Goals as goal
 

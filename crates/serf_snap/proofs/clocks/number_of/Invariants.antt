@@ -1,5 +1,4 @@
-use Rattle.serf_snap.proofs.Names.{◌≡◌, ◌-◌, ◌^◌, ◌<◌, min, drop}
-use Rattle.serf_snap.specs.Clocks.{read_on}
+use Rattle.serf_snap.proofs.Names.{drop, min, ◌-◌, ◌<◌, ◌^◌, ◌≡◌, read_on}
 use Rattle.serf_snap.proofs.clocks.number_of.Given as goal
 
 abbrev pub invariant-loop-d : goal.invariant-loop-d

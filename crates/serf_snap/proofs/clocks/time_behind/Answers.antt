@@ -1,5 +1,4 @@
-use Rattle.serf_snap.proofs.Names.{sym, ap, ◌∙◌}
-use Rattle.serf_snap.specs.Clocks.{time_text_value}
+use Rattle.serf_snap.proofs.Names.{ap, sym, ◌∙◌, time_text_value}
 use Rattle.serf_snap.proofs.ClockLaws.{behind-prefixed, behind-unprefixed}
 use Rattle.serf_snap.proofs.clocks.time_behind.Goals as goal
 

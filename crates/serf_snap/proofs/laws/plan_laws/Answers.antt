@@ -1,5 +1,4 @@
-use Rattle.serf_snap.proofs.Names.{sym, subst}
-use Rattle.serf_snap.specs.Notes.{MayWrite, MayReplace}
+use Rattle.serf_snap.proofs.Names.{subst, sym, MayReplace, MayWrite}
 use Rattle.serf_snap.proofs.PlanLaws.{will_write-only, will_write-may, will_replace-only, will_replace-may, observable-opened, observable-noted, observable-planned, observable-compacted}
 use Rattle.serf_snap.proofs.laws.plan_laws.Goals as goal
 

@@ -1,4 +1,4 @@
-use Rattle.serf_snap.proofs.Names.{◌≡◌, ℕ, arith, ap, false, nat_lt, refl}
+use Rattle.serf_snap.proofs.Names.{ap, arith, false, refl, ℕ, ◌≡◌, nat_lt}
 use Rattle.serf_snap.proofs.LengthLaws.{compaction-counted}
 use Rattle.serf_snap.proofs.lengths.compaction_length.Goals as goal
 

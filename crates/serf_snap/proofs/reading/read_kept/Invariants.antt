@@ -1,6 +1,4 @@
-use Rattle.serf_snap.proofs.Names.{◌≡◌, ◌++◌, length}
-use Rattle.serf_snap.specs.Clocks.{lines_of}
-use Rattle.serf_snap.specs.EventLines.{events_of_lines, queries_of_lines}
+use Rattle.serf_snap.proofs.Names.{length, ◌++◌, ◌≡◌, lines_of, events_of_lines, queries_of_lines}
 use Rattle.serf_snap.proofs.reading.read_kept.Given as goal
 
 -- those so far, and then those of what is left

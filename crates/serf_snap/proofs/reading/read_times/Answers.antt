@@ -1,7 +1,4 @@
-use Rattle.serf_snap.proofs.Names.{◌≡◌, ℕ, ◌-◌, ◌^◌, ◌<◌, max, List, [], ap, arith}
-use Rattle.serf_snap.specs.declared.kind.ClockKind.{ClockKind}
-use Rattle.serf_snap.specs.declared.kind.ClockKind.TheVariants.{Member, Event, Query}
-use Rattle.serf_snap.specs.Clocks.{greatest, lines_of}
+use Rattle.serf_snap.proofs.Names.{List, [], ap, arith, max, ℕ, ◌-◌, ◌<◌, ◌^◌, ◌≡◌, greatest, lines_of, ClockKind, Event, Member, Query}
 use Rattle.serf_snap.proofs.ClockLaws.{last_clock-below}
 use Rattle.serf_snap.proofs.LeastTimeLaws.{least-some}
 use Rattle.serf_snap.proofs.reading.read_times.Goals as goal

@@ -1,7 +1,4 @@
-use Rattle.serf_snap.proofs.Names.{◌≡◌, ◌≤◌, max, length}
-use Rattle.serf_snap.specs.declared.kind.ClockKind.TheVariants.{Member, Event, Query}
-use Rattle.serf_snap.specs.Clocks.{greatest, lines_of}
-use Rattle.serf_snap.specs.EventLines.{least_of_lines}
+use Rattle.serf_snap.proofs.Names.{length, max, ◌≡◌, ◌≤◌, greatest, lines_of, least_of_lines, Event, Member, Query}
 use Rattle.serf_snap.proofs.reading.read_times.Given as goal
 
 -- the greatest so far, and that of what is left

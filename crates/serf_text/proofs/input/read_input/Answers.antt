@@ -1,4 +1,4 @@
-use Rattle.serf_text.proofs.Names.{◌≡◌, ◌≤◌, ◌++◌, length, take, drop, arith, common_steps, take-append-le, Consumes-trans}
+use Rattle.serf_text.proofs.Names.{arith, drop, length, take, ◌++◌, ◌≡◌, ◌≤◌, Consumes-trans, common_steps, take-append-le}
 use Rattle.serf_text.proofs.input.read_input.Goals as goal
 
 pub returns-then-is_err-clause-bounded : goal.returns-then-is_err-clause-bounded

@@ -1,5 +1,4 @@
-use Rattle.serf_text.proofs.Names.{◌≤◌, length, Consumes}
-use Rattle.serf_text.specs.declared.input.TheConstants.{MAX_SCHEDULE_BYTES}
+use Rattle.serf_text.proofs.Names.{length, ◌≤◌, Consumes, MAX_SCHEDULE_BYTES}
 use Rattle.serf_text.proofs.input.read_input.Given as goal
 
 -- each turn has read a byte, and what was read is what the reader has lost

@@ -1,4 +1,4 @@
-use Rattle.std.proofs.Common.{◌++◌, ◌∷◌, ◌∙◌, [], ap, subst, sym, append_assoc}
+use Rattle.serf_text.proofs.Names.{[], ap, append_assoc, subst, sym, ◌++◌, ◌∙◌, ◌∷◌}
 use Rattle.serf_text.proofs.LineLaws.{number-more}
 use Rattle.serf_text.proofs.kept.answer_line.Goals as goal
 

@@ -1,5 +1,4 @@
-use Rattle.std.proofs.Common.{◌≡◌, ◌++◌, [], arith}
-use Rattle.std.proofs.lemmas.Grind.{common_steps}
+use Rattle.serf_text.proofs.Names.{[], arith, ◌++◌, ◌≡◌, common_steps}
 use Rattle.serf_text.proofs.kept.end_line.Goals as goal
 
 pub returns-then-is_empty-clause-stopped : goal.returns-then-is_empty-clause-stopped

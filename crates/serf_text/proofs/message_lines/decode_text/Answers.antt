@@ -1,4 +1,4 @@
-use Rattle.serf_text.proofs.Names.{◌≡◌, rules, message_of}
+use Rattle.serf_text.proofs.Names.{rules, ◌≡◌, message_of}
 use Rattle.serf_text.proofs.message_lines.decode_text.Goals as goal
 
 -- a packet spells at most one message

@@ -1,5 +1,4 @@
-use Rattle.serf_text.proofs.Names.{◌≡◌, ◌++◌, flat_map, events_left}
-use Rattle.serf_text.specs.MessageText.{event_line}
+use Rattle.serf_text.proofs.Names.{◌++◌, ◌≡◌, flat_map, events_left, event_line}
 use Rattle.serf_text.proofs.message_lines.put_event_lines.Given as goal
 
 -- the lines so far, and then those of what is left

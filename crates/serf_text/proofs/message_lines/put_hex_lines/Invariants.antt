@@ -1,5 +1,4 @@
-use Rattle.serf_text.proofs.Names.{◌≡◌, ◌++◌, flat_map, texts_left}
-use Rattle.serf_text.specs.TextParts.{hex_line}
+use Rattle.serf_text.proofs.Names.{◌++◌, ◌≡◌, flat_map, texts_left, hex_line}
 use Rattle.serf_text.proofs.message_lines.put_hex_lines.Given as goal
 
 -- the lines so far, and then those of what is left

@@ -1,5 +1,4 @@
-use Rattle.serf_text.proofs.Names.{◌≡◌, ◌++◌, ◌≤◌, vec_len, slots_left}
-use Rattle.serf_text.specs.MessageText.{slots_lines}
+use Rattle.serf_text.proofs.Names.{vec_len, ◌++◌, ◌≡◌, ◌≤◌, slots_left, slots_lines}
 use Rattle.serf_text.proofs.message_lines.put_slots.Given as goal
 
 -- the lines so far, and then those of what is left; each slot so far has a byte at least

@@ -1,5 +1,4 @@
-use Rattle.serf_text.proofs.Names.{◌≡◌, ◌++◌, flat_map, status_left}
-use Rattle.serf_text.specs.MessageText.{status_line}
+use Rattle.serf_text.proofs.Names.{◌++◌, ◌≡◌, flat_map, status_left, status_line}
 use Rattle.serf_text.proofs.message_lines.put_status_lines.Given as goal
 
 -- the lines so far, and then those of what is left

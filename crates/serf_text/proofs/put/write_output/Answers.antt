@@ -1,4 +1,4 @@
-use Rattle.serf_text.proofs.Names.{◌≡◌, ◌≤◌, ◌+◌, ◌-◌, ◌++◌, ℕ, List, length, take, drop, sym, arith, common_steps, take-add, Appends-trans}
+use Rattle.serf_text.proofs.Names.{List, arith, drop, length, sym, take, ℕ, ◌++◌, ◌+◌, ◌-◌, ◌≡◌, ◌≤◌, Appends-trans, take-add, common_steps}
 use Rattle.serf_text.proofs.put.write_output.Goals as goal
 
 -- the front of a text, and then the front of the rest

@@ -1,4 +1,4 @@
-use Rattle.serf_text.proofs.Names.{length, ◌-◌, ◌≤◌, take, Appends}
+use Rattle.serf_text.proofs.Names.{length, take, ◌-◌, ◌≤◌, Appends}
 use Rattle.serf_text.proofs.put.write_output.Given as goal
 
 -- what was written so far is the front of the text

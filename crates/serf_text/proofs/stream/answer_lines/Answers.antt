@@ -1,6 +1,4 @@
-use Rattle.std.proofs.Common.{refl}
-use Rattle.std.proofs.lemmas.Result.{IfErr-weaker, on_ok_weaker}
-use Rattle.serf_text.specs.Lines.{lines_of}
+use Rattle.serf_text.proofs.Names.{refl, IfErr-weaker, on_ok_weaker, lines_of}
 use Rattle.serf_text.proofs.StreamLaws.{answered-front, answered-whole}
 use Rattle.serf_text.proofs.stream.answer_lines.Goals as goal
 

@@ -1,7 +1,4 @@
-use Rattle.std.proofs.Common.{◌≡◌, inl, inr, ℕ, List, ◌++◌, ◌∷◌, ◌∙◌, [], append_assoc, subst, sym}
-use Rattle.std.proofs.lemmas.Result.{IfErr-weaker, on_ok_weaker}
-use Rattle.serf_text.specs.Io.{AppendsFront}
-use Rattle.serf_text.specs.declared.stream_fault.StreamFault.TheVariants.{WriteFault}
+use Rattle.serf_text.proofs.Names.{List, [], append_assoc, inl, inr, subst, sym, ℕ, ◌++◌, ◌∙◌, ◌∷◌, ◌≡◌, IfErr-weaker, on_ok_weaker, AppendsFront, WriteFault}
 use Rattle.serf_text.proofs.StreamLaws.{both-err, reached-written, stopped-at-write}
 use Rattle.serf_text.proofs.stream.do_line.Goals as goal
 

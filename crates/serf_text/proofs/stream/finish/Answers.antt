@@ -1,7 +1,4 @@
-use Rattle.std.proofs.Common.{◌≡◌, ◌++◌, ◌∷◌, ◌∙◌, [], ap, sym, append-nil}
-use Rattle.std.proofs.lemmas.Result.{IfErr-weaker, on_ok_weaker}
-use Rattle.serf_text.specs.Lines.{lines_of}
-use Rattle.serf_text.specs.Streams.{IsLineFault, WaitsFor}
+use Rattle.serf_text.proofs.Names.{[], ap, append-nil, sym, ◌++◌, ◌∙◌, ◌∷◌, ◌≡◌, IfErr-weaker, on_ok_weaker, lines_of, IsLineFault, WaitsFor}
 use Rattle.serf_text.proofs.StreamLaws.{both-err, done-at-end, either, stopped-at-line, stopped-at-write, waits-at-end, waits-at-write}
 use Rattle.serf_text.proofs.stream.finish.Goals as goal
 

@@ -1,7 +1,4 @@
-use Rattle.std.proofs.Common.{◌++◌, ◌∷◌, []}
-use Rattle.std.proofs.lemmas.Result.{IfErr-weaker, on_ok_weaker}
-use Rattle.serf_text.specs.Lines.{lines_of}
-use Rattle.serf_text.specs.Streams.{IsLeft}
+use Rattle.serf_text.proofs.Names.{[], ◌++◌, ◌∷◌, IfErr-weaker, on_ok_weaker, lines_of, IsLeft}
 use Rattle.serf_text.proofs.StreamLaws.{either, left-at-line, left-at-write, reached-written, stopped-at-write}
 use Rattle.serf_text.proofs.stream.step.Goals as goal
 

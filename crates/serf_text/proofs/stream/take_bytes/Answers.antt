@@ -1,6 +1,4 @@
-use Rattle.std.proofs.Common.{inl, ◌++◌, ◌∷◌, []}
-use Rattle.std.proofs.lemmas.Result.{IfErr-weaker}
-use Rattle.serf_text.specs.Lines.{lines_of}
+use Rattle.serf_text.proofs.Names.{[], inl, ◌++◌, ◌∷◌, IfErr-weaker, lines_of}
 use Rattle.serf_text.proofs.LineLaws.{lines-more, next-line, this-line}
 use Rattle.serf_text.proofs.StreamLaws.{not-held}
 use Rattle.serf_text.proofs.stream.take_bytes.Goals as goal

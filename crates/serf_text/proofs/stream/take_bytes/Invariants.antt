@@ -1,7 +1,5 @@
-use Rattle.std.proofs.Common.{◌≡◌, ◌++◌, ℕ, List, length}
+use Rattle.serf_text.proofs.Names.{List, length, ℕ, ◌++◌, ◌≡◌, lines_of, HasRead, Reached}
 use Rattle.std.specs.Prelude.{Option}
-use Rattle.serf_text.specs.Lines.{lines_of}
-use Rattle.serf_text.specs.Streams.{HasRead, Reached}
 use Rattle.serf_text.proofs.LineLaws.{onto}
 use Rattle.serf_text.proofs.stream.take_bytes.Given as goal
 

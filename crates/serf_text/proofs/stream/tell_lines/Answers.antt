@@ -1,8 +1,4 @@
-use Rattle.std.proofs.Common.{◌≡◌, ◌++◌, take, subst, arith}
-use Rattle.std.specs.Io.KnownBytes.{Consumes}
-use Rattle.std.proofs.KnownBytes.{Consumes-kept, Consumes-trans}
-use Rattle.std.proofs.lemmas.Grind.{common_steps}
-use Rattle.std.proofs.lemmas.Result.{IfErr-weaker, on_ok_weaker}
+use Rattle.serf_text.proofs.Names.{arith, subst, take, ◌++◌, ◌≡◌, Consumes-kept, Consumes-trans, common_steps, IfErr-weaker, on_ok_weaker, Consumes}
 use Rattle.serf_text.proofs.StreamLaws.{no-more, stopped-at-read}
 use Rattle.serf_text.proofs.stream.tell_lines.Goals as goal
 

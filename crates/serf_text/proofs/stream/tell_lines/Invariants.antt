@@ -1,6 +1,4 @@
-use Rattle.std.proofs.Common.{◌≡◌, ℕ, List, []}
-use Rattle.std.specs.Io.KnownBytes.{Consumes}
-use Rattle.serf_text.specs.Streams.{HasRead}
+use Rattle.serf_text.proofs.Names.{List, [], ℕ, ◌≡◌, Consumes, HasRead}
 use Rattle.serf_text.proofs.stream.tell_lines.Given as goal
 
 -- what was read is what the reader has lost, and the lines in it that are over were done

@@ -1,5 +1,4 @@
-use Rattle.std.proofs.Common.{◌≡◌, ◌+◌, ◌++◌, ◌≤◌, ◌==◌, [], ℕ, List, length}
-use Rattle.std.specs.List.{slice_split}
+use Rattle.serf_text.proofs.Names.{List, [], length, ℕ, ◌++◌, ◌+◌, ◌==◌, ◌≡◌, ◌≤◌, slice_split}
 use Rattle.serf_text.proofs.whole.tell_text.Given as goal
 
 -- the lines before those that are left were done, and this is told of them

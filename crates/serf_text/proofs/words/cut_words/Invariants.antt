@@ -1,5 +1,4 @@
-use Rattle.serf_text.proofs.Names.{◌≡◌, ◌≤◌, ◌++◌, length, map, take}
-use Rattle.serf_text.specs.Words.{words_of}
+use Rattle.serf_text.proofs.Names.{length, map, take, ◌++◌, ◌≡◌, ◌≤◌, words_of}
 use Rattle.serf_text.proofs.words.cut_words.Given as goal
 
 -- the words so far, of which there are few, and then those of the rest

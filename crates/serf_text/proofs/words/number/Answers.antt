@@ -1,4 +1,4 @@
-use Rattle.serf_text.proofs.Names.{◌≡◌, ◌≤◌, ◌+◌, ◌*◌, ◌<◌, true, sym, take, get_or, arith, length, rules, ◌∙◌, ap, Some, is_ascii_digit, common_steps, digits_value_more, list_all_more}
+use Rattle.serf_text.proofs.Names.{Some, ap, arith, get_or, length, rules, sym, take, true, ◌*◌, ◌+◌, ◌<◌, ◌∙◌, ◌≡◌, ◌≤◌, common_steps, digits_value_more, list_all_more, is_ascii_digit}
 use Rattle.serf_text.proofs.NumberLemmas.{too_great, is_number, digit_is}
 use Rattle.serf_text.proofs.words.number.Goals as goal
 

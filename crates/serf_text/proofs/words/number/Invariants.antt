@@ -1,4 +1,4 @@
-use Rattle.serf_text.proofs.Names.{◌≡◌, ◌<◌, true, take, is_ascii_digit, list_all, digits_value}
+use Rattle.serf_text.proofs.Names.{take, true, ◌<◌, ◌≡◌, is_ascii_digit, list_all, digits_value}
 use Rattle.serf_text.proofs.words.number.Given as goal
 
 -- the bytes so far are digits, and write the value

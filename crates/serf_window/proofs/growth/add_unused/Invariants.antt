@@ -1,4 +1,4 @@
-use Rattle.serf_window.proofs.Names.{◌≡◌, ◌+◌, ◌++◌, replicate, vec_len, vec_capacity, unused_slot}
+use Rattle.serf_window.proofs.Names.{replicate, vec_capacity, vec_len, ◌++◌, ◌+◌, ◌≡◌, unused_slot}
 use Rattle.serf_window.proofs.growth.add_unused.Given as goal
 
 abbrev pub invariant-loop : goal.invariant-loop

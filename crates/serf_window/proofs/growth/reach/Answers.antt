@@ -1,5 +1,4 @@
-use Rattle.serf_window.proofs.Names.{arith, ◌+◌, ◌-◌, ◌≤◌, ◌++◌, length, replicate, ◌∙◌, ap, unused_slot}
-use Rattle.serf_window.specs.Slots.{all_slots}
+use Rattle.serf_window.proofs.Names.{ap, arith, length, replicate, ◌++◌, ◌+◌, ◌-◌, ◌∙◌, ◌≤◌, unused_slot, all_slots}
 use Rattle.serf_window.proofs.AllSlots.{all_slots-more}
 use Rattle.serf_window.proofs.growth.reach.Goals as goal
 

@@ -1,4 +1,4 @@
-use Rattle.serf_wire.proofs.Names.{refl, arith}
+use Rattle.serf_wire.proofs.Names.{arith, refl}
 use Rattle.serf_pack.specs.declared.head.Field.TheVariants as fields
 use Rattle.serf_wire.proofs.FastReading.{after_byte, wide_count, fix_array}
 use Rattle.serf_wire.proofs.compact.read_array_head.Goals as goal

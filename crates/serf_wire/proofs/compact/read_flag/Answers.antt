@@ -1,5 +1,4 @@
-use Rattle.serf_wire.proofs.Names.{true, false, refl, arith}
-use Rattle.serf_wire.specs.Fields.{truth}
+use Rattle.serf_wire.proofs.Names.{arith, false, refl, true, truth}
 use Rattle.serf_wire.proofs.FastReading.{after_byte, nil_front, flag_front}
 use Rattle.serf_wire.proofs.compact.read_flag.Goals as goal
 

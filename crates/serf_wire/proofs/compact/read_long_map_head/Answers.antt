@@ -1,4 +1,4 @@
-use Rattle.serf_wire.proofs.Names.{refl, arith}
+use Rattle.serf_wire.proofs.Names.{arith, refl}
 use Rattle.serf_pack.specs.declared.head.Field.TheVariants as fields
 use Rattle.serf_wire.proofs.FastReading.{after_byte, wide_count, fix_map}
 use Rattle.serf_wire.proofs.compact.read_long_map_head.Goals as goal

@@ -1,5 +1,4 @@
-use Rattle.serf_wire.proofs.Names.{refl, arith, greatest_clock}
-use Rattle.serf_wire.specs.Fields.{number}
+use Rattle.serf_wire.proofs.Names.{arith, refl, greatest_clock, number}
 use Rattle.serf_wire.proofs.FastReading.{after_byte, small_number, nil_front, wide_number}
 use Rattle.serf_wire.proofs.compact.read_number.Goals as goal
 

@@ -1,4 +1,4 @@
-use Rattle.serf_wire.proofs.Names.{refl, arith}
+use Rattle.serf_wire.proofs.Names.{arith, refl}
 use Rattle.serf_wire.proofs.FastReading.{after_byte, fix_raw, wide_raw}
 use Rattle.serf_wire.proofs.compact.read_raw.Goals as goal
 

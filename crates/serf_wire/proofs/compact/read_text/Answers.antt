@@ -1,5 +1,4 @@
-use Rattle.serf_wire.proofs.Names.{[], refl}
-use Rattle.serf_wire.specs.Fields.{text}
+use Rattle.serf_wire.proofs.Names.{[], refl, text}
 use Rattle.serf_wire.proofs.FastReading.{nil_front, text_of_raw}
 use Rattle.serf_wire.proofs.compact.read_text.Goals as goal
 

@@ -1,7 +1,4 @@
-use Rattle.serf_wire.proofs.Names.{lit<, tree_of}
-use Rattle.serf_wire.specs.Fields.{text, list}
-use Rattle.serf_wire.specs.Lookups.{text_in, list_in}
-use Rattle.serf_wire.specs.Lists.{texts_left}
+use Rattle.serf_wire.proofs.Names.{lit<, tree_of, list, text, texts_left, list_in, text_in}
 use Rattle.serf_wire.proofs.MessageFields.{texts_exact}
 use Rattle.serf_wire.proofs.FastLists.{lent_reads, packed_before}
 use Rattle.serf_wire.proofs.compact.read_texts.Goals as goal

@@ -1,5 +1,4 @@
-use Rattle.serf_wire.proofs.Names.{arith}
-use Rattle.serf_wire.specs.Fields.{text}
+use Rattle.serf_wire.proofs.Names.{arith, text}
 use Rattle.serf_wire.proofs.FastPairs.{if_some}
 use Rattle.serf_wire.proofs.FastLists.{list_spans}
 use Rattle.serf_wire.proofs.compact.skip_text_list.Goals as goal

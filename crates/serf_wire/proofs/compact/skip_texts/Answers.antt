@@ -1,5 +1,4 @@
-use Rattle.serf_wire.specs.Fields.{text}
-use Rattle.serf_wire.specs.Fast.{Item}
+use Rattle.serf_wire.proofs.Names.{Item, text}
 use Rattle.serf_wire.proofs.FastReading.{anywhere}
 use Rattle.serf_wire.proofs.FastLists.{nothing_walked, one_item_more}
 use Rattle.serf_wire.proofs.compact.skip_texts.Goals as goal

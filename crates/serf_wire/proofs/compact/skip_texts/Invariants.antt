@@ -1,5 +1,4 @@
-use Rattle.serf_wire.specs.Fields.{text}
-use Rattle.serf_wire.specs.Fast.{AreItems}
+use Rattle.serf_wire.proofs.Names.{AreItems, text}
 use Rattle.serf_wire.proofs.compact.skip_texts.Given as goal
 
 abbrev pub invariant-texts : goal.invariant-texts

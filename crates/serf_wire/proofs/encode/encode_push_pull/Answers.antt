@@ -1,8 +1,4 @@
-use Rattle.serf_wire.proofs.Names.{sym, subst, ◌∙◌}
-use Rattle.serf_wire.specs.Message.{Message, push_pull}
-use Rattle.serf_wire.specs.Parts.{push_pull_of}
-use Rattle.serf_wire.specs.Canonical.{without_empty_slots}
-use Rattle.serf_wire.specs.Spells.{Spells}
+use Rattle.serf_wire.proofs.Names.{subst, sym, ◌∙◌, without_empty_slots, Message, push_pull, push_pull_of, Spells}
 use Rattle.serf_wire.proofs.Mapped.{canonical_parts}
 use Rattle.serf_wire.proofs.CanonicalPackets.{canonical_spells}
 use Rattle.serf_wire.proofs.encode.encode_push_pull.Goals as goal

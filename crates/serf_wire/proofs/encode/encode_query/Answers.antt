@@ -1,6 +1,4 @@
-use Rattle.serf_wire.proofs.Names.{sym, subst, ◌∙◌}
-use Rattle.serf_wire.specs.Message.{Message, query, query_of}
-use Rattle.serf_wire.specs.Spells.{Spells}
+use Rattle.serf_wire.proofs.Names.{subst, sym, ◌∙◌, Message, query, query_of, Spells}
 use Rattle.serf_wire.proofs.CanonicalPackets.{canonical_spells}
 use Rattle.serf_wire.proofs.encode.encode_query.Goals as goal
 

@@ -1,6 +1,4 @@
-use Rattle.serf_wire.proofs.Names.{sym, subst, ◌∙◌}
-use Rattle.serf_wire.specs.Message.{Message, QueryResponse, query_response, response_said}
-use Rattle.serf_wire.specs.Spells.{Spells}
+use Rattle.serf_wire.proofs.Names.{subst, sym, ◌∙◌, Message, QueryResponse, query_response, response_said, Spells}
 use Rattle.serf_wire.proofs.Short.{short_response_texts}
 use Rattle.serf_wire.proofs.CanonicalPackets.{canonical_spells}
 use Rattle.serf_wire.proofs.encode.encode_response.Goals as goal

@@ -1,6 +1,4 @@
-use Rattle.serf_wire.proofs.Names.{sym, subst, ◌∙◌}
-use Rattle.serf_wire.specs.Message.{UserEvent, event_said, user_event}
-use Rattle.serf_wire.specs.Spells.{Spells}
+use Rattle.serf_wire.proofs.Names.{subst, sym, ◌∙◌, UserEvent, event_said, user_event, Spells}
 use Rattle.serf_wire.proofs.Short.{short_event_texts}
 use Rattle.serf_wire.proofs.CanonicalPackets.{canonical_spells}
 use Rattle.serf_wire.proofs.encode.encode_user_event.Goals as goal

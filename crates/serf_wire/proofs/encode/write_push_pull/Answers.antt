@@ -1,5 +1,4 @@
-use Rattle.serf_wire.proofs.Names.{lit<}
-use Rattle.serf_wire.specs.Buffers.{slots_lent}
+use Rattle.serf_wire.proofs.Names.{lit<, slots_lent}
 use Rattle.serf_wire.proofs.Ranged.{status_ranged, slots_timed}
 use Rattle.serf_wire.proofs.Mapped.{short_parts}
 use Rattle.serf_wire.proofs.encode.write_push_pull.Goals as goal

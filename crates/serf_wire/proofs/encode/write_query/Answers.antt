@@ -1,5 +1,4 @@
-use Rattle.serf_wire.proofs.Names.{arith}
-use Rattle.serf_wire.specs.Message.{query_of}
+use Rattle.serf_wire.proofs.Names.{arith, query_of}
 use Rattle.serf_wire.proofs.Short.{short_query}
 use Rattle.serf_wire.proofs.encode.write_query.Goals as goal
 

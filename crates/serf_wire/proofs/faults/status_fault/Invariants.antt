@@ -1,5 +1,4 @@
-use Rattle.serf_wire.proofs.Names.{◌≡◌, tree_of, pairs_of, pairs_left}
-use Rattle.serf_wire.specs.Faults.{first, items_faults, status_time_faults}
+use Rattle.serf_wire.proofs.Names.{◌≡◌, pairs_of, tree_of, pairs_left, first, items_faults, status_time_faults}
 use Rattle.serf_wire.proofs.faults.status_fault.Given as goal
 
 abbrev pub invariant-loop-name : goal.invariant-loop-name

@@ -1,6 +1,4 @@
-use Rattle.serf_wire.proofs.Names.{◌≡◌, list_any, bytes_eq, tree_of}
-use Rattle.serf_wire.specs.Lists.{texts_left}
-use Rattle.serf_wire.specs.Lookups.{text_in, list_in}
+use Rattle.serf_wire.proofs.Names.{◌≡◌, list_any, bytes_eq, tree_of, texts_left, list_in, text_in}
 use Rattle.serf_wire.proofs.filter.has_text.Given as goal
 
 abbrev pub invariant-loop-name : goal.invariant-loop-name

@@ -1,4 +1,4 @@
-use Rattle.serf_wire.proofs.Names.{sym, ◌∙◌, arith}
+use Rattle.serf_wire.proofs.Names.{arith, sym, ◌∙◌}
 use Rattle.serf_wire.proofs.NodeFilters.{lent_filter, lent_passes}
 use Rattle.serf_wire.proofs.filter.node_filter.Goals as goal
 

@@ -1,9 +1,6 @@
-use Rattle.serf_wire.proofs.Names.{codes, refl, ap, subst, ◌∙◌}
+use Rattle.serf_wire.proofs.Names.{ap, codes, refl, subst, ◌∙◌, Finds, intent_layout, text_in, time_in, truth_in}
 use Rattle.serf_wire.specs.declared.layout.Kind.TheVariants as kinds
 use Rattle.serf_wire.specs.declared.layout.Layout.TheVariants as layouts
-use Rattle.serf_wire.specs.Intent.{intent_layout}
-use Rattle.serf_wire.specs.Lookups.{text_in, truth_in, time_in}
-use Rattle.serf_wire.specs.Found.{Finds}
 use Rattle.serf_wire.proofs.Finding.{shown}
 use Rattle.serf_wire.proofs.intent.intent_of_fields.Goals as goal
 

@@ -1,6 +1,4 @@
-use Rattle.serf_wire.proofs.Names.{◌≡◌, Ok, Err, ap, subst, whole_at}
-use Rattle.serf_wire.specs.Checked.{checked_pairs, made_of, FindsChecked}
-use Rattle.serf_wire.specs.Intent.{intent_of, intent_in, intent_layout}
+use Rattle.serf_wire.proofs.Names.{Err, Ok, ap, subst, ◌≡◌, whole_at, FindsChecked, checked_pairs, made_of, intent_in, intent_layout, intent_of}
 use Rattle.serf_wire.proofs.CheckedMaps.{made_found}
 use Rattle.serf_wire.proofs.intent.read_map.Goals as goal
 

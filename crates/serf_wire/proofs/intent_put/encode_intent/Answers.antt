@@ -1,6 +1,4 @@
-use Rattle.serf_wire.proofs.Names.{◌≡◌, ℕ, List, false, sym, ap, subst, ◌∙◌}
-use Rattle.serf_wire.specs.Canonical.{is_long}
-use Rattle.serf_wire.specs.Intent.{Intent, intent_of, intent_node, SpellsIntent}
+use Rattle.serf_wire.proofs.Names.{List, ap, false, subst, sym, ℕ, ◌∙◌, ◌≡◌, is_long, Intent, SpellsIntent, intent_node, intent_of}
 use Rattle.serf_wire.proofs.CanonicalIntents.{canonical_intents}
 use Rattle.serf_wire.proofs.Intents.{spelled_read}
 use Rattle.serf_wire.proofs.intent_put.encode_intent.Goals as goal

@@ -1,4 +1,4 @@
-use Rattle.serf_wire.proofs.Names.{◌≡◌, ◌≤◌, ◌*◌, ◌^◌, take, length, flat_map, raw_bytes}
+use Rattle.serf_wire.proofs.Names.{length, take, ◌*◌, ◌^◌, ◌≡◌, ◌≤◌, flat_map, raw_bytes}
 use Rattle.serf_wire.proofs.length.filters_len.Given as goal
 
 abbrev pub invariant-loop-filter : goal.invariant-loop-filter

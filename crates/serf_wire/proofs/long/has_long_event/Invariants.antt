@@ -1,5 +1,4 @@
-use Rattle.serf_wire.proofs.Names.{◌≡◌, take, false, list_any}
-use Rattle.serf_wire.specs.Canonical.{is_long_event}
+use Rattle.serf_wire.proofs.Names.{false, take, ◌≡◌, list_any, is_long_event}
 use Rattle.serf_wire.proofs.long.has_long_event.Given as goal
 
 abbrev pub invariant-loop-event : goal.invariant-loop-event

@@ -1,5 +1,4 @@
-use Rattle.serf_wire.proofs.Names.{◌≡◌, take, false, list_any}
-use Rattle.serf_wire.specs.Canonical.{is_long}
+use Rattle.serf_wire.proofs.Names.{false, take, ◌≡◌, list_any, is_long}
 use Rattle.serf_wire.proofs.long.has_long_text.Given as goal
 
 abbrev pub invariant-loop-text : goal.invariant-loop-text

@@ -1,7 +1,5 @@
 use Rattle.serf_wire.specs.declared.layout.MessageType.TheVariants as types
-use Rattle.serf_wire.specs.Decoded.{event_in}
-use Rattle.serf_wire.specs.Message.{event_said, user_event}
-use Rattle.serf_wire.proofs.Names.{ap, sym}
+use Rattle.serf_wire.proofs.Names.{ap, sym, event_in, event_said, user_event}
 use Rattle.serf_wire.proofs.Packets.{spelled_map}
 use Rattle.serf_wire.proofs.packet.event_in_map.Goals as goal
 

@@ -1,11 +1,6 @@
-use Rattle.serf_wire.proofs.Names.{codes, refl, ap, subst, ◌∙◌, to_z-of_z, greatest_clock}
-use mir.Val.{SFits}
-use mir.Syntax.{w64}
+use Rattle.serf_wire.proofs.Names.{ap, codes, refl, subst, ◌∙◌, to_z-of_z, w64, SFits, greatest_clock, Finds, layout_of, list_in, number_in, signed_in, slot_in, status_in, text_in, time_in, truth_in}
 use Rattle.serf_wire.specs.declared.layout.Kind.TheVariants as kinds
 use Rattle.serf_wire.specs.declared.layout.Layout.TheVariants as layouts
-use Rattle.serf_wire.specs.Layout.{layout_of}
-use Rattle.serf_wire.specs.Lookups.{text_in, truth_in, number_in, time_in, signed_in, list_in, status_in, slot_in}
-use Rattle.serf_wire.specs.Found.{Finds}
 use Rattle.serf_wire.proofs.Finding.{shown}
 use Rattle.serf_wire.proofs.packet.message_of_fields.Goals as goal
 

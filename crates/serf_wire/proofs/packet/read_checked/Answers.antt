@@ -1,8 +1,4 @@
-use Rattle.serf_wire.proofs.Names.{◌≡◌, Ok, Err, ap, subst, ◌∙◌, whole_at}
-use Rattle.serf_wire.specs.Checked.{checked_pairs, made_of, FindsChecked}
-use Rattle.serf_wire.specs.Layout.{layout_of}
-use Rattle.serf_wire.specs.Message.{message_of}
-use Rattle.serf_wire.specs.Reading.{message_in}
+use Rattle.serf_wire.proofs.Names.{Err, Ok, ap, subst, ◌∙◌, ◌≡◌, whole_at, FindsChecked, checked_pairs, made_of, layout_of, message_of, message_in}
 use Rattle.serf_wire.proofs.CheckedMaps.{made_found}
 use Rattle.serf_wire.proofs.Packets.{read_by_checked}
 use Rattle.serf_wire.proofs.packet.read_checked.Goals as goal

@@ -1,5 +1,5 @@
 use Rattle.serf_wire.specs.declared.layout.MessageType.TheVariants as types
-use Rattle.serf_wire.specs.Message.{event_said, user_event}
+use Rattle.serf_wire.proofs.Names.{event_said, user_event}
 use Rattle.serf_wire.proofs.Packets.{spelled_map}
 use Rattle.serf_wire.proofs.packet.read_event_map.Goals as goal
 

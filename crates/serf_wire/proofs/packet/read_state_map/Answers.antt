@@ -1,5 +1,5 @@
 use Rattle.serf_wire.specs.declared.layout.MessageType.TheVariants as types
-use Rattle.serf_wire.specs.Message.{push_pull, push_pull_said}
+use Rattle.serf_wire.proofs.Names.{push_pull, push_pull_said}
 use Rattle.serf_wire.proofs.Packets.{spelled_map}
 use Rattle.serf_wire.proofs.packet.read_state_map.Goals as goal
 

@@ -1,5 +1,4 @@
-use Rattle.serf_wire.proofs.Names.{◌≡◌, ◌++◌, take, flat_map}
-use Rattle.serf_wire.specs.Canonical.{event_bytes}
+use Rattle.serf_wire.proofs.Names.{take, ◌++◌, ◌≡◌, flat_map, event_bytes}
 use Rattle.serf_wire.proofs.put.put_events.Given as goal
 
 abbrev pub invariant-loop-event : goal.invariant-loop-event

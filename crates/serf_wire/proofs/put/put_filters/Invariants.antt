@@ -1,4 +1,4 @@
-use Rattle.serf_wire.proofs.Names.{◌≡◌, ◌++◌, take, flat_map, raw_bytes}
+use Rattle.serf_wire.proofs.Names.{take, ◌++◌, ◌≡◌, flat_map, raw_bytes}
 use Rattle.serf_wire.proofs.put.put_filters.Given as goal
 
 abbrev pub invariant-loop-filter : goal.invariant-loop-filter

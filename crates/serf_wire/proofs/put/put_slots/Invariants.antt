@@ -1,6 +1,4 @@
-use Rattle.serf_wire.proofs.Names.{◌≡◌, ◌++◌, take, true, nat_lt, flat_map, list_all}
-use Rattle.serf_wire.specs.Canonical.{slot_bytes}
-use Rattle.serf_wire.specs.Parts.{slot_content}
+use Rattle.serf_wire.proofs.Names.{nat_lt, take, true, ◌++◌, ◌≡◌, flat_map, list_all, slot_bytes, slot_content}
 use Rattle.serf_wire.proofs.put.put_slots.Given as goal
 
 abbrev pub invariant-loop-slot : goal.invariant-loop-slot

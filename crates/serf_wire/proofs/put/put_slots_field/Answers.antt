@@ -1,5 +1,4 @@
-use Rattle.serf_wire.proofs.Names.{rules, ◌≡◌, nat_lt, true, refl, list_all}
-use Rattle.serf_wire.specs.Buffers.{slots_lent}
+use Rattle.serf_wire.proofs.Names.{nat_lt, refl, rules, true, ◌≡◌, list_all, slots_lent}
 use Rattle.serf_wire.proofs.Unused.{all_lent}
 use Rattle.serf_wire.proofs.put.put_slots_field.Goals as goal
 

@@ -1,6 +1,4 @@
-use Rattle.serf_wire.proofs.Names.{◌≡◌, ◌++◌, take, true, nat_lt, flat_map, list_all}
-use Rattle.serf_wire.specs.Canonical.{status_time_bytes}
-use Rattle.serf_wire.specs.Lists.{status_of}
+use Rattle.serf_wire.proofs.Names.{nat_lt, take, true, ◌++◌, ◌≡◌, flat_map, list_all, status_time_bytes, status_of}
 use Rattle.serf_wire.proofs.put.put_status_times.Given as goal
 
 abbrev pub invariant-loop-entry : goal.invariant-loop-entry

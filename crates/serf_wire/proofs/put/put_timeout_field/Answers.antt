@@ -1,6 +1,4 @@
-use Rattle.serf_wire.proofs.Names.{◌≡◌, ℕ, ℤ, List, ◌++◌, Result, Ok, Err, OnOk, ap, ◌∙◌, append_assoc, codes, to_z-of_z, raw_bytes, int_bytes}
-use mir.Val.{SFits}
-use mir.Syntax.{w64}
+use Rattle.serf_wire.proofs.Names.{Err, List, Ok, OnOk, Result, ap, append_assoc, codes, ℕ, ℤ, ◌++◌, ◌∙◌, ◌≡◌, to_z-of_z, w64, SFits, int_bytes, raw_bytes}
 use Rattle.serf_wire.proofs.Ranged.{fits_signed}
 use Rattle.serf_wire.proofs.put.put_timeout_field.Goals as goal
 

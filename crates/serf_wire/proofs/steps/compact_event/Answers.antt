@@ -1,7 +1,4 @@
-use Rattle.serf_wire.proofs.Names.{◌≡◌, ◌-◌, ◌∷◌, ℕ, length, arith, subst, sym, take, Tree, items_left, PacksAlone}
-use Rattle.serf_wire.specs.Fields.{event_body}
-use Rattle.serf_wire.specs.Lists.{event_of_view}
-use Rattle.serf_wire.specs.Lookups.{event_body_in}
+use Rattle.serf_wire.proofs.Names.{arith, length, subst, sym, take, ℕ, ◌-◌, ◌∷◌, ◌≡◌, Tree, PacksAlone, items_left, event_body, event_of_view, event_body_in}
 use Rattle.serf_wire.proofs.MessageFields.{event_body_exact}
 use Rattle.serf_wire.proofs.CompactSteps.{compact_step}
 use Rattle.serf_wire.proofs.steps.compact_event.Goals as goal

@@ -1,7 +1,4 @@
-use Rattle.serf_wire.proofs.Names.{◌≡◌, ◌-◌, ◌∷◌, ℕ, length, arith, subst, sym, take, Tree, items_left, PacksAlone}
-use Rattle.serf_wire.specs.Fields.{slot}
-use Rattle.serf_wire.specs.Lists.{slot_of_view}
-use Rattle.serf_wire.specs.Lookups.{slot_in}
+use Rattle.serf_wire.proofs.Names.{arith, length, subst, sym, take, ℕ, ◌-◌, ◌∷◌, ◌≡◌, Tree, PacksAlone, items_left, slot, slot_of_view, slot_in}
 use Rattle.serf_wire.proofs.MessageFields.{slot_exact}
 use Rattle.serf_wire.proofs.CompactSteps.{compact_step}
 use Rattle.serf_wire.proofs.steps.compact_slot.Goals as goal

@@ -1,6 +1,4 @@
-use Rattle.serf_snap.specs.declared.snapshot.NoteFault.TheVariants.{OutOfMemory}
-use Rattle.serf_agent.specs.States.{compact}
-use Rattle.serf_model.specs.declared.line.Answer.TheVariants.{Compacted}
+use Rattle.serf_world.proofs.Names.{OutOfMemory, compact, Compacted}
 use Rattle.serf_world.proofs.TurnLaws.{noted}
 use Rattle.serf_world.proofs.calls.compact_at.Goals as goal
 

@@ -1,7 +1,5 @@
-use Rattle.serf_world.proofs.Names.{[], ◌∷◌, refl, event_of, fire, fire_gives}
+use Rattle.serf_world.proofs.Names.{[], refl, ◌∷◌, event_of, fire, fire_gives, fire_refusal, Fired}
 use Rattle.serf_agent.specs.declared.outcome.FireFault.TheVariants.{OutOfMemory}
-use Rattle.serf_model.specs.Cluster.{fire_refusal}
-use Rattle.serf_model.specs.declared.line.Answer.TheVariants.{Fired}
 use Rattle.serf_world.proofs.TurnLaws.{call-done, call-refused, shows}
 use Rattle.serf_world.proofs.calls.fire_at.Goals as goal
 

@@ -1,11 +1,5 @@
-use Rattle.serf_world.proofs.Names.{◌≡◌, ℕ, List, [], Option, Result, ap, refl, subst, ◌∙◌, fire_query, query_gives, Handed, IdealAgent, Call, Steps}
-use Rattle.serf_agent.specs.declared.outcome.FiredQuery.{FiredQuery}
-use Rattle.serf_agent.specs.declared.outcome.QueryFault.{QueryFault}
+use Rattle.serf_world.proofs.Names.{List, Option, Result, [], ap, refl, subst, ℕ, ◌∙◌, ◌≡◌, Call, Handed, IdealAgent, fire_query, Steps, FiredQuery, QueryFault, QueryParams, query_gives, query_refusal, Queried, Shows}
 use Rattle.serf_agent.specs.declared.outcome.QueryFault.TheVariants.{OutOfMemory}
-use Rattle.serf_agent.specs.declared.outcome.QueryParams.{QueryParams}
-use Rattle.serf_model.specs.Cluster.{query_refusal}
-use Rattle.serf_model.specs.declared.line.Answer.TheVariants.{Queried}
-use Rattle.serf_world.specs.Turns.{Shows}
 use Rattle.serf_world.proofs.TurnLaws.{call-done, call-refused}
 use Rattle.serf_world.proofs.calls.query_at.Goals as goal
 

@@ -1,6 +1,4 @@
-use Rattle.serf_world.proofs.Names.{◌≡◌, ◌++◌, [], ℕ, List, unwrap_or, subst, sym, ap, ◌∙◌, Config, IdealAgent, ConcreteState, view_of, Restarted, line_only, reopened, text_after}
-use Rattle.serf_agent.specs.Restart.{HasPast}
-use Rattle.serf_world.specs.View.{NodeState}
+use Rattle.serf_world.proofs.Names.{List, [], ap, subst, sym, unwrap_or, ℕ, ◌++◌, ◌∙◌, ◌≡◌, IdealAgent, HasPast, ConcreteState, view_of, Config, line_only, reopened, text_after, Restarted, NodeState}
 use Rattle.serf_world.proofs.TurnLaws.{shows-only}
 use Rattle.serf_world.proofs.calls.restart_at.Goals as goal
 

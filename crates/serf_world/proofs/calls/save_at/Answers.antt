@@ -1,6 +1,4 @@
-use Rattle.serf_snap.specs.declared.snapshot.NoteFault.TheVariants.{OutOfMemory}
-use Rattle.serf_agent.specs.States.{save}
-use Rattle.serf_model.specs.declared.line.Answer.TheVariants.{Saved}
+use Rattle.serf_world.proofs.Names.{OutOfMemory, save, Saved}
 use Rattle.serf_world.proofs.TurnLaws.{noted}
 use Rattle.serf_world.proofs.calls.save_at.Goals as goal
 

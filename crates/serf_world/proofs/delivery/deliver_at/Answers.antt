@@ -1,13 +1,7 @@
-use Rattle.serf_world.proofs.Names.{◌≡◌, ◌≢◌, ◌++◌, ◌∷◌, [], ℕ, false, List, Option, Result, Some, Ok, Err, ap, refl, subst, ◌∙◌, slice_get, receive, receive_gives, delivers, AgentState, Device, Handed, IdealAgent, IdealNode, IsRepresentable, Line, Outcome, ReceiveFault, Steps, view_of}
-use Rattle.std.specs.Option.{option_to_list}
-use Rattle.serf_agent.specs.Sound.{IsSound}
+use Rattle.serf_world.proofs.Names.{Err, List, Ok, Option, Result, Some, [], ap, false, refl, subst, ℕ, ◌++◌, ◌∙◌, ◌∷◌, ◌≡◌, ◌≢◌, option_to_list, slice_get, Device, Handed, IdealAgent, receive, IsSound, Steps, AgentState, view_of, Outcome, ReceiveFault, IdealNode, delivers, receive_gives, receive_refusal, IsRepresentable, Line, NoMessage, Shows, TakesTurn, NodeState, node_of}
 use Rattle.serf_agent.specs.declared.outcome.Outcome.TheVariants as outcomes
 use Rattle.serf_agent.specs.declared.outcome.ReceiveFault.TheVariants.{OutOfMemory}
-use Rattle.serf_model.specs.Cluster.{receive_refusal}
 use Rattle.serf_model.specs.declared.line.Answer.TheVariants as answers
-use Rattle.serf_model.specs.declared.line.Refusal.TheVariants.{NoMessage}
-use Rattle.serf_world.specs.Turns.{Shows, TakesTurn}
-use Rattle.serf_world.specs.View.{NodeState, node_of}
 use Rattle.serf_world.proofs.TurnLaws.{call-done, call-refused, refuses, shows, shows-only}
 use Rattle.serf_world.proofs.delivery.deliver_at.Goals as goal
 

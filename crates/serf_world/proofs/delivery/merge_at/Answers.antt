@@ -1,7 +1,4 @@
-use Rattle.serf_world.proofs.Names.{◌≡◌, ℕ, List, [], Option, Some, None, map, event_line, subst, sym, ap, ◌∙◌, decoded, slice_get, Merges, fault_in, merge_refusal, merges_given, ConcreteState, AgentState, Handed}
-use Rattle.serf_model.specs.declared.line.Refusal.TheVariants.{NoMessage}
-use Rattle.serf_world.specs.Turns.{TakesTurn}
-use Rattle.serf_world.specs.View.{NodeState}
+use Rattle.serf_world.proofs.Names.{List, None, Option, Some, [], ap, map, subst, sym, ℕ, ◌∙◌, ◌≡◌, slice_get, decoded, Handed, Merges, fault_in, merge_refusal, AgentState, ConcreteState, event_line, merges_given, NoMessage, TakesTurn, NodeState}
 use Rattle.serf_world.proofs.MergeLaws.{does-merge, runs-merge}
 use Rattle.serf_world.proofs.TurnLaws.{refuses}
 use Rattle.serf_world.proofs.delivery.merge_at.Goals as goal

@@ -1,4 +1,4 @@
-use Rattle.serf_world.proofs.Names.{◌≡◌, ◌++◌, map, into_iter_items, event_line}
+use Rattle.serf_world.proofs.Names.{map, ◌++◌, ◌≡◌, into_iter_items, event_line}
 use Rattle.serf_world.proofs.line.line_with_events.Given as goal
 
 -- the lines so far, and those of the events that are left

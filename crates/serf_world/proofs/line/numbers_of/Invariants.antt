@@ -1,4 +1,4 @@
-use Rattle.serf_world.proofs.Names.{◌≡◌, ◌+◌, ◌++◌, drop, numbers_from}
+use Rattle.serf_world.proofs.Names.{drop, ◌++◌, ◌+◌, ◌≡◌, numbers_from}
 use Rattle.serf_world.proofs.line.numbers_of.Given as goal
 
 -- the numbers so far, and those of the packets that are left

@@ -1,7 +1,4 @@
-use Rattle.serf_world.proofs.Names.{◌≡◌, ◌<◌, ◌≤◌, List, Option, None, arith, ap, length, subst, sym, ◌∙◌, slice_get, responds, Handed}
-use Rattle.serf_model.specs.declared.line.Refusal.TheVariants.{NoQuery}
-use Rattle.serf_world.specs.Turns.{TakesTurn}
-use Rattle.serf_world.specs.View.{NodeState}
+use Rattle.serf_world.proofs.Names.{List, None, Option, ap, arith, length, subst, sym, ◌<◌, ◌∙◌, ◌≡◌, ◌≤◌, slice_get, Handed, responds, NoQuery, TakesTurn, NodeState}
 use Rattle.serf_world.proofs.TurnLaws.{past-none, refuses, responds-there}
 use Rattle.serf_world.proofs.respond.respond_at.Goals as goal
 

@@ -1,4 +1,4 @@
-use Rattle.serf_world.proofs.Names.{refl, inr, start}
+use Rattle.serf_world.proofs.Names.{inr, refl, start}
 use Rattle.serf_world.proofs.running.run_exactly.Goals as goal
 
 pub returns-in-Ok-run_in : goal.returns-in-Ok-run_in

@@ -1,5 +1,4 @@
-use Rattle.serf_world.proofs.Names.{◌≡◌, [], take, fold, Run, after, AreRepresentable}
-use Rattle.serf_world.specs.View.{IsAt, IsViewed}
+use Rattle.serf_world.proofs.Names.{[], take, ◌≡◌, fold, Run, after, AreRepresentable, IsAt, IsViewed}
 use Rattle.serf_world.proofs.running.run_in.Given as goal
 
 -- the world and the lines are those of the actions so far

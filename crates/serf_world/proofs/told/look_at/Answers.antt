@@ -1,8 +1,4 @@
-use Rattle.std.specs.Prelude.{All}
-use Rattle.serf_world.proofs.Names.{ℕ, List, subst, sym}
-use Rattle.serf_agent.specs.KeptTexts.{IsTold}
-use Rattle.serf_model.specs.Tails.{BringsTold}
-use Rattle.serf_model.specs.Trace.{events_in_packet}
+use Rattle.serf_world.proofs.Names.{List, subst, sym, ℕ, All, IsTold, BringsTold, events_in_packet}
 use Rattle.serf_world.proofs.told.look_at.Goals as goal
 
 pub returns-in-Inject : goal.returns-in-Inject

@@ -1,5 +1,4 @@
-use Rattle.serf_world.proofs.Names.{ℕ, ◌<◌, slice_index_or, Action}
-use Rattle.serf_model.specs.Tails.{BringsTold}
+use Rattle.serf_world.proofs.Names.{ℕ, ◌<◌, slice_index_or, BringsTold, Action}
 use Rattle.serf_world.proofs.told.look_at_all.Given as goal
 
 -- what the actions so far bring can be told

@@ -1,7 +1,4 @@
-use Rattle.std.specs.Prelude.{All}
-use Rattle.serf_world.proofs.Names.{ℕ, List, Option, subst}
-use Rattle.serf_agent.specs.KeptTexts.{IsTold}
-use Rattle.serf_model.specs.HandOuts.{events_given}
+use Rattle.serf_world.proofs.Names.{List, Option, subst, ℕ, All, IsTold, events_given}
 use Rattle.serf_world.proofs.told.look_at_given.Goals as goal
 
 pub returns-in-Some : goal.returns-in-Some

@@ -1,4 +1,4 @@
-use Rattle.serf_world.proofs.Names.{ℕ, ◌<◌, slice_index_or, Action, HasSizes}
+use Rattle.serf_world.proofs.Names.{ℕ, ◌<◌, slice_index_or, HasSizes, Action}
 use Rattle.serf_world.proofs.told.read_all_numbers.Given as goal
 
 -- the actions so far have their sizes

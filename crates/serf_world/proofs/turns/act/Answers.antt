@@ -1,6 +1,4 @@
-use Rattle.serf_world.proofs.Names.{[], ◌∷◌, ◌++◌}
-use Rattle.std.proofs.lemmas.Result.{on_ok_weaker}
-use Rattle.serf_model.specs.Cluster.{run_of}
+use Rattle.serf_world.proofs.Names.{[], ◌++◌, ◌∷◌, on_ok_weaker, run_of}
 use Rattle.serf_world.proofs.turns.act.Goals as goal
 
 pub returns : goal.returns

@@ -1,5 +1,4 @@
-use Rattle.serf_world.proofs.Names.{◌≡◌, List, true, subst, arith, AllByRecursion, common_steps, Config, is_sound, view_of, opened_first, first_node}
-use Rattle.serf_world.specs.View.{node_of}
+use Rattle.serf_world.proofs.Names.{List, arith, subst, true, ◌≡◌, common_steps, AllByRecursion, is_sound, view_of, Config, first_node, opened_first, node_of}
 use Rattle.serf_world.proofs.world.open_all.Goals as goal
 
 pub loop-config-preserved : goal.loop-config-preserved

@@ -1,5 +1,4 @@
-use Rattle.serf_world.proofs.Names.{◌≡◌, ◌++◌, map, true, AllByRecursion, into_iter_items, is_sound, first_node}
-use Rattle.serf_world.specs.View.{node_of}
+use Rattle.serf_world.proofs.Names.{map, true, ◌++◌, ◌≡◌, AllByRecursion, into_iter_items, is_sound, first_node, node_of}
 use Rattle.serf_world.proofs.world.open_all.Given as goal
 
 -- the agents so far, and those of the settings that are left, which are within their bounds

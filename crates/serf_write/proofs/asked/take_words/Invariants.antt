@@ -1,5 +1,4 @@
-use Rattle.std.proofs.Common.{◌≡◌, ◌+◌, ◌≤◌, length}
-use Rattle.serf_write.specs.Queries.{options_from}
+use Rattle.serf_write.proofs.Names.{length, ◌+◌, ◌≡◌, ◌≤◌, options_from}
 use Rattle.serf_write.proofs.asked.take_words.Given as goal
 
 -- the options that are left, after those so far, give the answer

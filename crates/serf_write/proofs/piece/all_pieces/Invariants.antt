@@ -1,7 +1,4 @@
-use Rattle.std.proofs.Common.{◌≡◌, length, false, []}
-use Rattle.std.specs.Prelude.{◌==◌}
-use Rattle.std.specs.List.{slice_split}
-use Rattle.serf_write.specs.Pieces.{pieces_from}
+use Rattle.serf_write.proofs.Names.{[], false, length, ◌≡◌, slice_split, ◌==◌, pieces_from}
 use Rattle.serf_write.proofs.piece.all_pieces.Given as goal
 
 -- the parts that are left, behind the pieces so far, give the answer

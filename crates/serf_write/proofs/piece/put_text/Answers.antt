@@ -1,10 +1,4 @@
-use Rattle.std.proofs.Common.{◌≡◌, ◌+◌, ◌∙◌, ℕ, List, Some, None, ap, false, length, rules, sym}
-use Rattle.std.specs.Prelude.{◌==◌}
-use Rattle.std.specs.List.{slice_split}
-use Rattle.serf_write.specs.declared.fault.Wanted.TheVariants.{ClosingQuote, Escape}
-use Rattle.serf_write.specs.declared.piece.Piece.{Piece}
-use Rattle.serf_write.specs.Gives.{wrong}
-use Rattle.serf_write.specs.Pieces.{pieces_from, text_within}
+use Rattle.serf_write.proofs.Names.{List, None, Some, ap, false, length, rules, sym, ℕ, ◌+◌, ◌∙◌, ◌≡◌, slice_split, ◌==◌, wrong, pieces_from, text_within, ClosingQuote, Escape, Piece}
 use Rattle.serf_write.proofs.PieceLaws.{quote_open, text_read, text_wrong}
 use Rattle.serf_write.proofs.piece.put_text.Goals as goal
 

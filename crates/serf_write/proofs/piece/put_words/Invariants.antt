@@ -1,6 +1,4 @@
-use Rattle.std.proofs.Common.{◌≡◌, length}
-use Rattle.serf_text.specs.Words.{words_of}
-use Rattle.serf_write.specs.Pieces.{words_behind}
+use Rattle.serf_write.proofs.Names.{length, ◌≡◌, words_of, words_behind}
 use Rattle.serf_write.proofs.piece.put_words.Given as goal
 
 -- the words that are left, behind the pieces so far, give the answer

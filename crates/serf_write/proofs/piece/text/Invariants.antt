@@ -1,7 +1,4 @@
-use Rattle.std.proofs.Common.{◌≡◌, length}
-use Rattle.std.specs.Prelude.{◌==◌}
-use Rattle.std.specs.List.{slice_split}
-use Rattle.serf_write.specs.Pieces.{text_from, text_within}
+use Rattle.serf_write.proofs.Names.{length, ◌≡◌, slice_split, ◌==◌, text_from, text_within}
 use Rattle.serf_write.proofs.piece.text.Given as goal
 
 -- the parts that are left, behind the text so far, give the answer

@@ -1,7 +1,4 @@
-use Rattle.std.proofs.Common.{◌≡◌, ◌+◌, ◌≤◌, length}
-use Rattle.std.specs.Prelude.{◌==◌}
-use Rattle.std.specs.List.{slice_split}
-use Rattle.serf_write.specs.Written.{after_lines, written_of}
+use Rattle.serf_write.proofs.Names.{length, ◌+◌, ◌≡◌, ◌≤◌, slice_split, ◌==◌, after_lines, written_of}
 use Rattle.serf_write.proofs.schedule.read_lines.Given as goal
 
 -- the lines that are left, after those so far, give the answer

@@ -1,5 +1,4 @@
-use Rattle.std.proofs.Common.{◌≡◌, ◌+◌, ◌≤◌, length}
-use Rattle.serf_write.specs.Lines.{settings_from}
+use Rattle.serf_write.proofs.Names.{length, ◌+◌, ◌≡◌, ◌≤◌, settings_from}
 use Rattle.serf_write.proofs.settings.settings.Given as goal
 
 -- the settings that are left, after those so far, give the answer

@@ -1,7 +1,4 @@
-use Rattle.serf_agent.proofs.Names.{arith, ◌≡◌, ℕ, ◌≤◌, ◌+◌, length, nat_lt, Bool, false, cond, Some, ap, sym, ◌∙◌, le-ltb, event_of, same_texts}
-use Rattle.serf_agent.specs.declared.outcome.Reason.TheVariants.{Oversize}
-use Rattle.serf_agent.specs.Tracks.{track_reason}
-use Rattle.serf_agent.specs.View.{ConcreteState}
+use Rattle.serf_agent.proofs.Names.{Bool, Some, ap, arith, cond, false, length, nat_lt, sym, ℕ, ◌+◌, ◌∙◌, ◌≡◌, ◌≤◌, le-ltb, event_of, same_texts, track_reason, ConcreteState, Oversize}
 use Rattle.serf_agent.proofs.agent.Agent.admission.Goals as goal
 
 pub returns-clause-reason : goal.returns-clause-reason

@@ -1,5 +1,4 @@
-use Rattle.serf_agent.proofs.Names.{◌<◌, ℕ, List, sym, subst, All, All-nil}
-use Rattle.serf_agent.specs.declared.open_query.OpenQuery.{OpenQuery}
+use Rattle.serf_agent.proofs.Names.{List, subst, sym, ℕ, ◌<◌, All-nil, All, OpenQuery}
 use Rattle.serf_agent.proofs.agent.Agent.behind.Goals as goal
 
 pub invariant_of-result : goal.invariant_of-result

@@ -1,8 +1,5 @@
-use Rattle.serf_agent.proofs.Names.{◌<◌, ℕ, List, filter, length, not, ap, sym, subst, ◌∙◌, All-filter}
+use Rattle.serf_agent.proofs.Names.{List, ap, filter, length, not, subst, sym, ℕ, ◌<◌, ◌∙◌, All-filter, is_due, AgentState, ConcreteState, OpenQuery}
 use Rattle.std.proofs.Common.{All}
-use Rattle.serf_agent.specs.declared.open_query.OpenQuery.{OpenQuery}
-use Rattle.serf_agent.specs.Queries.{is_due}
-use Rattle.serf_agent.specs.View.{AgentState, ConcreteState}
 use Rattle.serf_agent.proofs.SoundLaws.{sound-closed}
 use Rattle.serf_agent.proofs.agent.Agent.close_due.Goals as goal
 

@@ -1,10 +1,4 @@
-use Rattle.serf_agent.proofs.Names.{◌≡◌, ap, sym, subst, ◌∙◌, ℕ, List, Option, Result, NoteFault, SnapshotState, SnapshotView}
-use Rattle.serf_snap.specs.Ends.{ReplacesText}
-use Rattle.serf_snap.specs.KeptNotes.{lines_given}
-use Rattle.serf_agent.specs.States.{compact, told_lines}
-use Rattle.serf_agent.specs.Steps.{Steps}
-use Rattle.serf_agent.specs.Told.{text_with}
-use Rattle.serf_agent.specs.View.{AgentState, ConcreteState, concrete_with}
+use Rattle.serf_agent.proofs.Names.{List, Option, Result, ap, subst, sym, ℕ, ◌∙◌, ◌≡◌, ReplacesText, lines_given, SnapshotState, SnapshotView, NoteFault, compact, told_lines, Steps, text_with, AgentState, ConcreteState, concrete_with}
 use Rattle.serf_agent.proofs.LineLaws.{agent_with, called-ok, steps-compact}
 use Rattle.serf_agent.proofs.agent.Agent.compact.Goals as goal
 

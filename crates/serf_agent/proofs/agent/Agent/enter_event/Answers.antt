@@ -1,11 +1,5 @@
-use Rattle.std.proofs.lemmas.Result.{err_from_is_err_and}
-use Rattle.serf_agent.proofs.Names.{◌∙◌, ap, EventBody, TimedEntry, Kept, event_of, length, slots_of, refl, subst, List, Option, ℕ, ◌++◌, ◌∷◌, []}
+use Rattle.serf_agent.proofs.Names.{List, Option, [], ap, length, refl, subst, ℕ, ◌++◌, ◌∙◌, ◌∷◌, err_from_is_err_and, EventBody, Kept, event_of, TimedEntry, slots_of, told_event, concrete_of, EndsWrite, HasWritten, noted_with, AgentState, ConcreteState}
 use Rattle.serf_snap.specs.declared.kind.ClockKind.TheVariants as kinds
-use Rattle.serf_agent.specs.Events.{told_event}
-use Rattle.serf_agent.specs.Inside.{concrete_of}
-use Rattle.serf_agent.specs.Told.{noted_with}
-use Rattle.serf_agent.specs.View.{AgentState, ConcreteState}
-use Rattle.serf_agent.specs.Steps.{EndsWrite, HasWritten}
 use Rattle.serf_agent.proofs.NoteLaws.{ends-note, notes-agent}
 use Rattle.serf_agent.proofs.TrackLaws.{view-entered}
 use Rattle.serf_agent.proofs.agent.Agent.enter_event.Goals as goal

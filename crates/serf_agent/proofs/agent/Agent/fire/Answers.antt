@@ -1,14 +1,5 @@
-use Rattle.std.proofs.lemmas.Result.{err_from_is_err_and}
-use Rattle.serf_agent.proofs.Names.{◌≡◌, ◌<◌, ◌-◌, ◌^◌, ℕ, ap, sym, subst, ◌∙◌, Ok, Err, NoteFault, event_of, Kept, Failed, written}
+use Rattle.serf_agent.proofs.Names.{Err, Ok, ap, subst, sym, ℕ, ◌-◌, ◌<◌, ◌^◌, ◌∙◌, ◌≡◌, err_from_is_err_and, FailsLine, Failed, Kept, written, NoteFault, event_of, drawn, event_entered, event_out, event_packet, fire, is_too_large, told_event, fire_fault_of, with_snapshot, Steps, MayNote, bytes_with, device_noted, noted_with, AgentState, ConcreteState, view_of, FireFault}
 use Rattle.serf_snap.specs.declared.kind.ClockKind.TheVariants as kinds
-use Rattle.serf_snap.specs.Ends.{FailsLine}
-use Rattle.serf_agent.specs.Faults.{fire_fault_of}
-use Rattle.serf_agent.specs.declared.outcome.FireFault.{FireFault}
-use Rattle.serf_agent.specs.Events.{fire, is_too_large, drawn, event_entered, event_out, event_packet, told_event}
-use Rattle.serf_agent.specs.Ideal.{with_snapshot}
-use Rattle.serf_agent.specs.View.{AgentState, ConcreteState, view_of}
-use Rattle.serf_agent.specs.Steps.{Steps}
-use Rattle.serf_agent.specs.Told.{MayNote, bytes_with, device_noted, noted_with}
 use Rattle.serf_agent.proofs.NoteLaws.{by-fault}
 use Rattle.serf_agent.proofs.StepLaws.{steps-fire_entered, steps-fire_failed, fire-allowed, small-short}
 use Rattle.serf_agent.proofs.ViewLaws.{failed-view}

@@ -1,11 +1,5 @@
-use Rattle.std.proofs.lemmas.Result.{err_from_is_err_and}
-use Rattle.serf_agent.proofs.Names.{◌≡◌, ◌≢◌, ap, sym, subst, refl, ◌∙◌, Err, List, None, NoteFault, Ok, Result, Option, ℕ, Kept}
-use Rattle.serf_wire.specs.Message.{push_pull_said}
+use Rattle.serf_agent.proofs.Names.{Err, List, None, Ok, Option, Result, ap, refl, subst, sym, ℕ, ◌∙◌, ◌≡◌, ◌≢◌, err_from_is_err_and, push_pull_said, Kept, NoteFault, told_least, EndsNote, MayNote, device_noted, noted_with, AgentState, ConcreteState, concrete_with}
 use Rattle.serf_snap.specs.declared.kind.ClockKind.TheVariants as kinds
-use Rattle.serf_agent.specs.States.{told_least}
-use Rattle.serf_agent.specs.Steps.{EndsNote}
-use Rattle.serf_agent.specs.Told.{MayNote, device_noted, noted_with}
-use Rattle.serf_agent.specs.View.{AgentState, ConcreteState, concrete_with}
 use Rattle.serf_agent.proofs.MergeLaws.{heard-kept, heard-memory, heard-wrong}
 use Rattle.serf_agent.proofs.agent.Agent.hear.Goals as goal
 

@@ -1,7 +1,4 @@
-use Rattle.serf_agent.proofs.Names.{List, map, ap, sym, ◌∙◌, Err, EncodeFault, slots_lent, status_of, SlotOf, EventBody}
-use Rattle.serf_agent.specs.Inside.{concrete_of}
-use Rattle.serf_agent.specs.States.{slot_sent}
-use Rattle.serf_agent.specs.View.{ConcreteState}
+use Rattle.serf_agent.proofs.Names.{Err, List, ap, map, sym, ◌∙◌, slots_lent, status_of, EncodeFault, EventBody, SlotOf, concrete_of, slot_sent, ConcreteState}
 use Rattle.serf_agent.proofs.SendLaws.{fits-by, sends, sends-not, sends-some, slots-sent}
 use Rattle.serf_agent.proofs.agent.Agent.local_state.Goals as goal
 

@@ -1,8 +1,4 @@
-use Rattle.std.proofs.lemmas.Result.{err_from_is_err_and}
-use Rattle.serf_agent.proofs.Names.{◌≡◌, None, Some, refl, sym, subst, ◌∙◌, Kept, PushPull}
-use Rattle.serf_wire.specs.Message.{push_pull_said}
-use Rattle.serf_agent.specs.Calls.{ended}
-use Rattle.serf_agent.specs.States.{Merges, hear}
+use Rattle.serf_agent.proofs.Names.{None, Some, refl, subst, sym, ◌∙◌, ◌≡◌, err_from_is_err_and, PushPull, push_pull_said, Kept, ended, Merges, hear}
 use Rattle.serf_agent.proofs.MergeLaws.{merges-all, merges-none, merges-wrong, same-push_pull}
 use Rattle.serf_agent.proofs.agent.Agent.merge_message.Goals as goal
 

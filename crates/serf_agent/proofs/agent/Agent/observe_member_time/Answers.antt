@@ -1,6 +1,4 @@
-use Rattle.serf_agent.proofs.Names.{◌+◌, false, ap, ◌∙◌, observed, arith}
-use Rattle.serf_agent.specs.MemberClock.{clock_state}
-use Rattle.serf_agent.specs.View.{AgentState, ConcreteState}
+use Rattle.serf_agent.proofs.Names.{ap, arith, false, ◌+◌, ◌∙◌, observed, clock_state, AgentState, ConcreteState}
 use Rattle.serf_agent.proofs.MemberClockLaws.{heard-view}
 use Rattle.serf_agent.proofs.SoundLaws.{sound-joined}
 use Rattle.serf_agent.proofs.agent.Agent.observe_member_time.Goals as goal

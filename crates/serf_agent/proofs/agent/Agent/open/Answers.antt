@@ -1,19 +1,7 @@
-use Rattle.serf_agent.proofs.Names.{rules, true, ◌≡◌, ◌+◌, ◌<◌, ◌-◌, ◌^◌, ℕ, List, [], refl, subst, sym, ◌∙◌, EventBody, Device, SnapshotView, last_clock, opened}
+use Rattle.serf_agent.proofs.Names.{List, [], refl, rules, subst, sym, true, ℕ, ◌+◌, ◌-◌, ◌<◌, ◌^◌, ◌∙◌, ◌≡◌, EventBody, last_clock, Device, SnapshotView, opened, SealFault, is_sound, open_fault_of, IdealAgent, with_config, concrete_of, first_events, first_queries, KeptRestartLaws, HasKept, HasPast, restarted, unopened, SnapshotLaws, IsSound, ConcreteTrack, ConcreteState, view_of}
 use Rattle.serf_snap.specs.declared.kind.ClockKind.TheVariants as kinds
-use Rattle.serf_snap.specs.declared.snapshot.SealFault.{SealFault}
 use Rattle.serf_snap.specs.declared.snapshot.SealFault.TheVariants as seals
-use Rattle.serf_agent.specs.Config.{is_sound}
 use Rattle.serf_agent.specs.declared.outcome.OpenFault.TheVariants as opens
-use Rattle.serf_agent.specs.Faults.{open_fault_of}
-use Rattle.serf_agent.specs.Ideal.{IdealAgent, with_config}
-use Rattle.serf_agent.specs.Inside.{concrete_of, first_events, first_queries}
-use Rattle.serf_agent.specs.KeptLaws.{KeptRestartLaws}
-use Rattle.serf_agent.specs.KeptRestart.{HasKept}
-use Rattle.serf_agent.specs.Restart.{HasPast, restarted, unopened}
-use Rattle.serf_agent.specs.Snapshots.{SnapshotLaws}
-use Rattle.serf_agent.specs.Sound.{IsSound}
-use Rattle.serf_agent.specs.Tracks.{ConcreteTrack}
-use Rattle.serf_agent.specs.View.{ConcreteState, view_of}
 use Rattle.serf_agent.proofs.SoundLaws.{past-unopened, sound-restarted, sound-unopened, sound-with_config}
 use Rattle.serf_agent.proofs.ViewLaws.{first-view}
 use Rattle.serf_agent.proofs.agent.Agent.open.Goals as goal

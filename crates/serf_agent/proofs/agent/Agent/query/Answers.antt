@@ -1,14 +1,5 @@
-use Rattle.std.proofs.lemmas.Result.{err_from_is_err_and}
-use Rattle.serf_agent.proofs.Names.{◌≡◌, ◌<◌, ◌-◌, ◌^◌, ℕ, false, ap, sym, subst, ◌∙◌, Ok, Err, NoteFault, Kept, Failed, written}
+use Rattle.serf_agent.proofs.Names.{Err, Ok, ap, false, subst, sym, ℕ, ◌-◌, ◌<◌, ◌^◌, ◌∙◌, ◌≡◌, err_from_is_err_and, FailsLine, Failed, Kept, written, NoteFault, query_fault_of, with_snapshot, fire_query, fired_query, is_too_large_query, query_asked, query_at, told_query, Steps, MayNote, bytes_with, device_noted, noted_with, AgentState, ConcreteState, view_of, QueryFault}
 use Rattle.serf_snap.specs.declared.kind.ClockKind.TheVariants as kinds
-use Rattle.serf_snap.specs.Ends.{FailsLine}
-use Rattle.serf_agent.specs.Faults.{query_fault_of}
-use Rattle.serf_agent.specs.declared.outcome.QueryFault.{QueryFault}
-use Rattle.serf_agent.specs.Ideal.{with_snapshot}
-use Rattle.serf_agent.specs.Queries.{fire_query, fired_query, is_too_large_query, query_asked, query_at, told_query}
-use Rattle.serf_agent.specs.Steps.{Steps}
-use Rattle.serf_agent.specs.Told.{MayNote, bytes_with, device_noted, noted_with}
-use Rattle.serf_agent.specs.View.{AgentState, ConcreteState, view_of}
 use Rattle.serf_agent.proofs.NoteLaws.{by-fault}
 use Rattle.serf_agent.proofs.StepLaws.{query-allowed, steps-query_asked, steps-query_fire_failed}
 use Rattle.serf_agent.proofs.ViewLaws.{failed-view}

@@ -1,6 +1,4 @@
-use Rattle.serf_agent.proofs.Names.{◌≡◌, ℕ, ap, ◌∙◌, same_id}
-use Rattle.serf_agent.specs.Tracks.{track_reason}
-use Rattle.serf_agent.specs.View.{ConcreteState}
+use Rattle.serf_agent.proofs.Names.{ap, ℕ, ◌∙◌, ◌≡◌, same_id, track_reason, ConcreteState}
 use Rattle.serf_agent.proofs.agent.Agent.query_admission.Goals as goal
 
 pub returns-clause-reason : goal.returns-clause-reason

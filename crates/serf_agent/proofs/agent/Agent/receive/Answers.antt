@@ -1,6 +1,4 @@
-use Rattle.serf_agent.proofs.Names.{Ok, ap, sym, ◌∙◌}
-use Rattle.serf_wire.specs.Message.{event_said, user_event}
-use Rattle.serf_agent.specs.View.{AgentState}
+use Rattle.serf_agent.proofs.Names.{Ok, ap, sym, ◌∙◌, event_said, user_event, AgentState}
 use Rattle.serf_agent.proofs.StepLaws.{event_decoded}
 use Rattle.serf_agent.proofs.TakenPackets.{takes-read}
 use Rattle.serf_agent.proofs.agent.Agent.receive.Goals as goal

@@ -1,15 +1,5 @@
-use Rattle.std.proofs.lemmas.Result.{err_from_is_err_and}
-use Rattle.serf_agent.proofs.Names.{◌≡◌, ap, sym, subst, refl, ◌∙◌, Ok, Err, event_of, WindowOf, EventBody, NoteFault, Kept, Failed, rules}
+use Rattle.serf_agent.proofs.Names.{Err, Ok, ap, refl, rules, subst, sym, ◌∙◌, ◌≡◌, err_from_is_err_and, EventBody, FailsLine, Failed, Kept, NoteFault, event_of, WindowOf, receive_event, told_event, receive_fault_of, Steps, MayNote, bytes_with, device_noted, AgentState, ConcreteState, EventOut, Event, ReceiveFault}
 use Rattle.serf_snap.specs.declared.kind.ClockKind.TheVariants as kinds
-use Rattle.serf_snap.specs.Ends.{FailsLine}
-use Rattle.serf_agent.specs.declared.outcome.EventOut.{EventOut}
-use Rattle.serf_agent.specs.Faults.{receive_fault_of}
-use Rattle.serf_agent.specs.declared.outcome.ReceiveFault.{ReceiveFault}
-use Rattle.serf_agent.specs.declared.outcome.Outcome.TheVariants.{Event}
-use Rattle.serf_agent.specs.Events.{receive_event, told_event}
-use Rattle.serf_agent.specs.Steps.{Steps}
-use Rattle.serf_agent.specs.Told.{MayNote, bytes_with, device_noted}
-use Rattle.serf_agent.specs.View.{AgentState, ConcreteState}
 use Rattle.serf_agent.proofs.NoteLaws.{by-fault}
 use Rattle.serf_agent.proofs.StepLaws.{steps-event_ignored, steps-event_entered, steps-event_failed}
 use Rattle.serf_agent.proofs.TakenPackets.{takes-ok}

@@ -1,8 +1,4 @@
-use Rattle.serf_agent.proofs.Names.{◌∷◌, [], List, ap, sym, subst, refl, ◌∙◌, EventViews, EventBody, events_left, TimedEntry}
-use Rattle.serf_wire.specs.Lists.{event_of_view}
-use Rattle.serf_agent.specs.Merging.{HasReceived}
-use Rattle.serf_agent.specs.States.{at_time}
-use Rattle.serf_agent.specs.View.{ConcreteState}
+use Rattle.serf_agent.proofs.Names.{List, [], ap, refl, subst, sym, ◌∙◌, ◌∷◌, event_of_view, events_left, EventViews, EventBody, TimedEntry, HasReceived, at_time, ConcreteState}
 use Rattle.serf_agent.proofs.MergeLaws.{has-more, has-start, has-wrong}
 use Rattle.serf_agent.proofs.agent.Agent.receive_events.Goals as goal
 

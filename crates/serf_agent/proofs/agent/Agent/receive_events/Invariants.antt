@@ -1,9 +1,4 @@
-use Rattle.serf_agent.proofs.Names.{◌≡◌, false, events_left}
-use Rattle.serf_agent.specs.Ideal.{IdealAgent}
-use Rattle.serf_agent.specs.Merging.{HasReceived}
-use Rattle.serf_agent.specs.Sound.{IsSound}
-use Rattle.serf_agent.specs.States.{at_time}
-use Rattle.serf_agent.specs.View.{view_of}
+use Rattle.serf_agent.proofs.Names.{false, ◌≡◌, events_left, IdealAgent, HasReceived, IsSound, at_time, view_of}
 use Rattle.serf_agent.proofs.agent.Agent.receive_events.Given as goal
 
 abbrev pub invariant-loop-event : goal.invariant-loop-event

@@ -1,8 +1,5 @@
-use Rattle.serf_agent.proofs.Names.{Ok, refl, ap, sym, subst, Message, message_of}
+use Rattle.serf_agent.proofs.Names.{Ok, ap, refl, subst, sym, Message, message_of, answer_of, receive_message, TakesPacket}
 use Rattle.serf_agent.specs.declared.outcome.Outcome.TheVariants as outcomes
-use Rattle.serf_agent.specs.Answers.{answer_of}
-use Rattle.serf_agent.specs.Receive.{receive_message}
-use Rattle.serf_agent.specs.TakesPacket.{TakesPacket}
 use Rattle.serf_agent.proofs.StepLaws.{steps-answers}
 use Rattle.serf_agent.proofs.TakenPackets.{takes-ok}
 use Rattle.serf_agent.proofs.agent.Agent.receive_message.Goals as goal

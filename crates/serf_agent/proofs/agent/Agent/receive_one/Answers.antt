@@ -1,6 +1,4 @@
-use Rattle.serf_agent.proofs.Names.{ap, sym, refl, ◌∙◌, WindowOf, EventBody}
-use Rattle.serf_wire.specs.Lists.{event_of_view}
-use Rattle.serf_agent.specs.View.{AgentState, ConcreteState}
+use Rattle.serf_agent.proofs.Names.{ap, refl, sym, ◌∙◌, event_of_view, EventBody, WindowOf, AgentState, ConcreteState}
 use Rattle.serf_agent.proofs.MergeLaws.{goes-ignored, received-ignored}
 use Rattle.serf_agent.proofs.ViewLaws.{event_observed-view}
 use Rattle.serf_agent.proofs.agent.Agent.receive_one.Goals as goal

@@ -1,5 +1,4 @@
-use Rattle.serf_agent.proofs.Names.{Err, refl}
-use Rattle.serf_agent.specs.declared.outcome.ReceiveFault.TheVariants.{Wire}
+use Rattle.serf_agent.proofs.Names.{Err, refl, Wire}
 use Rattle.serf_agent.proofs.StepLaws.{steps-answers}
 use Rattle.serf_agent.proofs.TakenPackets.{takes-fault, takes-read}
 use Rattle.serf_agent.proofs.agent.Agent.receive_packet.Goals as goal

@@ -1,15 +1,6 @@
-use Rattle.std.proofs.lemmas.Result.{err_from_is_err_and}
-use Rattle.serf_agent.proofs.Names.{◌≡◌, ℕ, List, cond, Some, None, not, ap, sym, subst, ◌∙◌, Ok, Err, WindowOf, NoteFault, Kept, Failed, rules}
+use Rattle.serf_agent.proofs.Names.{Err, List, None, Ok, Some, ap, cond, not, rules, subst, sym, ℕ, ◌∙◌, ◌≡◌, err_from_is_err_and, query_said, FailsLine, Failed, Kept, NoteFault, WindowOf, receive_fault_of, ack_packet, all_pass, handed_query, has_flag, receive_query, told_query, Steps, MayNote, bytes_with, device_noted, AgentState, ConcreteState, ReceiveFault}
 use Rattle.serf_snap.specs.declared.kind.ClockKind.TheVariants as kinds
-use Rattle.serf_snap.specs.Ends.{FailsLine}
-use Rattle.serf_agent.specs.Faults.{receive_fault_of}
-use Rattle.serf_agent.specs.declared.outcome.ReceiveFault.{ReceiveFault}
 use Rattle.serf_agent.specs.declared.outcome.Outcome.TheVariants as outcomes
-use Rattle.serf_wire.specs.Message.{query_said}
-use Rattle.serf_agent.specs.Queries.{ack_packet, all_pass, handed_query, has_flag, receive_query, told_query}
-use Rattle.serf_agent.specs.Steps.{Steps}
-use Rattle.serf_agent.specs.Told.{MayNote, bytes_with, device_noted}
-use Rattle.serf_agent.specs.View.{AgentState, ConcreteState}
 use Rattle.serf_agent.proofs.NoteLaws.{by-fault}
 use Rattle.serf_agent.proofs.StepLaws.{steps-query_ignored, steps-query_entered, steps-query_failed}
 use Rattle.serf_agent.proofs.TakenPackets.{takes-ok}

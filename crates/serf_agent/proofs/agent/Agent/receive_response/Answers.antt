@@ -1,11 +1,6 @@
-use Rattle.std.proofs.lemmas.Grind.{common_steps}
-use Rattle.serf_agent.proofs.Names.{arith, ◌≡◌, ◌<◌, ℕ, List, Option, Some, None, IfSome, false, nat_eq, ap, sym, subst, ◌∙◌, Ok, option_copied, rules}
+use Rattle.serf_agent.proofs.Names.{IfSome, List, None, Ok, Option, Some, ap, arith, false, nat_eq, rules, subst, sym, ℕ, ◌<◌, ◌∙◌, ◌≡◌, common_steps, option_copied, response_said, answer_ignore_reason, asked_at, is_full, with_asked_at, AgentState, ConcreteState, OpenQuery, Outcome}
 use Rattle.std.proofs.Common.{All}
-use Rattle.serf_agent.specs.declared.open_query.OpenQuery.{OpenQuery}
-use Rattle.serf_agent.specs.declared.outcome.Outcome.{Outcome}
-use Rattle.serf_wire.specs.Message.{response_said}
-use Rattle.serf_agent.specs.Queries.{answer_ignore_reason, asked_at, counted, is_full, with_asked_at}
-use Rattle.serf_agent.specs.View.{AgentState, ConcreteState}
+use Rattle.serf_agent.specs.Queries.{counted}
 use Rattle.serf_agent.proofs.OpenQueries.{set_value-keys}
 use Rattle.serf_agent.proofs.StepLaws.{steps-counted}
 use Rattle.serf_agent.proofs.agent.Agent.receive_response.Goals as goal

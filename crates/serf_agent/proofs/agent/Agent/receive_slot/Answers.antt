@@ -1,7 +1,4 @@
-use Rattle.serf_agent.proofs.Names.{[], Ok, ap, sym, subst, refl, ◌∙◌, SlotView, slot_of_view}
-use Rattle.serf_agent.specs.Merging.{Received}
-use Rattle.serf_agent.specs.States.{events_of_slot}
-use Rattle.serf_agent.specs.View.{ConcreteState}
+use Rattle.serf_agent.proofs.Names.{Ok, [], ap, refl, subst, sym, ◌∙◌, slot_of_view, SlotView, Received, events_of_slot, ConcreteState}
 use Rattle.serf_agent.proofs.MergeLaws.{goes-start, received-ignored}
 use Rattle.serf_agent.proofs.agent.Agent.receive_slot.Goals as goal
 

@@ -1,7 +1,4 @@
-use Rattle.serf_agent.proofs.Names.{List, ap, sym, subst, refl, ◌∙◌, SlotViews, EventBody, slot_of_view, slots_left, SlotContent, TimedEntry}
-use Rattle.serf_agent.specs.Merging.{HasReceived}
-use Rattle.serf_agent.specs.States.{events_of, events_of_slot}
-use Rattle.serf_agent.specs.View.{ConcreteState}
+use Rattle.serf_agent.proofs.Names.{List, ap, refl, subst, sym, ◌∙◌, slot_of_view, slots_left, SlotContent, SlotViews, EventBody, TimedEntry, HasReceived, events_of, events_of_slot, ConcreteState}
 use Rattle.serf_agent.proofs.MergeLaws.{has-more, has-start, has-wrong}
 use Rattle.serf_agent.proofs.agent.Agent.receive_slots.Goals as goal
 

@@ -1,9 +1,4 @@
-use Rattle.serf_agent.proofs.Names.{◌≡◌, false, slots_left}
-use Rattle.serf_agent.specs.Ideal.{IdealAgent}
-use Rattle.serf_agent.specs.Merging.{HasReceived}
-use Rattle.serf_agent.specs.Sound.{IsSound}
-use Rattle.serf_agent.specs.States.{events_of}
-use Rattle.serf_agent.specs.View.{view_of}
+use Rattle.serf_agent.proofs.Names.{false, ◌≡◌, slots_left, IdealAgent, HasReceived, IsSound, events_of, view_of}
 use Rattle.serf_agent.proofs.agent.Agent.receive_slots.Given as goal
 
 abbrev pub invariant-loop-slot : goal.invariant-loop-slot

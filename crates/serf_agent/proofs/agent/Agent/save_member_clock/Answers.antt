@@ -1,10 +1,5 @@
-use Rattle.serf_agent.proofs.Names.{None, arith, ◌≡◌, ◌-◌, ap, sym, subst, ◌∙◌, Device, SnapshotView}
+use Rattle.serf_agent.proofs.Names.{None, ap, arith, subst, sym, ◌-◌, ◌∙◌, ◌≡◌, Device, NotesTime, SnapshotView, concrete_of, save, Steps, AgentState, ConcreteState}
 use Rattle.serf_snap.specs.declared.kind.ClockKind.TheVariants as kinds
-use Rattle.serf_snap.specs.Ends.{NotesTime}
-use Rattle.serf_agent.specs.Inside.{concrete_of}
-use Rattle.serf_agent.specs.States.{save}
-use Rattle.serf_agent.specs.Steps.{Steps}
-use Rattle.serf_agent.specs.View.{AgentState, ConcreteState}
 use Rattle.serf_agent.proofs.LineLaws.{agent_with, steps-save}
 use Rattle.serf_agent.proofs.agent.Agent.save_member_clock.Goals as goal
 

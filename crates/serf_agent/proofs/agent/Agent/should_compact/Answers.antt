@@ -1,9 +1,5 @@
-use Rattle.serf_agent.proofs.Names.{◌≡◌, ◌∙◌, [], IfSome, List, false, SnapshotView, ap, refl, subst, sym, true, ℕ}
-use Rattle.serf_snap.specs.Compaction.{is_worth_compacting, is_worth_replacing}
-use Rattle.serf_snap.specs.KeptNotes.{lines_given, text_with}
-use Rattle.serf_snap.specs.Notes.{compaction_of}
-use Rattle.serf_agent.specs.KeptLines.{kept_lines}
-use Rattle.serf_agent.specs.View.{AgentState}
+use Rattle.serf_agent.proofs.Names.{IfSome, List, [], ap, false, refl, subst, sym, true, ℕ, ◌∙◌, ◌≡◌, is_worth_compacting, is_worth_replacing, lines_given, SnapshotView, compaction_of, kept_lines, AgentState}
+use Rattle.serf_snap.specs.KeptNotes.{text_with}
 use Rattle.serf_agent.proofs.ToldLines.{worth-plain, worth-with, worth-without}
 use Rattle.serf_agent.proofs.agent.Agent.should_compact.Goals as goal
 

@@ -1,16 +1,6 @@
-use Rattle.std.proofs.lemmas.Result.{err_from_is_err_and}
-use Rattle.serf_agent.proofs.Names.{◌≡◌, ◌++◌, ◌∷◌, [], List, false, ap, sym, subst, refl, ◌∙◌, Err, NoteFault, Kept, Failed}
-use Rattle.serf_wire.specs.Lists.{event_of_view}
+use Rattle.serf_agent.proofs.Names.{Err, List, [], ap, false, refl, subst, sym, ◌++◌, ◌∙◌, ◌∷◌, ◌≡◌, err_from_is_err_and, event_of_view, FailsLine, Failed, Kept, NoteFault, event_out, told_event, merge_fault_of, Received, MayNote, bytes_with, device_noted, AgentState, ConcreteState, EventOut, MergeFault}
 use Rattle.serf_snap.specs.declared.kind.ClockKind.TheVariants as kinds
-use Rattle.serf_snap.specs.Ends.{FailsLine}
-use Rattle.serf_agent.specs.declared.outcome.EventOut.{EventOut}
-use Rattle.serf_agent.specs.declared.outcome.MergeFault.{MergeFault}
-use Rattle.serf_agent.specs.Faults.{merge_fault_of}
 use Rattle.serf_agent.specs.declared.outcome.MergeFault.TheVariants as merges
-use Rattle.serf_agent.specs.Events.{event_out, told_event}
-use Rattle.serf_agent.specs.Merging.{Received}
-use Rattle.serf_agent.specs.Told.{MayNote, bytes_with, device_noted}
-use Rattle.serf_agent.specs.View.{AgentState, ConcreteState}
 use Rattle.serf_agent.proofs.MergeLaws.{goes-entered, received-entered, received-wrong, wrong-line, wrong-memory}
 use Rattle.serf_agent.proofs.NoteLaws.{by-fault}
 use Rattle.serf_agent.proofs.StepLaws.{steps-event_failed}

@@ -1,6 +1,4 @@
-use Rattle.serf_agent.proofs.Names.{◌≡◌, ◌∙◌, ap, rules, sym, true}
-use Rattle.serf_agent.specs.KeptLines.{kept_lines}
-use Rattle.serf_agent.specs.View.{AgentState}
+use Rattle.serf_agent.proofs.Names.{ap, rules, sym, true, ◌∙◌, ◌≡◌, kept_lines, AgentState}
 use Rattle.serf_agent.proofs.ToldLines.{lines-told}
 use Rattle.serf_agent.proofs.agent.Agent.told_lines.Goals as goal
 

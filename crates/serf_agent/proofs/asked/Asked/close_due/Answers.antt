@@ -1,6 +1,4 @@
-use Rattle.serf_agent.proofs.Names.{rules, arith, ◌≡◌, ℕ, List, filter, not, length, ap, ◌∙◌, filter-RetainsPairs}
-use Rattle.serf_agent.specs.declared.open_query.OpenQuery.{OpenQuery}
-use Rattle.serf_agent.specs.Queries.{is_due}
+use Rattle.serf_agent.proofs.Names.{List, ap, arith, filter, length, not, rules, ℕ, ◌∙◌, ◌≡◌, filter-RetainsPairs, is_due, OpenQuery}
 use Rattle.serf_agent.proofs.OpenQueries.{count-rest}
 use Rattle.serf_agent.proofs.asked.Asked.close_due.Goals as goal
 

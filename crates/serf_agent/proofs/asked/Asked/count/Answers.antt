@@ -1,5 +1,4 @@
-use Rattle.serf_agent.proofs.Names.{rules, ◌≡◌, OnErr, nat_eq, Some, Result, ap, sym, subst, ◌∙◌, lookup, set_value, option_copied_mut, AllocError}
-use Rattle.serf_agent.specs.declared.open_query.OpenQuery.{OpenQuery}
+use Rattle.serf_agent.proofs.Names.{OnErr, Result, Some, ap, nat_eq, rules, subst, sym, ◌∙◌, ◌≡◌, lookup, set_value, option_copied_mut, AllocError, OpenQuery}
 use Rattle.serf_agent.proofs.OpenQueries.{set_value-same, on_err-map}
 use Rattle.serf_agent.proofs.asked.Asked.count.Goals as goal
 use Rattle.serf_agent.proofs.asked.Asked.count.Goals.{in-Some, in-None}

@@ -1,6 +1,5 @@
-use Rattle.serf_agent.proofs.Names.{◌<◌, ◌++◌, ◌∷◌, [], ℕ, List, ap, sym, subst, ◌∙◌}
+use Rattle.serf_agent.proofs.Names.{List, [], ap, subst, sym, ℕ, ◌++◌, ◌<◌, ◌∙◌, ◌∷◌, OpenQuery}
 use Rattle.std.proofs.Common.{All}
-use Rattle.serf_agent.specs.declared.open_query.OpenQuery.{OpenQuery}
 use Rattle.serf_agent.proofs.OpenQueries.{insert-later}
 use Rattle.serf_agent.proofs.asked.Asked.push.Goals as goal
 

@@ -1,5 +1,4 @@
-use Rattle.serf_agent.proofs.Names.{◌≡◌, true≢false, ℕ, List, arith, ap, sym, ◌∙◌, filter, length, nat_lt}
-use Rattle.serf_agent.specs.declared.open_query.OpenQuery.{OpenQuery}
+use Rattle.serf_agent.proofs.Names.{List, ap, arith, filter, length, nat_lt, sym, ℕ, ◌∙◌, ◌≡◌, true≢false, OpenQuery}
 use Rattle.serf_agent.proofs.TakenQueries.{count-due, taking-none, taking-next, taking-one, taking-room}
 use Rattle.serf_agent.proofs.asked.Asked.take_due.Goals.{in-Some, in_default}
 use Rattle.serf_agent.proofs.asked.Asked.take_due.Goals as goal

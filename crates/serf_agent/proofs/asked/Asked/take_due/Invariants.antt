@@ -1,5 +1,4 @@
-use Rattle.serf_agent.proofs.Names.{◌≤◌, filter, length, vec_capacity}
-use Rattle.serf_agent.specs.Queries.{is_due}
+use Rattle.serf_agent.proofs.Names.{filter, length, ◌≤◌, vec_capacity, is_due}
 use Rattle.serf_agent.proofs.TakenQueries.{Taking}
 use Rattle.serf_agent.proofs.asked.Asked.take_due.Given as goal
 

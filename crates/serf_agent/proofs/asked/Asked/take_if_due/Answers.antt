@@ -1,5 +1,4 @@
-use Rattle.serf_agent.proofs.Names.{◌≡◌, ◌<◌, ℕ, arith, lt-ltb, Some, sym, ap, ◌∙◌, slice_get, slice_get-map, option_map, map, refl}
-use Rattle.serf_agent.specs.declared.open_query.OpenQuery.{OpenQuery}
+use Rattle.serf_agent.proofs.Names.{Some, ap, arith, map, refl, sym, ℕ, ◌<◌, ◌∙◌, ◌≡◌, lt-ltb, slice_get-map, slice_get, option_map, OpenQuery}
 use Rattle.serf_agent.proofs.asked.Asked.take_if_due.Goals as goal
 
 pub returns-clause-taken : goal.returns-clause-taken

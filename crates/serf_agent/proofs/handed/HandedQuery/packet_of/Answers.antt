@@ -1,4 +1,4 @@
-use Rattle.serf_agent.proofs.Names.{ap, sym, ◌∙◌, Err, true≢false, EncodeFault, has_long}
+use Rattle.serf_agent.proofs.Names.{Err, ap, sym, ◌∙◌, true≢false, has_long, EncodeFault}
 use Rattle.serf_agent.proofs.WireLaws.{response-not_long, response-short}
 use Rattle.serf_agent.proofs.handed.HandedQuery.packet_of.Goals as goal
 

@@ -1,4 +1,4 @@
-use Rattle.serf_agent.proofs.Names.{◌+◌, max, ◌∙◌}
+use Rattle.serf_agent.proofs.Names.{max, ◌+◌, ◌∙◌}
 use Rattle.serf_agent.proofs.TrackLaws.{verdict-ideal}
 use Rattle.serf_agent.proofs.track.Track.reason.Goals as goal
 

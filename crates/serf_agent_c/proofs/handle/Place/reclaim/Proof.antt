@@ -1,40 +1,14 @@
 -- The place gives up its right, and a box has it.
 use mathlib.Core.Path.{◌≡◌, refl, sym, ap, ◌∙◌}
 use mathlib.Core.List.{List, [], ◌∷◌, ◌++◌}
-use mir.Val.{Val}
-use base.Logic.{SProp, emp, id⊢}
-use base.Fml.{ftrue, fsep, flft}
-use base.Fraction.{full_share}
-use prog.Wp.{WpFn}
-use contract.BorrowLft.{◌⊑◌}
-use contract.Monad.{fact, fact_i}
-use contract.Running.{tables}
-use types.Kit.{‵, raw, ◌⊛◌, some, later, prop, at_ret, ◌$◌, ◌∵◌, !, qed, drop, move, join, split, fjoin, fsplit, feq_i, pick, await, rewrite, regoal, suffices, use0, use1, done}
-use types.Part.{whole, sub}
-use types.Run.{stop, fld, of_opd, no_more, and_then, first, blocks, exec, returns, enter}
-use types.ByLocal.{alloc_all, pass_all, free_all, look_at, get, get_in, sets, lands_last, env}
-use denote.Laws.{shows}
-use denote.Param.{layout, param}
-use denote.Param.NoDrop.{glues}
-use denote.RawPtr.{ptr_val}
-use denote.Signature.{plain}
-use denote.Steps.{nothing, heard, peeks}
-use denote.Triple.Call.{calls_at_last}
-use denote.Triple.Clauses.{Lasts, lasts}
-use denote.Triple.Entry.{alive}
-use denote.Triple.Spec.{triple_of}
-use denote.Triple.Table.{framed}
-use denote.Triple.Walked.{Stays, stay_dropped, walk_of, says, ends_at, Goes-dropped}
-use Rattle.std.proofs.cell.Inside.{one}
-use Rattle.std.proofs.raw_atomic.Walks.{proved_at}
-use Rattle.std.specs.Prelude.{IsSome, Option, Some}
+use Rattle.serf_agent_c.proofs.Names.{one, proved_at, IsSome, met, passed, flft, fsep, ftrue, full_share, SProp, emp, id⊢, ◌⊑◌, fact, fact_i, tables, shows, layout, param, glues, ptr_val, plain, heard, nothing, peeks, calls_at_last, Lasts, lasts, alive, triple_of, framed, Goes-dropped, Stays, ends_at, says, stay_dropped, walk_of, Val, WpFn, alloc_all, env, free_all, get, get_in, lands_last, look_at, pass_all, sets, !, at_ret, await, done, feq_i, fjoin, fsplit, join, later, move, pick, prop, qed, raw, regoal, rewrite, some, split, suffices, use0, use1, ‵, ◌$◌, ◌∵◌, ◌⊛◌, sub, whole, and_then, blocks, enter, exec, first, fld, no_more, of_opd, returns, stop}
+use types.Kit.{drop}
+use Rattle.std.specs.Prelude.{Option, Some}
 use Rattle.std_alloc.specs.contracts.boxed.Box as Box
 use Rattle.std_alloc.specs.contracts.boxed.Box.from_raw as g
-use Rattle.std_alloc.proofs.boxed.Box.from_raw.Met.{met}
 use Rattle.std_heap.specs.contracts.Global as Heap
 use Rattle.std_heap.specs.contracts.GlobalAllocator.TheImpl.{ghosts, dict}
 use Rattle.std_heap.proofs.Global.TheLaws as heap
-use Rattle.std_heap.proofs.GlobalAllocator.TheImpl.Met.{passed}
 use Rattle.serf_agent_c.proofs.session.Session.TheLaws as session
 use Rattle.serf_agent_c.proofs.Destruct++none.drop.Code as no_drop
 use Rattle.serf_agent_c.proofs.Places.{no_glue, Held, held_laws, Freed, freed_laws, Boxed, boxed_laws, pointer_fits, fits, word, found}

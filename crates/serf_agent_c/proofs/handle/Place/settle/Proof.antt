@@ -1,38 +1,13 @@
 -- The block of a box stays where it is, and the place has the right to it.
 use mathlib.Core.Path.{refl, ap}
 use mathlib.Core.List.{List, [], ◌∷◌, ◌++◌}
-use mir.Val.{Val}
-use base.Logic.{SProp, emp, id⊢}
-use base.Fml.{ftrue, fsep, flft}
-use base.Fraction.{full_share}
-use prog.Wp.{WpFn}
-use contract.BorrowLft.{◌⊑◌}
-use contract.Monad.{fact, fact_i}
-use contract.Running.{tables}
-use types.Kit.{‵, raw, ◌⊛◌, some, later, prop, ◌$◌, ◌∵◌, !, qed, drop, move, join, split, fjoin, fsplit, pick, await, feq_l, rewrite, regoal, suffices, use0, use1, done}
-use types.Part.{agg}
-use types.Run.{of_opd, no_more, and_then, returns, enter}
-use types.ByLocal.{alloc_all, pass_all, free_all, look_at, get, sets, lands_as}
-use denote.Param.{layout, param}
-use denote.Param.NoDrop.{glues}
-use denote.RawPtr.{Ptr, RawPtr}
-use denote.Signature.{plain}
-use denote.Steps.{nothing, only}
-use denote.Triple.Call.{calls_at}
-use denote.Triple.Clauses.{Lasts, lasts}
-use denote.Triple.Entry.{alive}
-use denote.Triple.Spec.{triple_of}
-use denote.Triple.Table.{framed}
-use denote.Triple.Walked.{Stays, stay_dropped, walk_of, says, ends_at, Goes-dropped}
-use Rattle.std.proofs.cell.Inside.{one}
-use Rattle.std.proofs.raw_atomic.Walks.{proved_at}
+use Rattle.serf_agent_c.proofs.Names.{one, proved_at, box_owns, passed, flft, fsep, ftrue, full_share, SProp, emp, id⊢, ◌⊑◌, fact, fact_i, tables, layout, param, glues, Ptr, RawPtr, plain, nothing, only, calls_at, Lasts, lasts, alive, triple_of, framed, Goes-dropped, Stays, ends_at, says, stay_dropped, walk_of, Val, WpFn, alloc_all, free_all, get, lands_as, look_at, pass_all, sets, !, await, done, feq_l, fjoin, fsplit, join, later, move, pick, prop, qed, raw, regoal, rewrite, some, split, suffices, use0, use1, ‵, ◌$◌, ◌∵◌, ◌⊛◌, agg, and_then, enter, no_more, of_opd, returns}
+use types.Kit.{drop}
 use Rattle.std.specs.Prelude.{Some}
-use Rattle.std.specs.Box.Ownership.{box_owns}
 use Rattle.std_alloc.specs.contracts.boxed.Box.into_raw as g
 use Rattle.std_alloc.proofs.boxed.Box.into_raw.Met.{met}
 use Rattle.std_heap.specs.contracts.GlobalAllocator.TheImpl.{ghosts, dict}
 use Rattle.std_heap.proofs.Global.TheLaws as heap
-use Rattle.std_heap.proofs.GlobalAllocator.TheImpl.Met.{passed}
 use Rattle.serf_agent_c.proofs.session.Session.TheLaws as session
 use Rattle.serf_agent_c.proofs.Destruct++none.drop.Code as no_drop
 use Rattle.serf_agent_c.proofs.Places.{no_glue, Held, held_laws, Freed, freed_laws, Boxed, boxed_laws, Pointer, glue, goes, pointer_made, pointer_fits, fits, word}

@@ -1,17 +1,8 @@
 -- The null address owns nothing.
 use mathlib.Core.Path.{refl}
 use mathlib.Core.List.{[], ◌∷◌}
-use base.Logic.{emp, id⊢}
-use base.Fml.{ftrue}
-use contract.Running.{tables}
-use types.Kit.{‵, raw, ◌⊛◌, ◌$◌, ◌∵◌, !, qed, drop, join, fjoin, suffices, use0, use1, done}
-use types.Part.{agg}
-use types.Run.{lit, no_more, and_then, returns, enter}
-use types.ByLocal.{alloc_all, pass_all, free_all, look_at, sets}
-use denote.RawPtr.{null_ptr}
-use denote.Steps.{nothing}
-use denote.Triple.Walked.{Stays, says, ends_at}
-use Rattle.std.proofs.raw_atomic.Walks.{proved}
+use Rattle.serf_agent_c.proofs.Names.{proved, ftrue, emp, id⊢, tables, null_ptr, nothing, Stays, ends_at, says, alloc_all, free_all, look_at, pass_all, sets, !, done, fjoin, join, qed, raw, suffices, use0, use1, ‵, ◌$◌, ◌∵◌, ◌⊛◌, agg, and_then, enter, lit, no_more, returns}
+use types.Kit.{drop}
 use Rattle.std.specs.Prelude.{None}
 use Rattle.serf_agent_c.proofs.Places.{Pointer, word, fits, pointer_made}
 use Rattle.serf_agent_c.specs.contracts.handle.Place.{the_row}

@@ -1,13 +1,8 @@
-use Rattle.std.proofs.Common.{◌≡◌, ◌≢◌, ◌++◌, ◌∷◌, ◌∙◌, [], Err, length, min, refl, Result}
-use Rattle.serf_window.specs.Texts.{event_of}
+use Rattle.serf_agent_c.proofs.Names.{Err, Result, [], length, min, refl, ◌++◌, ◌∙◌, ◌∷◌, ◌≡◌, ◌≢◌, event_of, fire, IdealAgent, FireFault, text_of}
 use Rattle.serf_agent.specs.declared.outcome.Fired.{Fired as FiredEvent}
-use Rattle.serf_agent.specs.declared.outcome.FireFault.{FireFault}
 use Rattle.serf_agent.specs.declared.outcome.FireFault.TheVariants.{OutOfMemory}
-use Rattle.serf_agent.specs.Events.{fire}
-use Rattle.serf_agent.specs.Ideal.{IdealAgent}
 use Rattle.serf_agent_c.specs.declared.answered.Answered.TheVariants.{Fired}
 use Rattle.serf_agent_c.specs.Bursts.{Fires}
-use Rattle.serf_agent_c.specs.Texts.{text_of}
 use Rattle.serf_agent_c.proofs.BurstLaws.{extended, fire-plain}
 use Rattle.serf_agent_c.proofs.session.Session.burst_fire.Goals as goal
 

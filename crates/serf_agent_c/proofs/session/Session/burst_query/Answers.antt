@@ -1,15 +1,6 @@
-use Rattle.std.proofs.Common.{rules, ◌≡◌, ◌≢◌, ◌++◌, ◌∷◌, ◌∙◌, [], Err, length, min, refl, Result}
-use Rattle.serf_agent.specs.declared.outcome.FiredQuery.{FiredQuery}
-use Rattle.serf_agent.specs.declared.outcome.QueryFault.{QueryFault}
+use Rattle.serf_agent_c.proofs.Names.{Err, Result, [], length, min, refl, rules, ◌++◌, ◌∙◌, ◌∷◌, ◌≡◌, ◌≢◌, IdealAgent, fire_query, Steps, FiredQuery, QueryFault, QueryParams, params_of, text_of, Asked}
 use Rattle.serf_agent.specs.declared.outcome.QueryFault.TheVariants.{OutOfMemory}
-use Rattle.serf_agent.specs.declared.outcome.QueryParams.{QueryParams}
-use Rattle.serf_agent.specs.Ideal.{IdealAgent}
-use Rattle.serf_agent.specs.Queries.{fire_query}
-use Rattle.serf_agent.specs.Steps.{Steps}
-use Rattle.serf_agent_c.specs.declared.answered.Answered.TheVariants.{Asked}
-use Rattle.serf_agent_c.specs.Asking.{params_of}
 use Rattle.serf_agent_c.specs.Bursts.{Asks}
-use Rattle.serf_agent_c.specs.Texts.{text_of}
 use Rattle.serf_agent_c.proofs.BurstLaws.{extended, query-fire-plain}
 use Rattle.serf_agent_c.proofs.session.Session.burst_query.Goals as goal
 

@@ -1,12 +1,6 @@
-use Rattle.std.proofs.Common.{◌≡◌, ◌≢◌, ◌++◌, ◌∷◌, ◌∙◌, [], Err, length, min, refl, Result}
-use Rattle.serf_agent.specs.declared.outcome.Outcome.{Outcome}
-use Rattle.serf_agent.specs.declared.outcome.ReceiveFault.{ReceiveFault}
+use Rattle.serf_agent_c.proofs.Names.{Err, Result, [], length, min, refl, ◌++◌, ◌∙◌, ◌∷◌, ◌≡◌, ◌≢◌, IdealAgent, receive, Outcome, ReceiveFault, text_of, Received}
 use Rattle.serf_agent.specs.declared.outcome.ReceiveFault.TheVariants.{OutOfMemory}
-use Rattle.serf_agent.specs.Ideal.{IdealAgent}
-use Rattle.serf_agent.specs.Receive.{receive}
-use Rattle.serf_agent_c.specs.declared.answered.Answered.TheVariants.{Received}
 use Rattle.serf_agent_c.specs.Bursts.{Receives}
-use Rattle.serf_agent_c.specs.Texts.{text_of}
 use Rattle.serf_agent_c.proofs.BurstLaws.{extended, receive-plain}
 use Rattle.serf_agent_c.proofs.session.Session.burst_receive.Goals as goal
 

@@ -1,5 +1,4 @@
-use Rattle.std.proofs.Common.{◌≡◌, ◌≢◌, Err}
-use Rattle.serf_snap.specs.declared.snapshot.NoteFault.TheVariants.{OutOfMemory}
+use Rattle.serf_agent_c.proofs.Names.{Err, ◌≡◌, ◌≢◌, OutOfMemory}
 use Rattle.serf_agent_c.proofs.session.Session.compact.Goals as goal
 
 pub returns-clause-takes : goal.returns-clause-takes

@@ -1,7 +1,4 @@
-use Rattle.std.proofs.Common.{◌≡◌, ◌∙◌, ◌+◌, ℕ, ap, sym}
-use Rattle.serf_agent_c.specs.Gaves.{unsettled_in}
-use Rattle.serf_agent_c.specs.Numbered.{waiting_at}
-use Rattle.serf_agent_c.specs.Sessions.{settled}
+use Rattle.serf_agent_c.proofs.Names.{ap, sym, ℕ, ◌+◌, ◌∙◌, ◌≡◌, unsettled_in, waiting_at, settled}
 use Rattle.serf_agent_c.proofs.NumberedLaws.{next-found, other-found}
 use Rattle.serf_agent_c.proofs.session.Session.handed_at.Goals as goal
 

@@ -1,5 +1,4 @@
-use Rattle.std.proofs.Common.{◌≡◌, ◌∙◌, ap, sym, Some}
-use Rattle.serf_agent_c.specs.Merging.{fault_of, merged_code}
+use Rattle.serf_agent_c.proofs.Names.{Some, ap, sym, ◌∙◌, ◌≡◌, fault_of, merged_code}
 use Rattle.serf_agent_c.proofs.session.Session.merge.Goals as goal
 
 pub returns-clause-merges : goal.returns-clause-merges

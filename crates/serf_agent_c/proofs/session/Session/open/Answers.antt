@@ -1,12 +1,4 @@
-use Rattle.std.proofs.Common.{◌≡◌, List, subst, sym, ℕ}
-use Rattle.serf_snap.specs.Device.{Device, fresh_device}
-use Rattle.serf_snap.specs.Notes.{opened}
-use Rattle.serf_agent.specs.declared.config.Config.{Config}
-use Rattle.serf_agent.specs.Ideal.{IdealAgent, with_config}
-use Rattle.serf_agent.specs.Restart.{HasPast, restarted}
-use Rattle.serf_agent.specs.Sound.{IsSound}
-use Rattle.serf_agent.specs.View.{ConcreteState, view_of}
-use Rattle.serf_agent_c.specs.Opening.{config_of}
+use Rattle.serf_agent_c.proofs.Names.{List, subst, sym, ℕ, ◌≡◌, Device, fresh_device, opened, IdealAgent, with_config, HasPast, restarted, IsSound, ConcreteState, view_of, Config, config_of}
 use Rattle.serf_agent_c.proofs.session.Session.open.Goals as goal
 
 -- what is stored of an agent that goes on from a text, over a device

@@ -1,9 +1,5 @@
-use Rattle.std.proofs.Common.{rules, ◌≡◌, ◌≢◌, Err}
+use Rattle.serf_agent_c.proofs.Names.{Err, rules, ◌≡◌, ◌≢◌, fire_query, Steps, QueryParams, params_of}
 use Rattle.serf_agent.specs.declared.outcome.QueryFault.TheVariants.{OutOfMemory}
-use Rattle.serf_agent.specs.declared.outcome.QueryParams.{QueryParams}
-use Rattle.serf_agent.specs.Queries.{fire_query}
-use Rattle.serf_agent.specs.Steps.{Steps}
-use Rattle.serf_agent_c.specs.Asking.{params_of}
 use Rattle.serf_agent_c.proofs.session.Session.query.Goals as goal
 
 pub returns-clause-takes : goal.returns-clause-takes

@@ -1,4 +1,4 @@
-use Rattle.std.proofs.Common.{◌≡◌, ◌≢◌, Err}
+use Rattle.serf_agent_c.proofs.Names.{Err, ◌≡◌, ◌≢◌}
 use Rattle.serf_agent.specs.declared.outcome.ReceiveFault.TheVariants.{OutOfMemory}
 use Rattle.serf_agent_c.proofs.session.Session.receive.Goals as goal
 

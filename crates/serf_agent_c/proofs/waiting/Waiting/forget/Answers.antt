@@ -1,5 +1,4 @@
-use Rattle.std.proofs.Common.{◌≡◌, ◌∙◌, ℕ, List, None, Some, ap, sym}
-use Rattle.serf_agent.specs.Handed.{Handed}
+use Rattle.serf_agent_c.proofs.Names.{List, None, Some, ap, sym, ℕ, ◌∙◌, ◌≡◌, Handed}
 use Rattle.serf_agent_c.proofs.NumberedLaws.{at-none, at-place, filled}
 use Rattle.serf_agent_c.proofs.waiting.Waiting.forget.Goals as goal
 

@@ -1,8 +1,5 @@
-use Rattle.std.proofs.Common.{rules, All, AllPairs, ◌≡◌, ◌<◌, ◌≤◌, ℕ, List, ap, filter, nat_le, subst, sym}
-use Rattle.std.proofs.lemmas.Fn.{filter_same}
-use Rattle.std.proofs.lemmas.List.Elements.{All-filter}
-use Rattle.std.proofs.lemmas.List.Kept.{AllPairs-filter}
-use Rattle.serf_agent.specs.Handed.{Handed}
+use Rattle.serf_agent_c.proofs.Names.{List, ap, filter, nat_le, rules, subst, sym, ℕ, ◌<◌, ◌≡◌, ◌≤◌, filter_same, All-filter, AllPairs-filter, Handed}
+use Rattle.std.proofs.Common.{All, AllPairs}
 use Rattle.serf_agent_c.proofs.NumberedLaws.{filled, late-gone}
 use Rattle.serf_agent_c.proofs.waiting.Waiting.forget_late.Goals as goal
 

@@ -1,5 +1,4 @@
-use Rattle.std.proofs.Common.{◌∙◌, ℕ, ap, Some, sym}
-use Rattle.serf_agent.specs.Handed.{Handed}
+use Rattle.serf_agent_c.proofs.Names.{Some, ap, sym, ℕ, ◌∙◌, Handed}
 use Rattle.serf_agent_c.proofs.NumberedLaws.{at-none, at-place, taken-is}
 use Rattle.serf_agent_c.proofs.waiting.Waiting.get.Goals as goal
 

@@ -1,8 +1,5 @@
-use Rattle.std.proofs.Common.{◌≡◌, ◌∙◌, ◌<◌, ◌≤◌, ℕ, All, AllPairs, Err, List, None, Ok, Result, Some, ap, subst, sym}
-use Rattle.serf_agent.specs.declared.outcome.Reply.{Reply}
-use Rattle.serf_agent.specs.declared.outcome.RespondFault.{RespondFault}
-use Rattle.serf_agent.specs.Handed.{Handed}
-use Rattle.serf_agent_c.specs.Asking.{left_of, reply_of}
+use Rattle.serf_agent_c.proofs.Names.{Err, List, None, Ok, Result, Some, ap, subst, sym, ℕ, ◌<◌, ◌∙◌, ◌≡◌, ◌≤◌, Handed, Reply, RespondFault, left_of, reply_of}
+use Rattle.std.proofs.Common.{All, AllPairs}
 use Rattle.serf_agent_c.proofs.NumberedLaws.{at-none, at-place, filled, put-back-same, query-is, replied-err, replied-ok}
 use Rattle.serf_agent_c.proofs.waiting.Waiting.respond.Goals as goal
 

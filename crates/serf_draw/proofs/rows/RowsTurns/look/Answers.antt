@@ -1,8 +1,4 @@
-use Rattle.std.proofs.Common.{subst}
-use Rattle.std.proofs.lemmas.Result.{IfOk-weaker}
-use Rattle.serf_model.specs.Cluster.{run_of}
-use Rattle.serf_draw.specs.declared.asked.Asked.{Asked}
-use Rattle.serf_draw.specs.Rows.{IsFound}
+use Rattle.serf_draw.proofs.Names.{subst, IfOk-weaker, run_of, IsFound, Asked}
 use Rattle.serf_draw.proofs.rows.RowsTurns.look.Goals as goal
 
 pub returns : goal.returns

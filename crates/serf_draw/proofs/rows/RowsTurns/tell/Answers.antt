@@ -1,11 +1,4 @@
-use Rattle.std.proofs.Common.{◌≡◌, ◌+◌, ◌∙◌, ap, sym, subst}
-use Rattle.std.proofs.lemmas.List.Sums.{fold_push}
-use Rattle.std.proofs.lemmas.Result.{on_ok_weaker}
-use Rattle.serf_model.specs.Cluster.{Cluster, step}
-use Rattle.serf_world.specs.View.{TakesStep}
-use Rattle.serf_draw.specs.declared.asked.Asked.{Asked}
-use Rattle.serf_draw.specs.Drawing.{Drawing, IsDrawn, blank, drawing_of, drawn}
-use Rattle.serf_draw.specs.Rows.{IsFound}
+use Rattle.serf_draw.proofs.Names.{ap, subst, sym, ◌+◌, ◌∙◌, ◌≡◌, fold_push, on_ok_weaker, Cluster, step, TakesStep, Drawing, IsDrawn, blank, drawing_of, drawn, IsFound, Asked}
 use Rattle.serf_draw.proofs.RowLaws.{cluster-drawn, count-drawn}
 use Rattle.serf_draw.proofs.rows.RowsTurns.tell.Goals as goal
 

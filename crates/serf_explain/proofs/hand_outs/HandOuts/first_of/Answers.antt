@@ -1,9 +1,4 @@
-use Rattle.std.proofs.Common.{◌≡◌, List, Some, None, Bool, sym, ap, ◌∙◌}
-use Rattle.std.specs.List.{find}
-use Rattle.std.specs.Option.{option_copied}
-use Rattle.serf_window.specs.Texts.{event_of}
-use Rattle.serf_explain.specs.declared.hand_outs.HandOut.{HandOut}
-use Rattle.serf_explain.specs.HandOuts.{is_note, note_in}
+use Rattle.serf_explain.proofs.Names.{Bool, List, None, Some, ap, sym, ◌∙◌, ◌≡◌, find, option_copied, event_of, is_note, note_in, HandOut}
 use Rattle.serf_explain.proofs.NoteLaws.{first-noted, none-noted}
 use Rattle.serf_explain.proofs.hand_outs.HandOuts.first_of.Goals as goal
 

@@ -1,16 +1,28 @@
-use Rattle.std.proofs.Common.{◌≡◌, List, Some, sym, ap, ◌∙◌}
-use Rattle.std.proofs.lemmas.Option.{slice_get-get_or}
-use Rattle.std.specs.Prelude.{slice_get}
-use Rattle.serf_window.specs.Texts.{event_of}
-use Rattle.serf_explain.specs.declared.hand_outs.HandOut.{HandOut}
-use Rattle.serf_explain.proofs.NoteLaws.{noted-at}
+use Rattle.serf_explain.proofs.Names.{List, None, Some, ap, false, sym, true, ◌∙◌, ◌≡◌, slice_get-get_or, slice_get_past, slice_get, event_of, HandOut}
+use Rattle.serf_explain.proofs.NoteLaws.{noted-at, stands-out}
 use Rattle.serf_explain.proofs.hand_outs.HandOuts.found_at.Goals as goal
 
-pub returns : goal.returns
-returns c =
+pub returns-clause-noted : goal.returns-clause-noted
+returns-clause-noted c =
     let there = c.in_ok-out.ensures.lookup in
     let out = c.in_ok-out.out.now in
     let at : slice_get c.args.self.now.outs.items c.args.place ≡ Some out =
     ap (λ (hs : List HandOut). slice_get hs c.args.place) (sym c.deref.ensures.value) ∙ slice_get-get_or c.deref.result.now c.args.place out there.3.0 ∙ ap (λ (o : HandOut). Some o) (sym there.1) in
     noted-at c.args.self.now.outs.items c.args.place c.args.agent c.args.event.now.time (event_of c.args.event.now.name.now c.args.event.now.payload.now) out at
     (sym c.hands.ensures ∙ c.if-not-hands.false)
+
+pub returns-then-not-hands-clause-place : goal.returns-then-not-hands-clause-place
+returns-then-not-hands-clause-place c = λ stands.
+    let there = c.in_ok-out.ensures.lookup in
+    let out = c.in_ok-out.out.now in
+    let at : slice_get c.args.self.now.outs.items c.args.place ≡ Some out =
+    ap (λ (hs : List HandOut). slice_get hs c.args.place) (sym c.deref.ensures.value) ∙ slice_get-get_or c.deref.result.now c.args.place out there.3.0 ∙ ap (λ (o : HandOut). Some o) (sym there.1) in
+    let both : true ≡ false = sym stands ∙ stands-out c.args.self.now.outs.items c.args.place c.args.agent c.args.event.now.time (event_of c.args.event.now.name.now c.args.event.now.payload.now) (Some out) at ∙ sym c.hands.ensures ∙ c.if-not-hands.true in
+    absurd (cc both)
+
+pub returns-in_err-out-clause-place : goal.returns-in_err-out-clause-place
+returns-in_err-out-clause-place c = λ stands.
+    let at : slice_get c.args.self.now.outs.items c.args.place ≡ None =
+    ap (λ (hs : List HandOut). slice_get hs c.args.place) (sym c.deref.ensures.value) ∙ slice_get_past c.deref.result.now c.args.place c.in_err-out.ensures.lookup.3 in
+    let both : true ≡ false = sym stands ∙ stands-out c.args.self.now.outs.items c.args.place c.args.agent c.args.event.now.time (event_of c.args.event.now.name.now c.args.event.now.payload.now) None at in
+    absurd (cc both)

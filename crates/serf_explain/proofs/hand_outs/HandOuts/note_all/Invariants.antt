@@ -1,5 +1,4 @@
-use Rattle.std.proofs.Common.{◌≡◌, ◌++◌, map, take}
-use Rattle.serf_explain.specs.HandOuts.{note_of, notes_in}
+use Rattle.serf_explain.proofs.Names.{map, take, ◌++◌, ◌≡◌, note_of, notes_in}
 use Rattle.serf_explain.proofs.hand_outs.HandOuts.note_all.Given as goal
 
 abbrev pub invariant-loop-event : goal.invariant-loop-event

@@ -1,5 +1,4 @@
-use Rattle.std.proofs.Common.{sym}
-use Rattle.serf_wire.specs.Lists.{event_of_view}
+use Rattle.serf_explain.proofs.Names.{sym, event_of_view}
 use Rattle.serf_explain.proofs.JudgeLaws.{judged-ignored, judged-new}
 use Rattle.serf_explain.proofs.judge.Judge.judge.Goals as goal
 

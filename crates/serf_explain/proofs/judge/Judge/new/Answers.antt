@@ -1,8 +1,4 @@
-use Rattle.std.proofs.Common.{◌≡◌, ◌<◌, max, [], ◌&&◌, cond, refl, sym, ap, ◌∙◌, append-nil, arith}
-use Rattle.std.proofs.lemmas.List.Elements.{All-nil}
-use Rattle.serf_window.specs.Window.{slots_of}
-use Rattle.serf_agent.specs.declared.config.Config.{Config}
-use Rattle.serf_agent.specs.View.{ConcreteState}
+use Rattle.serf_explain.proofs.Names.{[], ap, append-nil, arith, cond, max, refl, sym, ◌&&◌, ◌<◌, ◌∙◌, ◌≡◌, All-nil, slots_of, ConcreteState, Config}
 use Rattle.serf_explain.proofs.JudgeLaws.{judging-heard}
 use Rattle.serf_explain.proofs.judge.Judge.new.Goals as goal
 

@@ -1,14 +1,4 @@
-use Rattle.std.proofs.Common.{◌≡◌, ℕ, ◌<◌, ◌≤◌, All, nat_le, nat_lt, ◌-◌, false, List, refl, sym, ap, subst, ◌∙◌, length, arith}
-use Rattle.std.proofs.lemmas.Bool.Decides.{nat_tests}
-use Rattle.std.proofs.lemmas.List.Elements.{All-weaker}
-use Rattle.serf_lamport.specs.Clock.{observed}
-use Rattle.serf_wire.specs.declared.texts.EventBody.{EventBody}
-use Rattle.serf_wire.specs.Lists.{event_of_view}
-use Rattle.serf_window.specs.Texts.{same_texts}
-use Rattle.serf_window.specs.Window.{SlotOf, TimedEntry, TimesBelow, count_in, slots_of, verdict_of}
-use Rattle.serf_agent.specs.Events.{texts_len}
-use Rattle.serf_agent.specs.Tracks.{track_reason}
-use Rattle.serf_explain.specs.Judging.{both_verdicts}
+use Rattle.serf_explain.proofs.Names.{All, List, ap, arith, false, length, nat_le, nat_lt, refl, subst, sym, ℕ, ◌-◌, ◌<◌, ◌∙◌, ◌≡◌, ◌≤◌, nat_tests, All-weaker, observed, event_of_view, EventBody, same_texts, SlotOf, TimedEntry, TimesBelow, count_in, slots_of, verdict_of, texts_len, track_reason, both_verdicts}
 use Rattle.serf_explain.proofs.JudgeLaws.{admitted, config-sizes, reason-both}
 use Rattle.serf_explain.proofs.judge.Judge.reason.Goals as goal
 

@@ -1,9 +1,4 @@
-use Rattle.std.proofs.Common.{◌≡◌, ℕ, ◌<◌, List, Some, None, sym, ap, subst, ◌∙◌, length, arith}
-use Rattle.serf_window.specs.Texts.{same_texts}
-use Rattle.serf_window.specs.Window.{SlotOf, TimesBelow, slots_of, verdict_of}
-use Rattle.serf_wire.specs.declared.texts.EventBody.{EventBody}
-use Rattle.serf_explain.specs.Judging.{is_seen}
-use Rattle.serf_explain.specs.Noted.{event_as}
+use Rattle.serf_explain.proofs.Names.{List, None, Some, ap, arith, length, subst, sym, ℕ, ◌<◌, ◌∙◌, ◌≡◌, EventBody, same_texts, SlotOf, TimesBelow, slots_of, verdict_of, is_seen, event_as}
 use Rattle.serf_explain.proofs.JudgeLaws.{took-late, took_is}
 use Rattle.serf_explain.proofs.judge.Judge.took.Goals as goal
 

@@ -1,6 +1,4 @@
-use Rattle.std.proofs.Common.{◌≡◌, ap, ◌∙◌}
-use Rattle.serf_agent.specs.declared.config.Config.{Config}
-use Rattle.serf_explain.specs.Leaving.{mark_behind}
+use Rattle.serf_explain.proofs.Names.{ap, ◌∙◌, ◌≡◌, Config, mark_behind}
 use Rattle.serf_explain.proofs.left.Takes.events.Goals as goal
 
 pub returns : goal.returns

@@ -1,9 +1,4 @@
-use Rattle.std.proofs.Common.{◌++◌, ◌∷◌, [], OnOk, subst, sym}
-use Rattle.std.proofs.lemmas.Result.{on_ok_weaker}
-use Rattle.serf_model.specs.declared.action.Action.{Action}
-use Rattle.serf_model.specs.Cluster.{step}
-use Rattle.serf_world.specs.View.{IsViewed}
-use Rattle.serf_explain.specs.Leaving.{HoldMarks}
+use Rattle.serf_explain.proofs.Names.{OnOk, [], subst, sym, ◌++◌, ◌∷◌, on_ok_weaker, step, Action, IsViewed, HoldMarks}
 use Rattle.serf_explain.proofs.MarkLaws.{held_acted, held_injected, held_nobody}
 use Rattle.serf_explain.proofs.marks.AllMarks.note.Goals as goal
 

@@ -1,5 +1,4 @@
-use Rattle.std.proofs.Common.{ap, ◌∙◌}
-use Rattle.serf_explain.specs.Leaving.{mark_behind}
+use Rattle.serf_explain.proofs.Names.{ap, ◌∙◌, mark_behind}
 use Rattle.serf_explain.proofs.marks.Numbers.behind.Goals as goal
 
 pub returns : goal.returns

@@ -1,5 +1,4 @@
-use Rattle.std.proofs.Common.{refl}
-use Rattle.serf_explain.specs.HandOuts.{notes_in}
+use Rattle.serf_explain.proofs.Names.{refl, notes_in}
 use Rattle.serf_explain.proofs.MarkLaws.{hold-first}
 use Rattle.serf_explain.proofs.TellLaws.{told-first}
 use Rattle.serf_explain.proofs.reasoning.Reasoning.new.Goals as goal

@@ -1,7 +1,4 @@
-use Rattle.std.proofs.Common.{◌+◌, ◌++◌, ◌∷◌, ◌∙◌, [], ap, subst, sym}
-use Rattle.serf_model.specs.Cluster.{run_of}
-use Rattle.serf_explain.specs.Explained.{clusters_before}
-use Rattle.serf_explain.specs.Judging.{TellsText}
+use Rattle.serf_explain.proofs.Names.{[], ap, subst, sym, ◌++◌, ◌+◌, ◌∙◌, ◌∷◌, run_of, clusters_before, TellsText}
 use Rattle.serf_explain.specs.Reasoned.{lines_of}
 use Rattle.serf_explain.proofs.TellLaws.{clusters-length, lines-length}
 use Rattle.serf_explain.proofs.reasoning.ReasoningTurns.look.Goals as goal

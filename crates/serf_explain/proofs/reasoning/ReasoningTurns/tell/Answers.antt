@@ -1,16 +1,4 @@
-use Rattle.std.proofs.Common.{◌≡◌, ◌+◌, inr, List, [], ◌∷◌, ◌++◌, ℕ, Bool, Option, ap, ◌∙◌, subst, sym}
-use Rattle.std.specs.List.{flat_map}
-use Rattle.serf_model.specs.declared.action.Action.{Action}
-use Rattle.serf_model.specs.declared.line.Line.{Line}
-use Rattle.serf_model.specs.Cluster.{Run, run_of}
-use Rattle.serf_model.specs.Promises.{SeenWasHandedOrTailed}
-use Rattle.serf_model.specs.Trace.{actor_of}
-use Rattle.serf_explain.specs.declared.range.Range.{Range}
-use Rattle.serf_explain.specs.Because.{because_line}
-use Rattle.serf_explain.specs.Explained.{AddsTurn, TellsAll, clusters_before}
-use Rattle.serf_explain.specs.HandOuts.{KnowsSeen, Note, notes_in}
-use Rattle.serf_explain.specs.Judging.{TellsText}
-use Rattle.serf_explain.specs.Range.{is_shown}
+use Rattle.serf_explain.proofs.Names.{Bool, List, Option, [], ap, inr, subst, sym, ℕ, ◌++◌, ◌+◌, ◌∙◌, ◌∷◌, ◌≡◌, flat_map, Run, run_of, SeenWasHandedOrTailed, actor_of, Action, Line, because_line, AddsTurn, TellsAll, clusters_before, KnowsSeen, Note, notes_in, TellsText, is_shown, Range}
 use Rattle.serf_explain.specs.Reasoned.{lines_of}
 use Rattle.serf_explain.proofs.KnownLaws.{knows-seen}
 use Rattle.serf_explain.proofs.TellLaws.{clusters-length, hold-next, next-number, on-ok-both, run-push, told-after, told-next, turn-behind}

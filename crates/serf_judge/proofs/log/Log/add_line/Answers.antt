@@ -1,4 +1,4 @@
-use Rattle.serf_judge.proofs.Names.{Bor, List, ap, log_view, map, sym, words_of, ℕ, ◌∙◌, ◌≡◌}
+use Rattle.serf_judge.proofs.Names.{Bor, List, ap, map, sym, ℕ, ◌∙◌, ◌≡◌, words_of, log_view}
 use Rattle.serf_judge.proofs.LogLaws.{line-of-words}
 use Rattle.serf_judge.proofs.log.Log.add_line.Goals as goal
 

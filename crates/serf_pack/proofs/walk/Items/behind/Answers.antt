@@ -1,9 +1,4 @@
-use Rattle.serf_pack.proofs.Names.{◌≡◌, ◌-◌, ◌≤◌, ◌∙◌, ℕ, List, ◌∷◌, ◌++◌, length, take, drop, Ok, Err, Result, inl, inr, refl, ap, sym, arith, take-append-drop, length-drop, cases_lt}
-use Rattle.serf_pack.specs.declared.fault.PackFault.{PackFault}
-use Rattle.serf_pack.specs.Tree.{Tree}
-use Rattle.serf_pack.specs.Reading.{place, items_at, items_or_none, rest_of, value_at, value_or_nil}
-use Rattle.serf_pack.specs.View.{item_list}
-use Rattle.serf_pack.specs.Walk.{items_bytes, items_left, PacksAlone}
+use Rattle.serf_pack.proofs.Names.{Err, List, Ok, Result, ap, arith, drop, inl, inr, length, length-drop, refl, sym, take, take-append-drop, ℕ, ◌++◌, ◌-◌, ◌∙◌, ◌∷◌, ◌≡◌, ◌≤◌, cases_lt, items_or_none, place, rest_of, value_or_nil, items_at, value_at, Tree, item_list, PacksAlone, items_bytes, items_left, PackFault}
 use Rattle.serf_pack.proofs.Roomier.{value_also}
 use Rattle.serf_pack.proofs.SpelledIsRead.{value_read}
 use Rattle.serf_pack.proofs.Viewing.{IsGood}

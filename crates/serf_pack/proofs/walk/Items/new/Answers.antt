@@ -1,5 +1,4 @@
-use Rattle.serf_pack.specs.Reading.{value_at}
-use Rattle.serf_pack.specs.Walk.{items_left}
+use Rattle.serf_pack.proofs.Names.{value_at, items_left}
 use Rattle.serf_pack.proofs.PartCounts.{item_count_is}
 use Rattle.serf_pack.proofs.walk.Items.new.Goals as goal
 

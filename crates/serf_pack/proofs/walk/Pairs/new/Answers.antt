@@ -1,5 +1,4 @@
-use Rattle.serf_pack.specs.Reading.{value_at}
-use Rattle.serf_pack.specs.Walk.{pairs_left}
+use Rattle.serf_pack.proofs.Names.{value_at, pairs_left}
 use Rattle.serf_pack.proofs.PartCounts.{pair_count_is}
 use Rattle.serf_pack.proofs.walk.Pairs.new.Goals as goal
 

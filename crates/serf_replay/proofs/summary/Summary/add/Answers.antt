@@ -1,7 +1,4 @@
-use Rattle.std.proofs.Common.{◌≡◌, ◌+◌, ◌∷◌, [], ℕ, length, length-append, arith}
-use Rattle.std.proofs.lemmas.Grind.{common_steps}
-use Rattle.serf_model.specs.declared.line.Line.{Line}
-use Rattle.serf_replay.specs.Notes.{hand_outs_from, numbered_from}
+use Rattle.serf_replay.proofs.Names.{[], arith, length, length-append, ℕ, ◌+◌, ◌∷◌, ◌≡◌, common_steps, Line, hand_outs_from, numbered_from}
 use Rattle.serf_replay.proofs.NoteLaws.{handed-push, numbered-push}
 use Rattle.serf_replay.proofs.summary.Summary.add.Goals as goal
 

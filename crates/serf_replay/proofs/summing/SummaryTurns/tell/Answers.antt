@@ -1,7 +1,4 @@
-use Rattle.serf_replay.proofs.Names.{◌≡◌, ◌++◌, ◌∙◌, ◌∷◌, [], List, ap, map, map-append, subst, sym, Action, Line, Run, after, run_of, start, step}
-use Rattle.std.proofs.lemmas.List.Sums.{fold_push}
-use Rattle.std.proofs.lemmas.Result.{on_ok_weaker}
-use Rattle.serf_replay.specs.Summaries.{IsSummary}
+use Rattle.serf_replay.proofs.Names.{List, [], ap, map, subst, sym, ◌++◌, ◌∙◌, ◌∷◌, ◌≡◌, map-append, fold_push, on_ok_weaker, Run, after, run_of, start, step, Action, Line, IsSummary}
 use Rattle.serf_replay.proofs.summing.SummaryTurns.tell.Goals as goal
 
 pub returns : goal.returns

@@ -1,8 +1,4 @@
-use Rattle.serf_schedule.proofs.Names.{◌≡◌, ◌++◌, ◌∙◌, [], None, Ok, Result, Some, ap, append-nil}
-use Rattle.std.proofs.Common.{List, rules}
-use Rattle.serf_model.specs.declared.action.Action.{Action}
-use Rattle.serf_text.specs.declared.cause.Cause.{Cause}
-use Rattle.serf_schedule.specs.Line.{Parsed, after_line, with_action}
+use Rattle.serf_schedule.proofs.Names.{List, None, Ok, Result, Some, [], ap, rules, ◌++◌, ◌∙◌, ◌≡◌, append-nil, Cause, Action, Parsed, with_action, after_line}
 use Rattle.serf_schedule.proofs.RunLaws.{has-some, line-more, refused-line, said-behind, settings-behind, stage-behind, stage-held, stage-tells, with-agents}
 use Rattle.serf_schedule.proofs.run.Run.do_line.Goals as goal
 

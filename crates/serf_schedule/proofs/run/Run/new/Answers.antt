@@ -1,4 +1,4 @@
-use Rattle.std.proofs.Common.{[], refl, rules}
+use Rattle.serf_schedule.proofs.Names.{[], refl, rules}
 use Rattle.serf_schedule.proofs.run.Run.new.Goals as goal
 
 pub returns : goal.returns

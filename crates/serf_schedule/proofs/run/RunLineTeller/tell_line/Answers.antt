@@ -1,7 +1,4 @@
-use Rattle.serf_schedule.proofs.Names.{◌≡◌, ◌++◌, ◌∙◌, List, ap, append-nil, subst, sym}
-use Rattle.std.proofs.Common.{ℕ}
-use Rattle.serf_text.specs.declared.cause.LineFault.{LineFault}
-use Rattle.serf_schedule.specs.Running.{HasRun, IsLineRefused}
+use Rattle.serf_schedule.proofs.Names.{List, ap, subst, sym, ℕ, ◌++◌, ◌∙◌, ◌≡◌, append-nil, LineFault, HasRun, IsLineRefused}
 use Rattle.serf_schedule.proofs.run.RunLineTeller.tell_line.Goals as goal
 
 pub returns-in-Ok-clause-done : goal.returns-in-Ok-clause-done

@@ -1,8 +1,4 @@
-use Rattle.serf_schedule.proofs.Names.{◌++◌, ◌∙◌, ◌∷◌, [], List, ap, subst, sym, append_assoc}
-use Rattle.std.proofs.Common.{ℕ}
-use Rattle.std.proofs.lemmas.Result.{on_ok_weaker}
-use Rattle.serf_schedule.specs.Show.{action_text}
-use Rattle.serf_schedule.specs.TraceText.{tells_trace}
+use Rattle.serf_schedule.proofs.Names.{List, [], ap, append_assoc, subst, sym, ℕ, ◌++◌, ◌∙◌, ◌∷◌, on_ok_weaker, action_text, tells_trace}
 use Rattle.serf_schedule.proofs.TraceLaws.{tells-more}
 use Rattle.serf_schedule.proofs.show.TraceTextTurns.tell.Goals as goal
 

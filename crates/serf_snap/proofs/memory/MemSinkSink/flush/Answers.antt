@@ -1,5 +1,4 @@
-use Rattle.serf_snap.proofs.Names.{rules, arith, ◌≤◌, [], length, common_steps}
-use Rattle.serf_snap.specs.Device.{HasFailed}
+use Rattle.serf_snap.proofs.Names.{[], arith, length, rules, ◌≤◌, common_steps, HasFailed}
 use Rattle.serf_snap.proofs.FailLemmas.{fails-dropped}
 use Rattle.serf_snap.proofs.memory.MemSinkSink.flush.Goals as goal
 

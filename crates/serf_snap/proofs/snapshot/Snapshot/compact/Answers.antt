@@ -1,6 +1,4 @@
-use Rattle.serf_snap.proofs.Names.{◌≡◌, ◌∙◌, ℕ, List, subst}
-use Rattle.serf_snap.specs.Ends.{ReplacesText}
-use Rattle.serf_snap.specs.KeptNotes.{compaction_bytes, lines_given, text_with}
+use Rattle.serf_snap.proofs.Names.{List, subst, ℕ, ◌∙◌, ◌≡◌, ReplacesText, compaction_bytes, lines_given, text_with}
 use Rattle.serf_snap.proofs.KeptNoteLaws.{text-given}
 use Rattle.serf_snap.proofs.snapshot.Snapshot.compact.Goals as goal
 

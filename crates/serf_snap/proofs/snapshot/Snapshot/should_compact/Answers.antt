@@ -1,8 +1,4 @@
-use Rattle.serf_snap.proofs.Names.{◌∙◌, ℕ, List, [], ap}
-use Rattle.serf_snap.specs.Compaction.{is_worth_replacing}
-use Rattle.serf_snap.specs.Device.{durable_of}
-use Rattle.serf_snap.specs.KeptNotes.{compaction_bytes}
-use Rattle.serf_snap.specs.Notes.{SnapshotView, compaction_of}
+use Rattle.serf_snap.proofs.Names.{List, [], ap, ℕ, ◌∙◌, is_worth_replacing, durable_of, compaction_bytes, SnapshotView, compaction_of}
 use Rattle.serf_snap.proofs.KeptNoteLaws.{text-given}
 use Rattle.serf_snap.proofs.LengthLaws.{if_some-of}
 use Rattle.serf_snap.proofs.snapshot.Snapshot.should_compact.Goals as goal

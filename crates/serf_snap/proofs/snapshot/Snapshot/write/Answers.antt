@@ -1,5 +1,4 @@
-use Rattle.serf_snap.proofs.Names.{◌^◌, ◌-◌, length, refl}
-use Rattle.serf_snap.specs.declared.kind.ClockKind.TheVariants.{Member, Event, Query}
+use Rattle.serf_snap.proofs.Names.{length, refl, ◌-◌, ◌^◌, Event, Member, Query}
 use Rattle.serf_snap.proofs.ClockLaws.{once_set-below}
 use Rattle.serf_snap.proofs.LengthLaws.{length-noted}
 use Rattle.serf_snap.proofs.snapshot.Snapshot.write.Goals as goal

@@ -1,5 +1,4 @@
-use Rattle.std.proofs.Common.{[]}
-use Rattle.std.proofs.lemmas.Result.{on_ok_weaker}
+use Rattle.serf_text.proofs.Names.{[], on_ok_weaker}
 use Rattle.serf_text.proofs.LineLaws.{text-push}
 use Rattle.serf_text.proofs.line_job.AnyLineTeller.tell_line.Goals as goal
 

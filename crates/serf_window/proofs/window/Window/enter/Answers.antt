@@ -1,6 +1,4 @@
-use Rattle.serf_window.proofs.Names.{rules, arith, ◌≡◌, ◌<◌, ◌≤◌, ◌%◌, length, map, refl, sym, ◌∙◌, ap, subst, set, get_or, get_or_read, length-map, unused_slot}
-use Rattle.serf_window.specs.Slots.{all_slots, slot_view}
-use Rattle.serf_window.specs.Window.{EachAtMost, room_for, slots_after, time_in}
+use Rattle.serf_window.proofs.Names.{ap, arith, get_or, length, map, refl, rules, set, subst, sym, ◌%◌, ◌<◌, ◌∙◌, ◌≡◌, ◌≤◌, get_or_read, length-map, unused_slot, all_slots, slot_view, EachAtMost, room_for, slots_after, time_in}
 use Rattle.serf_window.proofs.AllSlots.{is_made, length-all_slots, room_for-made, room_for-other, shown, slot_for-made, slots_after-made}
 use Rattle.serf_window.proofs.WindowLemmas.{EachAtMost-after, TimesBelow-after, slots_after-entered}
 use Rattle.serf_window.proofs.window.Window.enter.Goals as goal

@@ -1,5 +1,4 @@
-use Rattle.serf_window.proofs.Names.{arith, ◌≡◌, ◌∙◌, length, map, length-map}
-use Rattle.serf_window.specs.Slots.{all_slots, slot_view}
+use Rattle.serf_window.proofs.Names.{arith, length, map, ◌∙◌, ◌≡◌, length-map, all_slots, slot_view}
 use Rattle.serf_window.proofs.AllSlots.{all_slots-held, length-all_slots}
 use Rattle.serf_window.proofs.WindowLemmas.{held_count-le, held_count-most}
 use Rattle.serf_window.proofs.window.Window.held.Goals as goal

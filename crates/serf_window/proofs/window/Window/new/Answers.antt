@@ -1,6 +1,4 @@
-use Rattle.serf_window.proofs.Names.{arith, ◌≡◌, map, [], sym, subst, ◌∙◌, ap}
-use Rattle.serf_window.specs.Slots.{all_slots, slot_view}
-use Rattle.serf_window.specs.Window.{EachAtMost, TimesBelow, slots_of}
+use Rattle.serf_window.proofs.Names.{[], ap, arith, map, subst, sym, ◌∙◌, ◌≡◌, all_slots, slot_view, EachAtMost, TimesBelow, slots_of}
 use Rattle.serf_window.proofs.AllSlots.{all_slots-none}
 use Rattle.serf_window.proofs.WindowLaws.{starts_below}
 use Rattle.serf_window.proofs.WindowLemmas.{EachAtMost-none}

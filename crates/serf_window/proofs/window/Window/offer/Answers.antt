@@ -1,7 +1,4 @@
-use Rattle.serf_window.proofs.Names.{rules, arith, ◌≡◌, ◌<◌, ◌≤◌, ◌+◌, ◌%◌, length, map, sym, ◌∙◌, ap, get_or, refl, subst, length-map, unused_slot}
-use Rattle.serf_window.specs.OneSlot.{slot_verdict}
-use Rattle.serf_window.specs.Slots.{all_slots, slot_view}
-use Rattle.serf_window.specs.Window.{held_of, slot_for}
+use Rattle.serf_window.proofs.Names.{ap, arith, get_or, length, map, refl, rules, subst, sym, ◌%◌, ◌+◌, ◌<◌, ◌∙◌, ◌≡◌, ◌≤◌, length-map, unused_slot, slot_verdict, all_slots, slot_view, held_of, slot_for}
 use Rattle.serf_window.proofs.AllSlots.{length-all_slots, slot_for-made}
 use Rattle.serf_window.proofs.WindowLemmas.{slot_verdict-entered, slot_verdict-new}
 use Rattle.serf_window.proofs.window.Window.offer.Goals as goal

@@ -1,6 +1,4 @@
-use Rattle.serf_window.proofs.Names.{rules, arith, ◌≡◌, ◌<◌, ◌≤◌, ◌%◌, length, map, refl, sym, subst, set, get_or, ◌∙◌, ap, get_or_read, err_from_is_err_and, unused_slot}
-use Rattle.serf_window.specs.Slots.{all_slots, slot_view}
-use Rattle.serf_window.specs.Window.{EachAtMost, room_for}
+use Rattle.serf_window.proofs.Names.{ap, arith, get_or, length, map, refl, rules, set, subst, sym, ◌%◌, ◌<◌, ◌∙◌, ◌≡◌, ◌≤◌, get_or_read, err_from_is_err_and, unused_slot, all_slots, slot_view, EachAtMost, room_for}
 use Rattle.serf_window.proofs.AllSlots.{room_for-kept, room_for-made, room_for-own, room_for-past, room_for-same, shown, slots-roomier}
 use Rattle.serf_window.proofs.window.Window.prepare.Goals as goal
 

@@ -1,6 +1,4 @@
-use Rattle.serf_window.proofs.Names.{◌≡◌, length}
-use Rattle.std.specs.Prelude.{drop}
-use Rattle.serf_window.specs.Window.{TimesBelow}
+use Rattle.serf_window.proofs.Names.{length, ◌≡◌, drop, TimesBelow}
 use Rattle.serf_window.proofs.RecallSteps.{Goes}
 use Rattle.serf_window.proofs.window.Window.recall.Given as goal
 

@@ -1,7 +1,4 @@
-use Rattle.serf_wire.proofs.Names.{◌++◌, codes, lit<, ap, ◌∙◌, raw_bytes, greatest_clock}
-use Rattle.serf_wire.specs.Fields.{text, truth, number}
-use Rattle.serf_wire.specs.Keys.{event_name}
-use Rattle.serf_wire.specs.Fast.{IsEventSoFar}
+use Rattle.serf_wire.proofs.Names.{ap, codes, lit<, ◌++◌, ◌∙◌, greatest_clock, raw_bytes, IsEventSoFar, number, text, truth, event_name}
 use Rattle.serf_wire.proofs.FastPairs.{pair_read}
 use Rattle.serf_wire.proofs.FastEvent.{finds_time, finds_name, finds_payload, finds_coalesce}
 use Rattle.serf_wire.proofs.fast.event.read_pair.Goals as goal

@@ -1,5 +1,4 @@
-use Rattle.serf_wire.proofs.Names.{refl}
-use Rattle.serf_wire.specs.Fast.{IsEventSoFar}
+use Rattle.serf_wire.proofs.Names.{refl, IsEventSoFar}
 use Rattle.serf_wire.proofs.FastPairs.{nothing_read, more_read}
 use Rattle.serf_wire.proofs.fast.event.read_pairs.Goals as goal
 

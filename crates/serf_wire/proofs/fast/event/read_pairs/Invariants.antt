@@ -1,4 +1,4 @@
-use Rattle.serf_wire.specs.Fast.{IsEventSoFar, IsReadSoFar}
+use Rattle.serf_wire.proofs.Names.{IsEventSoFar, IsReadSoFar}
 use Rattle.serf_wire.proofs.fast.event.read_pairs.Given as goal
 
 -- so many pairs were read

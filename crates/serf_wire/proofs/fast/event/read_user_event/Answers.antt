@@ -1,4 +1,4 @@
-use Rattle.serf_wire.proofs.Names.{sym, eqb-true}
+use Rattle.serf_wire.proofs.Names.{eqb-true, sym}
 use Rattle.serf_wire.proofs.FastPairs.{none_left}
 use Rattle.serf_wire.proofs.FastEvent.{event_whole}
 use Rattle.serf_wire.proofs.fast.event.read_user_event.Goals as goal

@@ -1,7 +1,4 @@
-use Rattle.serf_wire.proofs.Names.{◌≡◌, ℕ, List, Option, codes, refl, subst, IfNone, IfSome}
-use Rattle.serf_wire.specs.Fast.{ReadsPair}
-use Rattle.serf_wire.specs.Fields.{event_body, list, time}
-use Rattle.serf_wire.specs.Lists.{events_found}
+use Rattle.serf_wire.proofs.Names.{IfNone, IfSome, List, Option, codes, refl, subst, ℕ, ◌≡◌, ReadsPair, event_body, list, time, events_found}
 use Rattle.serf_wire.proofs.FastSlots.{events_first_reads, slot_reads}
 use Rattle.serf_wire.proofs.fast.slots.read_fields.Goals as goal
 

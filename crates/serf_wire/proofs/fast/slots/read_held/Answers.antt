@@ -1,8 +1,4 @@
-use Rattle.serf_wire.proofs.Names.{subst, sym, arith}
-use Rattle.serf_wire.specs.Slots.{held}
-use Rattle.serf_wire.specs.Fields.{slot}
-use Rattle.serf_wire.specs.Fast.{ReadsIn}
-use Rattle.serf_wire.specs.Lists.{events_found}
+use Rattle.serf_wire.proofs.Names.{arith, subst, sym, ReadsIn, slot, events_found, held}
 use Rattle.serf_wire.proofs.FastReading.{after_byte}
 use Rattle.serf_wire.proofs.FastPairs.{if_some}
 use Rattle.serf_wire.proofs.fast.slots.read_held.Goals as goal

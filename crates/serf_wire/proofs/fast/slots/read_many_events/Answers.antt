@@ -1,7 +1,4 @@
-use Rattle.serf_wire.proofs.Names.{lit<, tree_of}
-use Rattle.serf_wire.specs.Fields.{event_body, list}
-use Rattle.serf_wire.specs.Lookups.{event_body_in, list_in}
-use Rattle.serf_wire.specs.Lists.{events_left}
+use Rattle.serf_wire.proofs.Names.{lit<, tree_of, event_body, list, events_left, event_body_in, list_in}
 use Rattle.serf_wire.proofs.MessageFields.{events_exact}
 use Rattle.serf_wire.proofs.FastLists.{lent_reads, packed_before}
 use Rattle.serf_wire.proofs.fast.slots.read_many_events.Goals as goal

@@ -1,6 +1,4 @@
-use Rattle.serf_wire.proofs.Names.{arith}
-use Rattle.serf_wire.specs.Fields.{event_body}
-use Rattle.serf_wire.specs.Lists.{event_of_view}
+use Rattle.serf_wire.proofs.Names.{arith, event_body, event_of_view}
 use Rattle.serf_wire.proofs.FastReading.{after_byte, fix_array}
 use Rattle.serf_wire.proofs.FastPairs.{if_some}
 use Rattle.serf_wire.proofs.FastLists.{only_reads}

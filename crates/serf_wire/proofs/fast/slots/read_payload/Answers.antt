@@ -1,5 +1,4 @@
-use Rattle.serf_wire.proofs.Names.{codes, arith, raw_bytes}
-use Rattle.serf_wire.specs.Fields.{text}
+use Rattle.serf_wire.proofs.Names.{arith, codes, raw_bytes, text}
 use Rattle.serf_wire.proofs.FastReading.{starts}
 use Rattle.serf_wire.proofs.FastPairs.{if_some}
 use Rattle.serf_wire.proofs.FastSlots.{pair_reads}

@@ -1,6 +1,4 @@
-use Rattle.serf_wire.proofs.Names.{refl}
-use Rattle.serf_wire.specs.Slots.{empty}
-use Rattle.serf_wire.specs.Fields.{slot}
+use Rattle.serf_wire.proofs.Names.{refl, slot, empty}
 use Rattle.serf_wire.proofs.FastLists.{nil_reads}
 use Rattle.serf_wire.proofs.fast.slots.read_slot.Goals as goal
 

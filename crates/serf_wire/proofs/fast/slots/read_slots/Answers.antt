@@ -1,7 +1,4 @@
-use Rattle.serf_wire.proofs.Names.{lit<, tree_of}
-use Rattle.serf_wire.specs.Fields.{slot, list}
-use Rattle.serf_wire.specs.Lookups.{slot_in, list_in}
-use Rattle.serf_wire.specs.Lists.{slots_left}
+use Rattle.serf_wire.proofs.Names.{lit<, tree_of, list, slot, slots_left, list_in, slot_in}
 use Rattle.serf_wire.proofs.MessageFields.{slots_exact}
 use Rattle.serf_wire.proofs.FastLists.{lent_reads, packed_before}
 use Rattle.serf_wire.proofs.fast.slots.read_slots.Goals as goal

@@ -1,5 +1,4 @@
-use Rattle.serf_wire.proofs.Names.{codes, arith, raw_bytes}
-use Rattle.serf_wire.specs.Fields.{time}
+use Rattle.serf_wire.proofs.Names.{arith, codes, raw_bytes, time}
 use Rattle.serf_wire.proofs.FastReading.{starts}
 use Rattle.serf_wire.proofs.FastSlots.{pair_reads, time_reads}
 use Rattle.serf_wire.proofs.fast.slots.read_time.Goals as goal

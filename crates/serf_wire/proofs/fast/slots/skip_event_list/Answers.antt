@@ -1,5 +1,4 @@
-use Rattle.serf_wire.proofs.Names.{arith}
-use Rattle.serf_wire.specs.Fields.{event_body}
+use Rattle.serf_wire.proofs.Names.{arith, event_body}
 use Rattle.serf_wire.proofs.FastPairs.{if_some}
 use Rattle.serf_wire.proofs.FastLists.{list_spans}
 use Rattle.serf_wire.proofs.fast.slots.skip_event_list.Goals as goal

@@ -1,5 +1,4 @@
-use Rattle.serf_wire.specs.Fields.{event_body}
-use Rattle.serf_wire.specs.Fast.{AreItems}
+use Rattle.serf_wire.proofs.Names.{AreItems, event_body}
 use Rattle.serf_wire.proofs.fast.slots.skip_events.Given as goal
 
 abbrev pub invariant-events : goal.invariant-events

@@ -1,5 +1,4 @@
-use Rattle.serf_wire.proofs.Names.{[], refl, arith}
-use Rattle.serf_wire.specs.Fields.{slot, list}
+use Rattle.serf_wire.proofs.Names.{[], arith, refl, list, slot}
 use Rattle.serf_wire.proofs.FastPairs.{if_some}
 use Rattle.serf_wire.proofs.FastLists.{nil_spans, list_spans}
 use Rattle.serf_wire.proofs.fast.slots.skip_slot_list.Goals as goal

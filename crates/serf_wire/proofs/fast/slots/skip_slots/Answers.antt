@@ -1,5 +1,4 @@
-use Rattle.serf_wire.specs.Fields.{slot}
-use Rattle.serf_wire.specs.Fast.{Item}
+use Rattle.serf_wire.proofs.Names.{Item, slot}
 use Rattle.serf_wire.proofs.FastLists.{nothing_walked, one_item_more}
 use Rattle.serf_wire.proofs.fast.slots.skip_slots.Goals as goal
 

@@ -1,8 +1,4 @@
-use Rattle.serf_wire.proofs.Names.{◌++◌, codes, lit<, ap, ◌∙◌, raw_bytes, greatest_clock}
-use Rattle.serf_wire.specs.Fields.{text, number, list, status, slot}
-use Rattle.serf_wire.specs.Keys.{state_name}
-use Rattle.serf_wire.specs.Lists.{texts_left, status_left, slots_left}
-use Rattle.serf_wire.specs.Fast.{IsStateSoFar}
+use Rattle.serf_wire.proofs.Names.{ap, codes, lit<, ◌++◌, ◌∙◌, greatest_clock, raw_bytes, IsStateSoFar, list, number, slot, status, text, state_name, slots_left, status_left, texts_left}
 use Rattle.serf_wire.proofs.FastPairs.{pair_read, part_pair_read}
 use Rattle.serf_wire.proofs.FastState.{finds_member, finds_status, finds_left, finds_event, finds_slots, finds_query}
 use Rattle.serf_wire.proofs.fast.state.read_pair.Goals as goal

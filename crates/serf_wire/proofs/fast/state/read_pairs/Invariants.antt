@@ -1,4 +1,4 @@
-use Rattle.serf_wire.specs.Fast.{IsStateSoFar, IsReadSoFar}
+use Rattle.serf_wire.proofs.Names.{IsReadSoFar, IsStateSoFar}
 use Rattle.serf_wire.proofs.fast.state.read_pairs.Given as goal
 
 -- so many pairs were read

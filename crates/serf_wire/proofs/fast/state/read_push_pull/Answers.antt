@@ -1,5 +1,4 @@
-use Rattle.serf_wire.proofs.Names.{sym, eqb-true}
-use Rattle.serf_wire.specs.Message.{push_pull_said}
+use Rattle.serf_wire.proofs.Names.{eqb-true, sym, push_pull_said}
 use Rattle.serf_wire.proofs.FastPairs.{none_left}
 use Rattle.serf_wire.proofs.FastState.{state_whole}
 use Rattle.serf_wire.proofs.fast.state.read_push_pull.Goals as goal

@@ -1,7 +1,4 @@
-use Rattle.serf_wire.proofs.Names.{lit<, tree_of}
-use Rattle.serf_wire.specs.Fields.{status}
-use Rattle.serf_wire.specs.Lookups.{status_in}
-use Rattle.serf_wire.specs.Lists.{status_left}
+use Rattle.serf_wire.proofs.Names.{lit<, tree_of, status, status_left, status_in}
 use Rattle.serf_wire.proofs.Meanings.{status_exact}
 use Rattle.serf_wire.proofs.FastLists.{lent_reads, packed_before}
 use Rattle.serf_wire.proofs.fast.status.read_status.Goals as goal

@@ -1,5 +1,4 @@
-use Rattle.serf_wire.proofs.Names.{[], refl}
-use Rattle.serf_wire.specs.Fields.{status}
+use Rattle.serf_wire.proofs.Names.{[], refl, status}
 use Rattle.serf_wire.proofs.FastPairs.{if_some}
 use Rattle.serf_wire.proofs.FastLists.{nil_spans}
 use Rattle.serf_wire.proofs.FastStatus.{status_spans}

@@ -1,4 +1,4 @@
-use Rattle.serf_wire.specs.Fast.{status_part_bytes}
+use Rattle.serf_wire.proofs.Names.{status_part_bytes}
 use Rattle.serf_wire.proofs.FastLists.{nothing_walked, one_part_more}
 use Rattle.serf_wire.proofs.fast.status.skip_status_times.Goals as goal
 

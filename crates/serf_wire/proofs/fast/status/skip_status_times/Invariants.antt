@@ -1,4 +1,4 @@
-use Rattle.serf_wire.specs.Fast.{AreParts, status_part_bytes}
+use Rattle.serf_wire.proofs.Names.{AreParts, status_part_bytes}
 use Rattle.serf_wire.proofs.fast.status.skip_status_times.Given as goal
 
 abbrev pub invariant-times : goal.invariant-times

@@ -1,4 +1,4 @@
-use Rattle.serf_wire.proofs.Names.{Some, option_map, map-set, tree_of}
+use Rattle.serf_wire.proofs.Names.{Some, map-set, option_map, tree_of}
 use Rattle.serf_wire.proofs.found.FoundFields.put.Goals as goal
 
 pub returns : goal.returns

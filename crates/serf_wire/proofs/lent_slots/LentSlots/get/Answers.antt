@@ -1,6 +1,5 @@
-use Rattle.serf_wire.proofs.Names.{rules, arith, ◌≡◌, ◌+◌, ◌-◌, ◌<◌, ◌≤◌, length, map, replicate, sym, ◌∙◌, length-map, length-replicate, slice_get_past}
+use Rattle.serf_wire.proofs.Names.{arith, length, map, replicate, rules, sym, ◌+◌, ◌-◌, ◌<◌, ◌∙◌, ◌≡◌, ◌≤◌, length-map, length-replicate, slice_get_past, slot_in_memory, slots_lent, unused_slot}
 use Rattle.std.proofs.lemmas.List.{length-append}
-use Rattle.serf_wire.specs.Buffers.{slot_in_memory, slots_lent, unused_slot}
 use Rattle.serf_wire.proofs.Unused.{get_behind}
 use Rattle.serf_wire.proofs.lent_slots.LentSlots.get.Goals as goal
 

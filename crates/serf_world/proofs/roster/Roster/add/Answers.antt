@@ -1,4 +1,4 @@
-use Rattle.serf_world.proofs.Names.{◌≡◌, ◌++◌, ◌∷◌, [], false, true, sym, arith, common_steps, is_sound, has_name}
+use Rattle.serf_world.proofs.Names.{[], arith, false, sym, true, ◌++◌, ◌∷◌, ◌≡◌, common_steps, is_sound, has_name}
 use Rattle.serf_world.proofs.RosterLaws.{one_more}
 use Rattle.serf_world.proofs.roster.Roster.add.Goals as goal
 

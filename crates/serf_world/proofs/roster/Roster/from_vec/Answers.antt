@@ -1,4 +1,4 @@
-use Rattle.serf_world.proofs.Names.{◌≡◌, ◌++◌, ◌∷◌, ◌+◌, ◌<◌, ◌∙◌, [], false, ap, sym, take, drop, length, arith, drop-cons, take-suc, common_steps, has_name, first_twice, twice_after}
+use Rattle.serf_world.proofs.Names.{[], ap, arith, drop, false, length, sym, take, ◌++◌, ◌+◌, ◌<◌, ◌∙◌, ◌∷◌, ◌≡◌, drop-cons, take-suc, common_steps, first_twice, has_name, twice_after}
 use Rattle.serf_world.proofs.roster.Roster.from_vec.Goals as goal
 
 pub loop-number-preserved : goal.loop-number-preserved

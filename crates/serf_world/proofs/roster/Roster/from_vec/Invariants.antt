@@ -1,5 +1,4 @@
-use Rattle.serf_world.proofs.Names.{◌≡◌, take, drop, twice_after, first_twice}
-use Rattle.serf_world.specs.Roster.{AreNames}
+use Rattle.serf_world.proofs.Names.{drop, take, ◌≡◌, first_twice, twice_after, AreNames}
 use Rattle.serf_world.proofs.roster.Roster.from_vec.Given as goal
 
 -- the names of the agents so far, and those that are left give the answer

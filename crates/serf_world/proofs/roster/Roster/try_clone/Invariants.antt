@@ -1,4 +1,4 @@
-use Rattle.serf_world.proofs.Names.{◌≡◌, take}
+use Rattle.serf_world.proofs.Names.{take, ◌≡◌}
 use Rattle.serf_world.proofs.roster.Roster.try_clone.Given as goal
 
 abbrev pub invariant-loop-config : goal.invariant-loop-config

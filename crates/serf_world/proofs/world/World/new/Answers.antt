@@ -1,5 +1,4 @@
-use Rattle.serf_world.proofs.Names.{◌≡◌, List, map, true, ap, sym, subst, ◌∙◌, AllByRecursion, Config, is_sound, first_node}
-use Rattle.serf_world.specs.View.{node_of}
+use Rattle.serf_world.proofs.Names.{List, ap, map, subst, sym, true, ◌∙◌, ◌≡◌, AllByRecursion, is_sound, Config, first_node, node_of}
 use Rattle.serf_world.proofs.DoneLaws.{done-nothing}
 use Rattle.serf_world.proofs.TurnLaws.{map-map}
 use Rattle.serf_world.proofs.RosterLaws.{all-sound}

@@ -1,8 +1,4 @@
-use Rattle.serf_world.proofs.Names.{◌≡◌, ◌++◌, ◌∷◌, [], ℕ, List, None, ◌<◌, ◌≤◌, ◌∙◌, arith, length, run_of, subst, sym, AreRepresentable, Cluster, Line}
-use Rattle.serf_model.specs.declared.line.Answer.TheVariants.{Injected}
-use Rattle.serf_model.specs.Cluster.{injects}
-use Rattle.serf_model.specs.Tails.{BringsTold}
-use Rattle.serf_world.specs.View.{IsViewed, TakesStep, WorldState}
+use Rattle.serf_world.proofs.Names.{List, None, [], arith, length, subst, sym, ℕ, ◌++◌, ◌<◌, ◌∙◌, ◌∷◌, ◌≡◌, ◌≤◌, Cluster, injects, run_of, AreRepresentable, BringsTold, Injected, Line, IsViewed, TakesStep, WorldState}
 use Rattle.serf_world.proofs.DoneLaws.{done-next}
 use Rattle.serf_world.proofs.TurnLaws.{IsToldAct, owes-none, owes-turn}
 use Rattle.serf_world.proofs.world.World.step.Goals as goal

@@ -1,8 +1,4 @@
-use Rattle.std.proofs.Common.{◌≡◌, ◌++◌, ◌∷◌, List, [], All, rules, subst, sym}
-use Rattle.std.proofs.lemmas.List.Elements.{All-push}
-use Rattle.serf_model.specs.declared.action.Action.{Action}
-use Rattle.serf_schedule.specs.Sayable.{IsSayable}
-use Rattle.serf_write.specs.Running.{HasWorld}
+use Rattle.serf_write.proofs.Names.{All, List, [], rules, subst, sym, ◌++◌, ◌∷◌, ◌≡◌, All-push, Action, IsSayable, HasWorld}
 use Rattle.serf_write.proofs.writing.Writing.act.Goals as goal
 
 pub invariant_of-self-2 : goal.invariant_of-self-2

@@ -1,6 +1,4 @@
-use Rattle.std.proofs.Common.{◌≡◌, ◌∙◌, [], ap, arith, length}
-use Rattle.std.proofs.lemmas.Grind.{common_steps}
-use Rattle.serf_write.specs.Written.{Written, sent_count}
+use Rattle.serf_write.proofs.Names.{[], ap, arith, length, ◌∙◌, ◌≡◌, common_steps, Written, sent_count}
 use Rattle.serf_write.proofs.RunLaws.{none_sent, sent_is}
 use Rattle.serf_write.proofs.writing.Writing.sent.Goals as goal
 

@@ -1,8 +1,0 @@
-use Rattle.std.proofs.Common.{◌≡◌, ◌++◌, [], ◌∷◌}
-use Rattle.std.specs.List.{flat_map}
-use Rattle.serf_wire.specs.Lists.{events_left}
-use Rattle.serf_draw.proofs.merges.add_times.Given as goal
-
--- the times so far, and then one for each event that is left
-abbrev pub invariant-loop-event : goal.invariant-loop-event
-invariant-loop-event l = l.times.items ++ flat_map (λ e. l.time ∷ []) (events_left l._event-iterator) ≡ l.fn.times.items ++ flat_map (λ e. l.time ∷ []) (events_left l.fn.events)

@@ -1,0 +1,14 @@
+use Rattle.serf_explain.proofs.Names.{refl, lines_of, all_actions}
+use Rattle.serf_explain.proofs.StreamLaws.{halted, whole}
+use Rattle.serf_explain.proofs.job.explain_lines.Goals as goal
+
+pub returns-in-Ok-clause-done : goal.returns-in-Ok-clause-done
+returns-in-Ok-clause-done g c =
+    let d = c.in-Ok.ensures.done (all_actions, refl, c.new-run.ensures all_actions c.new.ensures) in
+    let s = d.3.tells in
+    (d.0, d.3.text, d.1, d.2, whole c.tell_lines.new.job d.0 d.3.text c.turns.result s (c.turns.ensures s.0 (lines_of d.0) d.3.text s.2), d.3.written)
+
+pub returns-clause-stopped : goal.returns-clause-stopped
+returns-clause-stopped g c =
+    let s = c.in-Err.ensures.stopped (all_actions, refl, c.new-run.ensures all_actions c.new.ensures) in
+    (s.0, s.1, halted c.in-Err.fault s.0 (g.W.Write.contents c.args.writer.now) (g.W.Write.contents c.tell_lines.new.writer) s.2)

@@ -1,0 +1,10 @@
+use Rattle.serf_explain.proofs.Names.{filter, take, ◌≡◌, get, ended_among, same_moment, stays_open, Moment}
+use Rattle.serf_explain.proofs.memory.Memory.end_queries.Given as goal
+
+-- what is remembered once those so far were looked at
+abbrev pub invariant-loop-moment : goal.invariant-loop-moment
+invariant-loop-moment l = record {
+  entered : l.self.queries ≡ l.fn.self.queries;
+  asked : (m : Moment) → get same_moment l.self.asked m ≡ ended_among l.world l.agent l.ended (take l.moment-index l.moments) m (get same_moment l.fn.self.asked m);
+  pending : l.self.pending.items ≡ filter (stays_open l.world l.agent) (take l.moment-index l.moments);
+}

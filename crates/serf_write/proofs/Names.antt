@@ -1,0 +1,23 @@
+-- The names of std, of the crates below and of the definitions that the proofs of this crate cite.
+pub use Rattle.std.proofs.Common.{All, List, None, Some, [], ap, arith, false, length, refl, rules, subst, sym, true, ℕ, ◌++◌, ◌+◌, ◌∙◌, ◌∷◌, ◌≡◌}
+pub use Rattle.std.proofs.Common.{◌≤◌}
+pub use Rattle.std.proofs.lemmas.Grind.{common_steps}
+pub use Rattle.std.proofs.lemmas.List.Elements.{All-push}
+pub use Rattle.std.proofs.lemmas.List.Splits.{length-slice_split}
+pub use Rattle.std.specs.List.{slice_split}
+pub use Rattle.std.specs.Prelude.{◌==◌}
+pub use Rattle.serf_text.specs.Words.{words_of}
+pub use Rattle.serf_agent.specs.declared.config.Config.{Config}
+pub use Rattle.serf_model.specs.declared.action.Action.{Action}
+pub use Rattle.serf_world.specs.View.{WorldState}
+pub use Rattle.serf_schedule.specs.Sayable.{IsSayable}
+pub use Rattle.serf_write.specs.Gives.{wrong}
+pub use Rattle.serf_write.specs.Lines.{settings_from}
+pub use Rattle.serf_write.specs.Pieces.{pieces_from, text_from, text_within, words_behind}
+pub use Rattle.serf_write.specs.Queries.{options_from}
+pub use Rattle.serf_write.specs.Running.{HasWorld}
+pub use Rattle.serf_write.specs.Written.{Written, after_lines, written_of}
+unfoldable pub use Rattle.serf_write.specs.Written.{sent_count}
+pub use Rattle.serf_write.specs.declared.fault.Wanted.TheVariants.{ClosingQuote, Escape}
+pub use Rattle.serf_write.specs.declared.piece.Piece.{Piece}
+pub use Rattle.serf_write.specs.declared.piece.Piece.TheVariants.{Text}
