@@ -1,9 +1,7 @@
-//! Two agents on files: an event comes twice, the agent that took it crashes, and its handler has run once; and one asks a
-//! query, which the other one answers.
+//! Two agents on files: an event comes twice, over a crash, and its handler runs once; and a query is asked and answered.
 //!
-//! This is how a Rattle program embeds the agent: a [`FileStore`] for each, [`Agent::open`] on its text, packets in
-//! and out, and a handler that is called for what a call hands out. The snapshots stand in the current folder, and
-//! each run begins without them.
+//! This is how a Rattle program embeds the agent: a [`FileStore`] for each, [`Agent::open`] on its text, packets in and out,
+//! and a handler for what a call hands out. The snapshots stand in the current folder, and each run begins without them.
 #![tactic(auto)]
 
 mod lives;

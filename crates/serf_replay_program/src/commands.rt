@@ -10,7 +10,7 @@ mod random;
 mod replay;
 mod write;
 
-use crate::fault::{Ended, Fault, Status};
+use crate::fault::{CommandResult, Fault, Status};
 use crate::io::Io;
 use crate::options::{CommandRow, with_commands};
 use clap::error::ErrorKind;
@@ -52,7 +52,7 @@ fn found_in<'a>(alloc: Global, words: &'a [String]) -> Result<ArgMatches<'a>, Er
 }
 
 /// Prints clap's text: help and the version go to standard output.
-fn refuse_command_line<'a>(io: Io, error: &Error) -> Ended<'a> {
+fn refuse_command_line<'a>(io: Io, error: &Error) -> CommandResult<'a> {
     if error.kind() == ErrorKind::OutOfMemory {
         return Err(Fault::NoMemory);
     }
@@ -63,8 +63,8 @@ fn refuse_command_line<'a>(io: Io, error: &Error) -> Ended<'a> {
     }
 }
 
-/// Runs the command that was found. Clap refuses a command line that names none of these.
-fn run_command<'a>(io: Io, name: &str, matches: &ArgMatches<'a>) -> Ended<'a> {
+/// Runs the command `name`. Clap refuses a command line that names no command.
+fn run_command<'a>(io: Io, name: &str, matches: &ArgMatches<'a>) -> CommandResult<'a> {
     match name {
         "replay" => replay::run(io, matches),
         "decode" => packets::decode(io, matches),

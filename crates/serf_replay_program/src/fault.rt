@@ -9,7 +9,7 @@ use serf_write::Fault as BadWord;
 use std::alloc::AllocError;
 use std::io;
 
-/// The status of the program.
+/// The status of the program: 0 to 3, as they stand.
 #[derive(Clone, Copy, PartialEq, Eq, PartialOrd, Ord)]
 pub(crate) enum Status {
     /// The command is done, or help was asked for.
@@ -23,12 +23,7 @@ pub(crate) enum Status {
 }
 
 impl Status {
-    /// The number with which the program ends: 0 to 3, as they stand.
-    pub(crate) fn code(self) -> u8 {
-        self as u8
-    }
-
-    /// That of a job which refused a part of its input, or none.
+    /// The status of a job: `Refused` where it refused a part of its input, else `Done`.
     pub(crate) fn refused_if(is_refused: bool) -> Status {
         if is_refused {
             Status::Refused
@@ -38,7 +33,7 @@ impl Status {
     }
 }
 
-/// Why a command ends. The input is that of its word `FILE`, or else standard input.
+/// Why a command ends. Its input is the file of its word `FILE`, or else standard input.
 #[derive(Clone, Copy)]
 pub(crate) enum Fault<'a> {
     NoMemory,
@@ -48,22 +43,22 @@ pub(crate) enum Fault<'a> {
     TooLong,
     /// Standard output, or a file, could not be written.
     WriteFault,
-    /// The line of a schedule with this number is bad.
+    /// A line of a schedule is bad: its number, counted from 1, and what is wrong with it.
     BadLine(u64, Cause),
-    /// The line of a stream with this number is bad, for what the word says.
+    /// A line of a stream is bad: its number, counted from 1, and a word for what is wrong with it.
     BadStreamLine(u64, &'static str),
-    /// In the line of a written schedule with this number a word is none of those that are wanted.
+    /// A word of a written schedule is none of those that are wanted: the number of its line, counted from 1, and the word.
     BadWord(u64, BadWord),
-    /// The line of a log with this number has too many bytes. A log alone has no name.
+    /// A line of a log has too many bytes: the log's name, which a log alone has not, and the line's number, counted from 1.
     LongLogLine(Option<&'a str>, u64),
-    /// What is wrong with the file of this name.
+    /// A file is refused: its name, what is wrong with it, and the status.
     File(&'a str, &'static str, Status),
     /// The command line is refused for what these texts say, one after another.
     CommandLine(&'a str, &'a str, &'a str, &'a str, &'a str),
-    /// The word names an agent by a number that is none of so many.
+    /// A word names no agent of the schedule: the word, and how many agents there are.
     NoAgent(&'a str, u64),
-    /// What was held, as a word and a number say it, can't be held to its end.
-    Held(&'static str, u64, ConformFault),
+    /// A schedule can't be held to its end: `seed` or `agent`, its number, and why.
+    NotHeld(&'static str, u64, ConformFault),
     /// The calls at which an agent fails can't be made fewer.
     NotShrunk(ConformFault),
     /// All is said already, and this is the status.
@@ -71,7 +66,7 @@ pub(crate) enum Fault<'a> {
 }
 
 /// What a command comes to.
-pub(crate) type Ended<'a> = Result<Status, Fault<'a>>;
+pub(crate) type CommandResult<'a> = Result<Status, Fault<'a>>;
 
 /// The command line is refused for what a sentence says.
 pub(crate) fn command_line<'a>(why: &'a str) -> Fault<'a> {
@@ -167,7 +162,7 @@ fn meaning_of(cause: Cause) -> &'static str {
 
 /// Writes the line of a device that failed, with the cause where the system told one.
 fn put_device_fault(io: Io, name: &str, what: &str) -> io::Result<()> {
-    match io.cause.get() {
+    match io.last_error.get() {
         Some(cause) => eprintln!(io.rt; "{name}{what}: {cause}"),
         None => eprintln!(io.rt; "{name}{what}"),
     }
@@ -178,26 +173,16 @@ impl Fault<'_> {
     fn status(self) -> Status {
         match self {
             // A reply that is too long is a disagreement.
-            Fault::Held(_, _, ConformFault::ReplyTooLong)
+            Fault::NotHeld(_, _, ConformFault::ReplyTooLong)
             | Fault::NotShrunk(ConformFault::ReplyTooLong) => Status::Refused,
             Fault::NoMemory
             | Fault::ReadFault(_)
             | Fault::WriteFault
-            | Fault::Held(..)
+            | Fault::NotHeld(..)
             | Fault::NotShrunk(_) => Status::Device,
             Fault::CommandLine(..) | Fault::NoAgent(..) => Status::CommandLine,
             Fault::File(_, _, status) | Fault::Told(status) => status,
             _ => Status::Refused,
-        }
-    }
-
-    /// What a person reads behind the fault's line; empty where there is no more to say.
-    fn meaning(self) -> &'static str {
-        match self {
-            Fault::BadLine(_, cause) => meaning_of(cause),
-            Fault::BadStreamLine(_, "BadHex") => "a packet stands in hex digits, two for each byte",
-            Fault::BadStreamLine(..) => "a line has at most 16777216 bytes",
-            _ => "",
         }
     }
 
@@ -224,18 +209,22 @@ impl Fault<'_> {
             Fault::NoAgent(agent, count) => eprintln!(rt;
                 "error: --agent {agent}: the schedule has {count} agents, counted from 0"
             ),
-            Fault::Held(what, number, fault) => eprintln!(rt; "{what} {number}: {fault}"),
+            Fault::NotHeld(what, number, fault) => eprintln!(rt; "{what} {number}: {fault}"),
             Fault::NotShrunk(fault) => eprintln!(rt; "no shorter schedule: {fault}"),
             Fault::Told(_) => Ok(()),
         };
     }
 
-    /// Says on standard error why a command ends, and gives its status. Where the reader of standard output has gone, as
-    /// `head` does, nothing is said: it has what it wanted. On a terminal a second line says what a bad line
-    /// means: programs read the first. A file that is called a written schedule gets a line that says what reads it.
+    /// Says on standard error why a command ends, and gives its status; nothing where the reader of standard output has gone,
+    /// as `head` does. A second line says on a terminal what a bad line means, and of a written schedule what reads it.
     pub(crate) fn tell(self, io: Io, file: Option<&str>) -> Status {
         self.put_line(io, file);
-        let meaning = self.meaning();
+        let meaning = match self {
+            Fault::BadLine(_, cause) => meaning_of(cause),
+            Fault::BadStreamLine(_, "BadHex") => "a packet stands in hex digits, two for each byte",
+            Fault::BadStreamLine(..) => "a line has at most 16777216 bytes",
+            _ => "",
+        };
         if io.is_terminal && !meaning.is_empty() {
             let _ = eprintln!(io.rt; "{meaning}");
         }

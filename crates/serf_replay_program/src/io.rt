@@ -1,16 +1,17 @@
 //! What a command reads and writes: files, the standard streams, and memory.
 
-ghost use Rattle.std.specs.Prelude.{◌≡◌, ◌⊎◌, IfOk, Ok};
+ghost use Rattle.std.specs.Prelude.{◌≡◌};
 
-use crate::fault::{Ended, Fault, Status};
+use crate::fault::{CommandResult, Fault, Status};
 use crate::progress::{BYTES, Progress};
 use clap::ArgMatches;
 use serf_schedule::Watch;
 use serf_text::{read_input, write_output};
 use std::alloc::Global;
 use std::cell::Cell;
+use std::fmt::Display;
 use std::fs::{self, File};
-use std::io::{self, ErrorKind, IsTerminal, Printer, Read, StdinLock, Write};
+use std::io::{self, ErrorKind, IsTerminal, Read, StdinLock};
 
 /// Files, the standard streams and memory, and whether a person reads standard error.
 #[derive(Clone, Copy)]
@@ -18,8 +19,10 @@ pub(crate) struct Io<'a> {
     pub(crate) rt: &'a HostRuntime,
     /// Whether standard error is a terminal.
     pub(crate) is_terminal: bool,
-    /// Why a call of a device failed at last; `None` where none has.
-    pub(crate) cause: &'a Cell<Option<io::Error>>,
+    /// Whether an agent reads standard output: once it has ended, as its replies show, what it doesn't take counts as written.
+    pub(crate) has_agent: bool,
+    /// The error of the last call of a device that failed; `None` where none has.
+    pub(crate) last_error: &'a Cell<Option<io::Error>>,
 }
 
 /// Where a command reads from.
@@ -38,8 +41,7 @@ impl Read for Input {
     }
 }
 
-/// What a command reads, opened. It shows how much was read. Of a schedule a byte order mark before it is passed over, and
-/// a carriage return counts as a space.
+/// What a command reads, opened. Of a schedule a byte order mark is passed over, and a carriage return counts as a space.
 #[derive(Drop)]
 pub(crate) struct Source<'a> {
     io: Io<'a>,
@@ -58,7 +60,7 @@ impl Read for Source<'_> {
             buf.copy_within(3..read, 0);
             read -= 3;
             if read == 0 {
-                read = self.input.read(buf)?;
+                read = self.io.noted(self.input.read(buf))?;
             }
         }
         self.count = self.count.saturating_add(read as u64);
@@ -75,59 +77,41 @@ impl Read for Source<'_> {
 }
 
 impl<'a> Source<'a> {
-    /// The same, of which is known that it is a schedule.
+    /// This source, which is read as a schedule: without a byte order mark, and with spaces for carriage returns.
     pub(crate) fn of_schedule(mut self) -> Source<'a> {
         self.is_schedule = true;
         self
     }
 
-    /// Does a job that reads it piece by piece, and may write to standard output what comes of each.
-    pub(crate) fn stream<T, E, F>(mut self, job: F) -> Result<T, E>
-    where
-        F: FnOnce(Global, &mut Source<'_>, &mut Output<'_>) -> Result<T, E>,
-        requires { F.IsAlwaysCallable job }
-    {
-        let alloc = self.io.alloc();
-        let mut output = self.io.output();
-        job(alloc, &mut self, &mut output)
-    }
-
-    /// All its bytes.
-    pub(crate) fn text<'b>(self) -> Result<Vec<u8>, Fault<'b>> {
-        Ok(self.stream(|alloc, source, _output| read_input(alloc, source))?)
+    /// All bytes of the source.
+    pub(crate) fn text<'b>(mut self) -> Result<Vec<u8>, Fault<'b>> {
+        Ok(read_input(self.io.alloc(), &mut self)?)
     }
 }
 
-/// Standard output.
-#[derive(Drop)]
-pub(crate) struct Output<'a> {
-    io: Io<'a>,
-    printer: Printer<'a, HostRuntime>,
-    /// Whether an agent's calls go there. One that takes no more of them has ended, which its replies show.
-    pub(crate) has_calls: bool,
-}
+/// Printed to standard output.
+impl Print for Io<'_> {
+    fn print<D: Display + Drop>(&self, value: D) -> io::Result<()> {
+        self.noted(self.rt.print(value))
+    }
 
-impl Output<'_> {
-    /// What came of a call, or this, as if all had been taken, where the agent that reads has ended.
-    fn taken<T: Copy>(&self, outcome: io::Result<T>, all: T) -> io::Result<T>
-        ensures { IfOk result (λ took. (outcome ≡ Ok took) ⊎ (took ≡ all)) }
-    {
-        match self.io.noted(outcome) {
-            Err(_) if self.has_calls && self.io.has_no_reader() => Ok(all),
-            outcome => outcome,
+    fn println<D: Display + Drop>(&self, value: D) -> io::Result<()> {
+        self.noted(self.rt.println(value))
+    }
+
+    fn write_all(&self, bytes: &[u8]) -> io::Result<()> {
+        self.noted(self.rt.write_all(bytes))
+    }
+
+    fn write_some(&self, bytes: &[u8]) -> io::Result<usize> {
+        let outcome = self.rt.write_some(bytes);
+        if let Err(error) = &outcome {
+            self.last_error.set(Some(*error));
+            if self.has_agent && self.has_no_reader() {
+                return Ok(bytes.len());
+            }
         }
-    }
-}
-
-impl Write for Output<'_> {
-    fn write(&mut self, buf: &[u8]) -> io::Result<usize> {
-        let outcome = self.printer.write(buf);
-        self.taken(outcome, buf.len())
-    }
-
-    fn flush(&mut self) -> io::Result<()> {
-        let outcome = self.printer.flush();
-        self.taken(outcome, ())
+        outcome
     }
 }
 
@@ -149,22 +133,14 @@ impl<'a> Io<'a> {
         ensures { result ≡ outcome }
     {
         if let Err(error) = &outcome {
-            self.cause.set(Some(*error));
+            self.last_error.set(Some(*error));
         }
         outcome
     }
 
     /// Whether a pipe was to be written that nobody reads any more.
     pub(crate) fn has_no_reader(self) -> bool {
-        matches!(self.cause.get(), Some(error) if error.kind() == ErrorKind::BrokenPipe)
-    }
-
-    pub(crate) fn output(self) -> Output<'a> {
-        Output {
-            io: self,
-            printer: io::writer(self.rt),
-            has_calls: false,
-        }
+        matches!(self.last_error.get(), Some(error) if error.kind() == ErrorKind::BrokenPipe)
     }
 
     fn source_of(self, input: Input) -> Source<'a> {
@@ -210,15 +186,22 @@ impl<'a> Io<'a> {
         Ok(self.source(matches.get_str("FILE"))?.of_schedule())
     }
 
+    /// Writes a text to standard error.
+    pub(crate) fn say(self, text: &[u8]) {
+        if let Ok(text) = str::from_utf8(text) {
+            let _ = eprint!(self.rt; "{text}");
+        }
+    }
+
     /// Writes a text to standard output.
-    pub(crate) fn finish<'b>(self, text: &[u8]) -> Ended<'b> {
-        let mut output = self.output();
-        write_output(&mut output, text).map_err(|_| Fault::WriteFault)?;
+    pub(crate) fn finish<'b>(self, text: &[u8]) -> CommandResult<'b> {
+        let outcome = write_output(&mut io::writer(&self), text);
+        outcome.map_err(|_| Fault::WriteFault)?;
         Ok(Status::Done)
     }
 
     /// Writes a file, and gives the status of that, or else this one.
-    pub(crate) fn save<'b>(self, path: &str, text: &[u8], status: Status) -> Ended<'b> {
+    pub(crate) fn save<'b>(self, path: &str, text: &[u8], status: Status) -> CommandResult<'b> {
         let outcome = self.noted(fs::write(self.rt, path, text));
         outcome.map_err(|_| Fault::WriteFault)?;
         Ok(status)

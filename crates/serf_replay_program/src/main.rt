@@ -1,7 +1,6 @@
 //! The program `serf-replay`: runs a written schedule of a whole cluster and prints its trace.
 #![tactic(auto)]
 
-mod agents;
 mod commands;
 mod fault;
 mod io;
@@ -26,15 +25,16 @@ fn words_of(io: Io) -> Result<Vec<String>, Fault<'static>> {
 }
 
 fn main(rt: HostRuntime) -> ExitCode {
-    let cause = Cell::new(None);
+    let last_error = Cell::new(None);
     let io = Io {
         rt: &rt,
         is_terminal: rt.stderr().is_terminal(),
-        cause: &cause,
+        has_agent: false,
+        last_error: &last_error,
     };
     let status = match words_of(io) {
         Ok(words) => run(io, &words),
         Err(fault) => fault.tell(io, None),
     };
-    ExitCode::from(status.code())
+    ExitCode::from(status as u8)
 }

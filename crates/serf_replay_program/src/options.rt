@@ -1,22 +1,25 @@
-//! The words of a command line: what each command takes, as rows, and what is said where an option has a bad word.
+//! The words of a command line: what each command takes, as rows; and what the words of options stand for.
 
 use crate::fault::Fault;
 use clap::builder::ValueParser;
 use clap::{Arg, ArgAction, ArgMatches, Command};
+use hex::FromHexError;
+use serf_agent::Config;
+use serf_schedule::parse_schedule;
 use std::alloc::{AllocError, Global};
 
 /// What a command takes: an option, or a word in its place.
 #[derive(Clone, Copy)]
-pub(crate) struct Row {
+pub(crate) struct OptionRow {
     /// The option, without its hyphens, or how help calls the word.
     pub(crate) name: &'static str,
-    pub(crate) takes: Takes,
+    pub(crate) takes: OptionKind,
     pub(crate) help: &'static str,
 }
 
 /// Which words an option takes, and how help calls them, or which a place does.
 #[derive(Clone, Copy)]
-pub(crate) enum Takes {
+pub(crate) enum OptionKind {
     /// A word in its place.
     Place,
     /// A word in its place, without which the command is refused.
@@ -41,13 +44,13 @@ pub(crate) struct CommandRow {
     pub(crate) name: &'static str,
     pub(crate) about: &'static str,
     pub(crate) example: &'static str,
-    pub(crate) rows: &'static [Row],
+    pub(crate) rows: &'static [OptionRow],
 }
 
 /// The rows of a command, a line each: a name, what it takes, and its help.
 macro_rules! rows {
     ($($name:literal $takes:expr => $help:expr;)*) => {
-        &[$($crate::options::Row { name: $name, takes: $takes, help: $help }),*]
+        &[$($crate::options::OptionRow { name: $name, takes: $takes, help: $help }),*]
     };
 }
 
@@ -73,23 +76,23 @@ pub(crate) const KINDS: &str = kinds!(" or rounds");
 pub(crate) const KINDS_OR_ALL: &str = kinds!(", rounds or all");
 
 /// What clap has for a row.
-fn arg_of<'a>(alloc: Global, row: &Row) -> Arg<'a> {
-    let Row { name, takes, help } = *row;
+fn arg_of<'a>(alloc: Global, row: &OptionRow) -> Arg<'a> {
+    let OptionRow { name, takes, help } = *row;
     let action = match takes {
-        Takes::Flag => ArgAction::SetTrue,
-        Takes::Places | Takes::Words(_) => ArgAction::Append,
+        OptionKind::Flag => ArgAction::SetTrue,
+        OptionKind::Places | OptionKind::Words(_) => ArgAction::Append,
         _ => ArgAction::Set,
     };
     let arg = Arg::new(alloc, name).help(help).action(action);
     match takes {
-        Takes::Place | Takes::Places => arg,
-        Takes::Needed => arg.required(true),
-        Takes::NeededNumber => arg
+        OptionKind::Place | OptionKind::Places => arg,
+        OptionKind::Needed => arg.required(true),
+        OptionKind::NeededNumber => arg
             .required(true)
             .value_parser(ValueParser::Unsigned(0, u64::MAX)),
-        Takes::Flag => arg.long(name),
-        Takes::Word(value) | Takes::Words(value) => arg.long(name).value_name(value),
-        Takes::Number(value, least, most) => arg
+        OptionKind::Flag => arg.long(name),
+        OptionKind::Word(value) | OptionKind::Words(value) => arg.long(name).value_name(value),
+        OptionKind::Number(value, least, most) => arg
             .long(name)
             .value_name(value)
             .value_parser(ValueParser::Unsigned(least, most)),
@@ -120,12 +123,13 @@ pub(crate) fn with_commands<'a>(
     Ok(program)
 }
 
-/// The word of an option is none of these, which it may have.
+/// The fault of an option `name` whose word is none of `words`, which it may have.
 pub(crate) fn bad_word<'a>(name: &'a str, words: &'a str) -> Fault<'a> {
     Fault::CommandLine("a bad word for --", name, ": here may stand ", words, "")
 }
 
-/// What the word of an option stands for: the first of these where it is left out. The words are those that it may have.
+/// What the word of the option `name` stands for by `choices`: the first of them where it is left out. `words` names all
+/// that it may have.
 pub(crate) fn chosen<'a, T: Copy>(
     matches: &ArgMatches,
     name: &'a str,
@@ -139,4 +143,62 @@ pub(crate) fn chosen<'a, T: Copy>(
         }
     }
     Err(bad_word(name, words))
+}
+
+/// The place of the agent with this name.
+fn place_named(agents: &[Config], name: &[u8]) -> Option<usize> {
+    agents
+        .iter()
+        .position(|agent| agent.name.as_slice() == name)
+}
+
+/// The place of the agent whose name is this word, or else the bytes that it spells in hex.
+fn place_of_word(
+    alloc: Global,
+    agents: &[Config],
+    word: &str,
+) -> Result<Option<usize>, AllocError> {
+    let plain = place_named(agents, word.as_bytes());
+    if plain.is_some() {
+        return Ok(plain);
+    }
+    match hex::decode(alloc, word) {
+        Ok(name) => Ok(place_named(agents, &name)),
+        Err(FromHexError::OutOfMemory) => Err(AllocError),
+        Err(_) => Ok(None),
+    }
+}
+
+/// The number of the agent that a word names. An agent's number is no other agent's name.
+fn found<'a>(alloc: Global, agents: &[Config], word: &'a str) -> Result<u64, Fault<'a>> {
+    let count = agents.len() as u64;
+    let number = word.parse::<u64>();
+    if let Ok(number) = number
+        && number < count
+    {
+        return Ok(number);
+    }
+    match place_of_word(alloc, agents, word)? {
+        Some(place) => Ok(place as u64),
+        None if number.is_ok() => Err(Fault::NoAgent(word, count)),
+        None => {
+            let why = ": no agent of the schedule has this name, as it is or in hex";
+            Err(Fault::CommandLine("--agent ", word, why, "", ""))
+        }
+    }
+}
+
+/// The numbers of the agents that the words name, of the schedule in a text; none where they name none.
+pub(crate) fn agents_of<'a>(
+    alloc: Global,
+    matches: &ArgMatches<'a>,
+    text: &[u8],
+) -> Result<Vec<u64>, Fault<'a>> {
+    let Some(words) = matches.get_strs("agent") else {
+        return Ok(Vec::new(alloc));
+    };
+    let schedule = parse_schedule(alloc, text)?;
+    let agents = schedule.agents.as_slice();
+    let numbers = words.iter().map(|word| found(alloc, agents, word));
+    numbers.try_collect(alloc)
 }

@@ -1,7 +1,7 @@
 //! Texts with places in them, and the parts that stand there.
 
 use serf_text::{put_hex, put_number};
-use std::alloc::AllocError;
+use std::alloc::{AllocError, Global};
 
 /// What stands in a place of a text.
 #[derive(Clone, Copy)]
@@ -14,63 +14,112 @@ pub(crate) enum Part<'a> {
     Hex(&'a [u8]),
     /// Bytes between quotes: what is no printable ASCII, a quote and a backslash as `\xNN`.
     Quoted(&'a [u8]),
-    /// The number of a line behind two words, as `line 7` or `LOG:7`, and then the line's date, if it has one, as
-    /// ` (2026-11-26T10:00:00Z)`.
+    /// Bytes of which those that are no printable ASCII are shown as `?`.
+    Shown(&'a [u8]),
+    /// The number of a line behind two words, as `line 7` or `LOG:7`, and the line's date in brackets, if it has one.
     Line(&'a str, &'a str, u64, &'a [u8]),
 }
 
-/// Appends bytes as they stand between quotes.
-fn put_quoted(out: &mut Vec<u8>, bytes: &[u8]) -> Result<(), AllocError> {
-    const DIGITS: &[u8; 16] = b"0123456789abcdef";
-    for byte in bytes {
-        if (b' '..=b'~').contains(byte) && *byte != b'"' && *byte != b'\\' {
-            out.extend_from_slice(&[*byte])?;
-        } else {
-            let high = DIGITS[(*byte / 16) as usize];
-            let low = DIGITS[(*byte % 16) as usize];
-            out.extend_from_slice(&[b'\\', b'x', high, low])?;
-        }
-    }
-    Ok(())
+/// A text that grows.
+#[derive(Drop)]
+pub(crate) struct Text {
+    bytes: Vec<u8>,
+    /// Whether memory ran out for a part of it.
+    is_cut: bool,
 }
 
-fn put_line(out: &mut Vec<u8>, words: [&str; 2], line: u64, date: &[u8]) -> Result<(), AllocError> {
-    let [one, other] = words;
-    out.extend_from_slice(one.as_bytes())?;
-    out.extend_from_slice(other.as_bytes())?;
-    put_number(out, line)?;
-    if date.is_empty() {
-        return Ok(());
-    }
-    out.extend_from_slice(b" (")?;
-    out.extend_from_slice(date)?;
-    out.extend_from_slice(b")")
+/// Whether `byte` is printable ASCII.
+fn is_printable(byte: u8) -> bool {
+    (b' '..=b'~').contains(&byte)
 }
 
-fn put_part(out: &mut Vec<u8>, part: Part) -> Result<(), AllocError> {
-    match part {
-        Part::Word(text) => out.extend_from_slice(text.as_bytes()),
-        Part::Bytes(bytes) => out.extend_from_slice(bytes),
-        Part::Number(number) => put_number(out, number),
-        Part::Hex(bytes) => put_hex(out, bytes),
-        Part::Quoted(bytes) => {
-            out.extend_from_slice(b"\"")?;
-            put_quoted(out, bytes)?;
-            out.extend_from_slice(b"\"")
+impl Text {
+    /// A text of no bytes. OptionKind no memory.
+    pub(crate) fn new(alloc: Global) -> Text {
+        Text {
+            bytes: Vec::new(alloc),
+            is_cut: false,
         }
-        Part::Line(one, other, line, date) => put_line(out, [one, other], line, date),
     }
-}
 
-/// Appends a text, with a part in the place of each `~`, in order.
-pub(crate) fn put(out: &mut Vec<u8>, text: &str, parts: &[Part]) -> Result<(), AllocError> {
-    for (place, piece) in text.as_bytes().split(|b| *b == b'~').enumerate() {
-        if let Some(before) = place.checked_sub(1)
-            && let Some(part) = parts.get(before)
-        {
-            put_part(out, *part)?;
-        }
-        out.extend_from_slice(piece)?;
+    /// All that was appended, where there was memory for it.
+    pub(crate) fn whole(self) -> Result<Vec<u8>, AllocError> {
+        let Text { bytes, is_cut } = self;
+        if is_cut { Err(AllocError) } else { Ok(bytes) }
     }
-    Ok(())
+
+    /// Notes by `outcome` whether there was memory for a part.
+    fn note(&mut self, outcome: Result<(), AllocError>) {
+        self.is_cut = self.is_cut || outcome.is_err();
+    }
+
+    /// Appends `bytes` as they stand.
+    fn push(&mut self, bytes: &[u8]) {
+        let outcome = self.bytes.extend_from_slice(bytes);
+        self.note(outcome);
+    }
+
+    fn push_quoted(&mut self, bytes: &[u8]) {
+        const DIGITS: &[u8; 16] = b"0123456789abcdef";
+        self.push(b"\"");
+        for byte in bytes {
+            if is_printable(*byte) && *byte != b'"' && *byte != b'\\' {
+                self.push(&[*byte]);
+            } else {
+                let high = DIGITS[(*byte / 16) as usize];
+                let low = DIGITS[(*byte % 16) as usize];
+                self.push(&[b'\\', b'x', high, low]);
+            }
+        }
+        self.push(b"\"");
+    }
+
+    fn push_shown(&mut self, bytes: &[u8]) {
+        for byte in bytes {
+            self.push(&[if is_printable(*byte) { *byte } else { b'?' }]);
+        }
+    }
+
+    fn push_number(&mut self, number: u64) {
+        let outcome = put_number(&mut self.bytes, number);
+        self.note(outcome);
+    }
+
+    fn push_line(&mut self, one: &str, other: &str, line: u64, date: &[u8]) {
+        self.push(one.as_bytes());
+        self.push(other.as_bytes());
+        self.push_number(line);
+        if !date.is_empty() {
+            self.push(b" (");
+            self.push(date);
+            self.push(b")");
+        }
+    }
+
+    fn push_part(&mut self, part: Part) {
+        match part {
+            Part::Word(text) => self.push(text.as_bytes()),
+            Part::Bytes(bytes) => self.push(bytes),
+            Part::Number(number) => self.push_number(number),
+            Part::Hex(bytes) => {
+                let outcome = put_hex(&mut self.bytes, bytes);
+                self.note(outcome);
+            }
+            Part::Quoted(bytes) => self.push_quoted(bytes),
+            Part::Shown(bytes) => self.push_shown(bytes),
+            Part::Line(one, other, line, date) => self.push_line(one, other, line, date),
+        }
+    }
+
+    /// Appends a text, with a part in the place of each `~`, in order. Where memory ran out there is no whole.
+    pub(crate) fn put(&mut self, text: &str, parts: &[Part]) {
+        for (place, piece) in text.as_bytes().split(|b| *b == b'~').enumerate() {
+            if let Some(before) = place.checked_sub(1)
+                && let Some(part) = parts.get(before)
+            {
+                self.push_part(*part);
+            }
+            self.push(piece);
+        }
+    }
 }

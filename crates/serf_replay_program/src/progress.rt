@@ -5,7 +5,7 @@ use serf_schedule::Watch;
 use std::io;
 use std::time::{Duration, Instant};
 
-/// A run shows a line each time that so many seconds are over, and a shorter run none.
+/// How many seconds are between two lines of a run; a shorter run shows none.
 const PERIOD_SECONDS: u64 = 1;
 
 /// What a run counts, as its line says it, and for how many of them the clock is read once.
@@ -44,8 +44,7 @@ pub(crate) struct Progress<'a> {
 }
 
 impl<'a> Progress<'a> {
-    /// What is reported from here on is of schedules of this kind, where it is to be said, and comes after so many that were
-    /// done.
+    /// From here on lines name the kind `kind`, where there is one, and count what is done behind `before` that were done.
     pub(crate) fn goes_on(&mut self, kind: Option<&'static str>, before: u64) {
         self.kind = kind;
         self.before = before;

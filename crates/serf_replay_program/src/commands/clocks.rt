@@ -1,8 +1,8 @@
 //! `clocks`: the clocks that a snapshot keeps.
 
-use crate::fault::{Ended, Fault, Status};
+use crate::fault::{CommandResult, Fault, Status};
 use crate::io::{Io, name_of};
-use crate::options::Takes::Needed;
+use crate::options::OptionKind::Needed;
 use crate::options::{CommandRow, rows};
 use clap::ArgMatches;
 use serf_judge::{behind_leave, is_snapshot};
@@ -19,22 +19,16 @@ pub(crate) const COMMAND: CommandRow = CommandRow {
     },
 };
 
-/// Appends these lines, each after a few words.
-fn put_behind(text: &mut Vec<u8>, words: &[u8], lines: &[u8]) -> Result<(), AllocError> {
-    for line in lines.split_inclusive(|byte| *byte == b'\n') {
-        text.extend_from_slice(words)?;
-        text.extend_from_slice(line)?;
-    }
-    Ok(())
-}
-
 /// The clocks of a snapshot; and those that Serf goes on from without `-rejoin`, where a line `leave` stands in it.
 fn all_clocks(alloc: Global, snapshot: &[u8]) -> Result<Vec<u8>, AllocError> {
     let mut text = clocks_text(alloc, snapshot)?;
     let counted = behind_leave(snapshot);
     if counted.len() < snapshot.len() {
         let lines = clocks_text(alloc, counted)?;
-        put_behind(&mut text, b"without -rejoin: ", &lines)?;
+        for line in lines.split_inclusive(|byte| *byte == b'\n') {
+            text.extend_from_slice(b"without -rejoin: ")?;
+            text.extend_from_slice(line)?;
+        }
     }
     Ok(text)
 }
@@ -49,7 +43,7 @@ pub(super) fn check_snapshot<'a>(path: &'a str, text: &[u8]) -> Result<(), Fault
 }
 
 /// Prints the clocks that the snapshot in a file, or on standard input, keeps.
-pub(super) fn run<'a>(io: Io, matches: &ArgMatches<'a>) -> Ended<'a> {
+pub(super) fn run<'a>(io: Io, matches: &ArgMatches<'a>) -> CommandResult<'a> {
     let Some(file) = matches.get_str("FILE") else {
         return Ok(Status::CommandLine);
     };

@@ -1,16 +1,13 @@
-//! `conform`: any agent, held against the reference. Calls go to standard output, replies come on standard input, and the
-//! report goes to standard error.
+//! `conform`: any agent, held against the reference: its calls go to standard output, its replies come on standard input.
 
 mod hunting;
 mod report;
-mod reporting;
 mod session;
-mod shrinking;
 
 use super::random::{ACTIONS, AGENTS, rules_of};
-use crate::fault::{Ended, Fault, command_line};
+use crate::fault::{CommandResult, Fault, command_line};
 use crate::io::Io;
-use crate::options::Takes::{Flag, Number, Place, Word};
+use crate::options::OptionKind::{Flag, Number, Place, Word};
 use crate::options::{CommandRow, KINDS_OR_ALL, bad_word, rows};
 use clap::ArgMatches;
 use hunting::{hold_seeds, seeds_of};
@@ -40,9 +37,7 @@ pub(crate) const COMMAND: CommandRow = CommandRow {
 
 /// How agents are held, whatever the schedule.
 #[derive(Clone, Copy)]
-struct Asked<'a> {
-    /// The agent, as a word names it; `None` for all of them, one after another.
-    agent: Option<&'a str>,
+struct HoldOptions<'a> {
     rules: Rules,
     /// Whether the calls at which an agent fails are made fewer.
     shrinks: bool,
@@ -55,7 +50,7 @@ struct Asked<'a> {
 }
 
 /// What the words ask for. A file stands for fewer calls alone, and fewer calls are tried of one disagreement.
-fn asked_of<'a>(matches: &ArgMatches<'a>) -> Result<Asked<'a>, Fault<'a>> {
+fn asked_of<'a>(matches: &ArgMatches<'a>) -> Result<HoldOptions<'a>, Fault<'a>> {
     let rules = rules_of(matches)?;
     let (shrinks, save) = (matches.get_flag("shrink"), matches.get_str("save"));
     if save.is_some() && !shrinks {
@@ -66,8 +61,7 @@ fn asked_of<'a>(matches: &ArgMatches<'a>) -> Result<Asked<'a>, Fault<'a>> {
         let words = "a number, where --random is given and --shrink isn't";
         return Err(bad_word("go-on", words));
     }
-    Ok(Asked {
-        agent: matches.get_str("agent"),
+    Ok(HoldOptions {
         rules,
         shrinks,
         save,
@@ -77,11 +71,15 @@ fn asked_of<'a>(matches: &ArgMatches<'a>) -> Result<Asked<'a>, Fault<'a>> {
 }
 
 /// Holds agents against a schedule, or an agent against those of seeds.
-pub(super) fn run<'a>(io: Io, matches: &ArgMatches<'a>) -> Ended<'a> {
+pub(super) fn run<'a>(io: Io, matches: &ArgMatches<'a>) -> CommandResult<'a> {
     let asked = asked_of(matches)?;
+    let io = Io {
+        has_agent: true,
+        ..io
+    };
     match (matches.get_str("FILE"), matches.get_str("random")) {
-        (Some(file), None) => hold_file(io, file, asked),
-        (None, Some(_)) if asked.agent.is_some() => {
+        (Some(file), None) => hold_file(io, matches, file, asked),
+        (None, Some(_)) if matches.get_str("agent").is_some() => {
             Err(bad_word("agent", "an agent of a schedule, where one is given"))
         }
         (None, Some(word)) => hold_seeds(io, &seeds_of(word, matches)?, asked),

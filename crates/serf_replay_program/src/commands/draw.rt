@@ -1,15 +1,14 @@
 //! `draw`: a picture of a schedule's run.
 
-use crate::agents::agents_of;
-use crate::fault::{Ended, Fault};
+use crate::fault::{CommandResult, Fault};
 use crate::io::Io;
-use crate::options::Takes::{Flag, Number, Place, Word, Words};
-use crate::options::{CommandRow, SCHEDULE, chosen, rows};
+use crate::options::OptionKind::{Flag, Number, Place, Word, Words};
+use crate::options::{CommandRow, SCHEDULE, agents_of, chosen, rows};
 use crate::progress::{ACTIONS, Progress};
 use clap::ArgMatches;
 use serf_draw::{Asked, Picture, draw_picture, mermaid_text, svg_text};
 use serf_wire::Bytes;
-use std::alloc::{AllocError, Global};
+use std::alloc::Global;
 
 /// What the command takes.
 pub(crate) const COMMAND: CommandRow = CommandRow {
@@ -29,28 +28,19 @@ pub(crate) const COMMAND: CommandRow = CommandRow {
 
 /// What a picture is written as.
 #[derive(Clone, Copy)]
-enum Form {
+enum PictureForm {
     Svg,
     Mermaid,
 }
 
-/// The name that the words ask for, if they ask for one.
-fn event_of(alloc: Global, matches: &ArgMatches) -> Result<Option<Bytes>, AllocError> {
-    match matches.get_str("event") {
-        Some(name) => Ok(Some(Bytes::copy_of(alloc, name.as_bytes())?)),
-        None => Ok(None),
-    }
-}
-
 /// What of a run the words ask for, of the schedule in a text.
 fn asked_of<'a>(alloc: Global, matches: &ArgMatches<'a>, text: &[u8]) -> Result<Asked, Fault<'a>> {
-    let agents = match matches.get_strs("agent") {
-        Some(words) => agents_of(alloc, text, words)?,
-        None => Vec::new(alloc),
+    let event = match matches.get_str("event") {
+        Some(name) => Some(Bytes::copy_of(alloc, name.as_bytes())?),
+        None => None,
     };
-    let event = event_of(alloc, matches)?;
     Ok(Asked {
-        agents,
+        agents: agents_of(alloc, matches, text)?,
         from: matches.get_one::<u64>("from").unwrap_or(1),
         to: matches.get_one::<u64>("to").unwrap_or(u64::MAX),
         taken: matches.get_flag("taken"),
@@ -58,28 +48,23 @@ fn asked_of<'a>(alloc: Global, matches: &ArgMatches<'a>, text: &[u8]) -> Result<
     })
 }
 
-/// Says on standard error that a picture has nothing to show.
-fn tell_empty(io: Io, picture: &Picture) {
+/// Writes a picture; standard error says where it has no agent or no action.
+fn write_picture<'a>(io: Io, picture: &Picture, form: PictureForm) -> CommandResult<'a> {
     if picture.lanes.is_empty() {
         let _ = eprintln!(io.rt; "the schedule has no agents: the picture is empty");
     } else if picture.rows.is_empty() {
         let _ = eprintln!(io.rt; "no action is drawn");
     }
-}
-
-/// Writes a picture; standard error says where it has no agent or no action.
-fn write_picture<'a>(io: Io, picture: &Picture, form: Form) -> Ended<'a> {
-    tell_empty(io, picture);
     let text = match form {
-        Form::Svg => svg_text(io.alloc(), picture),
-        Form::Mermaid => mermaid_text(io.alloc(), picture),
+        PictureForm::Svg => svg_text(io.alloc(), picture),
+        PictureForm::Mermaid => mermaid_text(io.alloc(), picture),
     };
     io.finish(&text?)
 }
 
 /// Draws the run of the schedule in a file, or on standard input, as the words ask for.
-pub(super) fn run<'a>(io: Io, matches: &ArgMatches<'a>) -> Ended<'a> {
-    let forms = [("svg", Form::Svg), ("mermaid", Form::Mermaid)];
+pub(super) fn run<'a>(io: Io, matches: &ArgMatches<'a>) -> CommandResult<'a> {
+    let forms = [("svg", PictureForm::Svg), ("mermaid", PictureForm::Mermaid)];
     let form = chosen(matches, "as", &forms, "svg or mermaid")?;
     let text = io.schedule(matches)?.text()?;
     let asked = asked_of(io.alloc(), matches, &text)?;

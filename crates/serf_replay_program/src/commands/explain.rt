@@ -1,13 +1,13 @@
 //! `explain`: a schedule's trace with its reasons; or the same line by line.
 
-use crate::agents::agents_of;
-use crate::fault::{Ended, Fault, Status, command_line};
-use crate::io::{Io, Source};
-use crate::options::Takes::{Flag, Number, Place, Word};
-use crate::options::{CommandRow, SCHEDULE, rows};
+use crate::fault::{CommandResult, Fault, Status, command_line};
+use crate::io::Io;
+use crate::options::OptionKind::{Flag, Number, Place, Word};
+use crate::options::{CommandRow, SCHEDULE, agents_of, rows};
 use crate::progress::{ACTIONS, Progress};
 use clap::ArgMatches;
 use serf_explain::{Range, explain, explain_lines};
+use std::io;
 
 /// What the command takes.
 pub(crate) const COMMAND: CommandRow = CommandRow {
@@ -23,16 +23,7 @@ pub(crate) const COMMAND: CommandRow = CommandRow {
     },
 };
 
-/// Which actions the words ask for, of all agents.
-fn range_of(matches: &ArgMatches) -> Range {
-    Range {
-        agent: None,
-        from: matches.get_one::<u64>("from").unwrap_or(1),
-        to: matches.get_one::<u64>("to").unwrap_or(u64::MAX),
-    }
-}
-
-/// Reports a range that has no action of a schedule with so many.
+/// Reports a `range` that has no action of a schedule with `actions` actions.
 fn tell_empty(io: Io, range: Range, actions: u64) {
     let Range { from, to, .. } = range;
     if from > actions {
@@ -42,45 +33,33 @@ fn tell_empty(io: Io, range: Range, actions: u64) {
     }
 }
 
-/// Writes what one agent does, which a word names: so the schedule is read whole first. Gives how many actions it has.
-fn explain_agent<'a>(
-    io: Io,
-    source: Source,
-    range: Range,
-    word: &'a str,
-) -> Result<u64, Fault<'a>> {
-    let text = source.text()?;
-    let agent = agents_of(io.alloc(), &text, &[word])?.first().copied();
+/// Writes the trace of what the words ask for, with its reasons. Gives how many actions the schedule has, which is read whole
+/// first.
+fn explain_part<'a>(io: Io, matches: &ArgMatches<'a>, range: Range) -> Result<u64, Fault<'a>> {
+    let text = io.schedule(matches)?.text()?;
+    let agent = agents_of(io.alloc(), matches, &text)?.first().copied();
     let (range, mut reader) = (Range { agent, ..range }, text.as_slice());
-    let (mut output, mut progress) = (io.output(), Progress::of(io, ACTIONS));
+    let (mut output, mut progress) = (io::writer(&io), Progress::of(io, ACTIONS));
     Ok(explain(io.alloc(), &mut reader, &mut output, &range, &mut progress)?)
-}
-
-/// Whether the words ask for a part of the actions.
-fn asks_for_part(matches: &ArgMatches) -> bool {
-    matches.get_str("agent").is_some()
-        || matches.get_one::<u64>("from").is_some()
-        || matches.get_one::<u64>("to").is_some()
 }
 
 /// Writes the trace of the schedule in a file, or on standard input, with its reasons; line by line where that is asked
 /// for: then a line that is bad ends it, after the text of those before.
-pub(super) fn run<'a>(io: Io, matches: &ArgMatches<'a>) -> Ended<'a> {
-    let is_streamed = matches.get_flag("stream");
-    if is_streamed && asks_for_part(matches) {
+pub(super) fn run<'a>(io: Io, matches: &ArgMatches<'a>) -> CommandResult<'a> {
+    let (from, to) = (matches.get_one::<u64>("from"), matches.get_one::<u64>("to"));
+    let is_part = from.is_some() || to.is_some() || matches.get_str("agent").is_some();
+    let range = Range {
+        agent: None,
+        from: from.unwrap_or(1),
+        to: to.unwrap_or(u64::MAX),
+    };
+    let actions = if !matches.get_flag("stream") {
+        explain_part(io, matches, range)?
+    } else if is_part {
         let why = "--stream explains all actions: leave out --agent, --from and --to";
         return Err(command_line(why));
-    }
-    let (source, range) = (io.schedule(matches)?, range_of(matches));
-    let actions = if is_streamed {
-        source.stream(|alloc, source, output| explain_lines(alloc, source, output))?
-    } else if let Some(word) = matches.get_str("agent") {
-        explain_agent(io, source, range, word)?
     } else {
-        source.stream(move |alloc, source, output| {
-            let mut progress = Progress::of(io, ACTIONS);
-            explain(alloc, source, output, &range, &mut progress)
-        })?
+        explain_lines(io.alloc(), &mut io.schedule(matches)?, &mut io::writer(&io))?
     };
     tell_empty(io, range, actions);
     Ok(Status::Done)

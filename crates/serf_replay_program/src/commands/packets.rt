@@ -1,14 +1,14 @@
-//! `decode`: the message that a packet spells, of one packet in hex or of one a line; and `encode`: texts of messages to
-//! packets, with an empty line after each text.
+//! `decode`: the messages that packets in hex spell; and `encode`: the packets of such texts, an empty line after each.
 
-use crate::fault::{Ended, Fault, Status, stream_fault};
+use crate::fault::{CommandResult, Fault, Status, stream_fault};
 use crate::io::Io;
-use crate::options::Takes::Place;
+use crate::options::OptionKind::Place;
 use crate::options::{CommandRow, rows};
 use clap::ArgMatches;
 use hex::FromHexError;
 use serf_packets::{Framing, FramingNotes, decode_lines, encode_blocks, framing_of};
 use serf_text::{DecodeTextFault, decode_text};
+use std::io;
 
 /// What `decode` takes.
 pub(crate) const DECODE: CommandRow = CommandRow {
@@ -28,10 +28,6 @@ pub(crate) const ENCODE: CommandRow = CommandRow {
     rows: &[],
 };
 
-/// Reports framing on standard error, a line for each packet.
-#[derive(Drop)]
-struct Told<'a>(Io<'a>);
-
 /// What is said of a packet.
 fn said_of(framing: Framing) -> &'static str {
     match framing {
@@ -44,46 +40,39 @@ fn said_of(framing: Framing) -> &'static str {
     }
 }
 
-impl FramingNotes for Told<'_> {
+/// Reported on standard error, a line for each packet.
+impl FramingNotes for Io<'_> {
     fn framed(&mut self, line: u64, framing: Framing) {
         let said = said_of(framing);
-        let _ = eprintln!(self.0.rt; "line {line} {said}");
+        let _ = eprintln!(self.rt; "line {line} {said}");
     }
 }
 
 /// Writes the answer to each line of standard input.
-fn decode_all<'a>(io: Io) -> Ended<'a> {
-    let source = io.source(None)?;
-    let outcome = source.stream(move |alloc, source, output| {
-        decode_lines(alloc, source, output, &mut Told(io))
-    });
+fn decode_all<'a>(io: Io) -> CommandResult<'a> {
+    let (mut notes, mut source) = (io, io.source(None)?);
+    let outcome = decode_lines(io.alloc(), &mut source, &mut io::writer(&io), &mut notes);
     let is_refused = outcome.map_err(|fault| stream_fault(fault, "BadHex"))?;
     Ok(Status::refused_if(is_refused))
 }
 
 /// Prints the message of a packet.
-fn print_message<'a>(io: Io, packet: &[u8]) -> Ended<'a> {
-    let text = match decode_text(io.alloc(), packet) {
-        Ok(text) => text,
+fn print_message<'a>(io: Io, packet: &[u8]) -> CommandResult<'a> {
+    match decode_text(io.alloc(), packet) {
+        Ok(text) => io.finish(&text),
         Err(DecodeTextFault::Refused(fault)) => {
             let _ = eprintln!(io.rt; "refused {fault}");
-            return Ok(Status::Refused);
+            Ok(Status::Refused)
         }
-        Err(DecodeTextFault::OutOfMemory) => return Err(Fault::NoMemory),
-    };
-    io.finish(&text)
-}
-
-/// The place of the first character that is no hex digit, counted from 0.
-fn other_place(text: &str) -> Option<usize> {
-    text.chars()
-        .position(|character| !character.is_ascii_hexdigit())
+        Err(DecodeTextFault::OutOfMemory) => Err(Fault::NoMemory),
+    }
 }
 
 /// Says why a word is no packet in hex. Of one that names a file the second line says how a file is read.
 fn tell_bad_hex(io: Io, text: &str) -> Status {
     let count = text.len();
-    let _ = match other_place(text) {
+    let mut characters = text.chars();
+    let _ = match characters.position(|character| !character.is_ascii_hexdigit()) {
         Some(place) => {
             let number = place.saturating_add(1);
             eprintln!(io.rt; "bad hex: character {number} is no hex digit")
@@ -97,7 +86,7 @@ fn tell_bad_hex(io: Io, text: &str) -> Status {
 }
 
 /// Prints the message of a packet in hex, after a line on standard error where it has framing.
-fn decode_word<'a>(io: Io, text: &str) -> Ended<'a> {
+fn decode_word<'a>(io: Io, text: &str) -> CommandResult<'a> {
     let packet = match hex::decode(io.alloc(), text) {
         Ok(packet) => packet,
         Err(FromHexError::OutOfMemory) => return Err(Fault::NoMemory),
@@ -111,7 +100,7 @@ fn decode_word<'a>(io: Io, text: &str) -> Ended<'a> {
 }
 
 /// Prints the message of the packet that is given, or of each on standard input.
-pub(super) fn decode<'a>(io: Io, matches: &ArgMatches<'a>) -> Ended<'a> {
+pub(super) fn decode<'a>(io: Io, matches: &ArgMatches<'a>) -> CommandResult<'a> {
     match matches.get_str("HEX") {
         None | Some("-") => decode_all(io),
         Some(text) => decode_word(io, text),
@@ -120,9 +109,9 @@ pub(super) fn decode<'a>(io: Io, matches: &ArgMatches<'a>) -> Ended<'a> {
 
 /// Writes the answer to each text on standard input. One that the end of the input cuts off gets a line on standard
 /// error.
-pub(super) fn encode<'a>(io: Io, _matches: &ArgMatches<'a>) -> Ended<'a> {
-    let source = io.source(None)?;
-    let outcome = source.stream(|alloc, source, output| encode_blocks(alloc, source, output));
+pub(super) fn encode<'a>(io: Io, _matches: &ArgMatches<'a>) -> CommandResult<'a> {
+    let mut source = io.source(None)?;
+    let outcome = encode_blocks(io.alloc(), &mut source, &mut io::writer(&io));
     let blocks = outcome.map_err(|fault| stream_fault(fault, "BadText"))?;
     if blocks.is_cut {
         let _ = eprintln!(io.rt; "the last text is cut off: its last line has no newline");

@@ -1,8 +1,8 @@
 //! `random`: a schedule from a seed.
 
-use crate::fault::{Ended, Fault};
+use crate::fault::{CommandResult, Fault};
 use crate::io::Io;
-use crate::options::Takes::{NeededNumber, Number, Word};
+use crate::options::OptionKind::{NeededNumber, Number, Word};
 use crate::options::{CommandRow, KINDS, bad_word, chosen, rows};
 use crate::progress::{self, Progress};
 use clap::ArgMatches;
@@ -113,12 +113,8 @@ pub(super) fn rules_of<'a>(matches: &ArgMatches) -> Result<Rules, Fault<'a>> {
 /// long.
 const ROOM: usize = 4096;
 
-/// What is said then, on standard error.
-const CUT_OFF: &str =
-    "random: a schedule has at most 16777216 bytes, so the last rounds may be missing";
-
 /// Writes the random schedule that is asked for, whose turns keep to the rules that the words name.
-pub(super) fn run<'a>(io: Io, matches: &ArgMatches<'a>) -> Ended<'a> {
+pub(super) fn run<'a>(io: Io, matches: &ArgMatches<'a>) -> CommandResult<'a> {
     let seed = matches.get_one::<u64>("SEED");
     let ask = ask_of(matches, seed.ok_or(bad_word("SEED", "a number"))?)?;
     let mut progress = Progress::of(io, progress::ACTIONS);
@@ -128,7 +124,9 @@ pub(super) fn run<'a>(io: Io, matches: &ArgMatches<'a>) -> Ended<'a> {
     };
     let text = made?.text;
     if ask.kind.is_rounds() && MAX_SCHEDULE_BYTES.saturating_sub(text.len()) < ROOM {
-        let _ = eprintln!(io.rt; "{CUT_OFF}");
+        let _ = eprintln!(io.rt;
+            "random: a schedule has at most 16777216 bytes, so the last rounds may be missing"
+        );
     }
     io.finish(&text)
 }

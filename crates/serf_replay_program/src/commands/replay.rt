@@ -1,16 +1,17 @@
-//! `replay`: the trace of a schedule; or its summary; or its turns, line by line.
+//! `replay`: the trace of a schedule; or its turns, line by line; or its summary, a line for each thing that was counted.
 
-mod summary;
-
-use crate::fault::{Ended, Fault, Status};
+use crate::fault::{CommandResult, Fault, Status};
 use crate::io::Io;
-use crate::options::Takes::{Flag, Place, Word};
+use crate::options::OptionKind::{Flag, Place, Word};
 use crate::options::{CommandRow, SCHEDULE, bad_word, chosen, rows};
+use crate::parts::Part::{Bytes, Hex, Number};
+use crate::parts::Text;
 use crate::progress::{ACTIONS, Progress};
 use clap::ArgMatches;
 use serf_replay::{Summary, replay, replay_lines, summarize, summarize_lines};
 use serf_schedule::parse_schedule;
-use summary::{CSV, Form, JSON, TEXT, summary_text};
+use std::alloc::{AllocError, Global};
+use std::io;
 
 /// What the command takes.
 pub(crate) const COMMAND: CommandRow = CommandRow {
@@ -25,8 +26,90 @@ pub(crate) const COMMAND: CommandRow = CommandRow {
     },
 };
 
+/// How a summary is written: the lines, with what was counted in place of each `~`, then how often it came, and at which
+/// action at last.
+#[derive(Clone, Copy)]
+struct SummaryForm {
+    actions: &'static str,
+    answer: &'static str,
+    agent: &'static str,
+    event: &'static str,
+    /// The line of an agent that was handed nothing. Where it is `None` such have no line, and the others stand in the order
+    /// in which they were first handed something; else all stand by their numbers.
+    idle_agent: Option<&'static str>,
+}
+
+/// For a person.
+const TEXT: SummaryForm = SummaryForm {
+    actions: "actions ~\n",
+    answer: "answered ~: ~, last at action ~\n",
+    agent: "agent ~ was handed: ~, last at action ~\n",
+    event: "event ~ ~ ~ was handed out: ~, last at action ~\n",
+    idle_agent: None,
+};
+
+/// A table.
+const CSV: SummaryForm = SummaryForm {
+    actions: "what,answer,agent,time,name,payload,times,last\nactions,,,,,,~,\n",
+    answer: "answer,~,,,,,~,~\n",
+    agent: "agent,,~,,,,~,~\n",
+    event: "event,,,~,~,~,~,~\n",
+    idle_agent: Some("agent,,~,,,,0,\n"),
+};
+
+/// An object a line.
+const JSON: SummaryForm = SummaryForm {
+    actions: "{\"what\":\"actions\",\"times\":~}\n",
+    answer: "{\"what\":\"answer\",\"answer\":\"~\",\"times\":~,\"last\":~}\n",
+    agent: "{\"what\":\"agent\",\"agent\":~,\"times\":~,\"last\":~}\n",
+    event: "{\"what\":\"event\",\"time\":~,\"name\":\"~\",\"payload\":\"~\",\"times\":~,\"last\":~}\n",
+    idle_agent: Some("{\"what\":\"agent\",\"agent\":~,\"times\":0}\n"),
+};
+
+/// Appends a line for each agent, or for each that was handed something.
+fn put_agents(out: &mut Text, form: &SummaryForm, summary: &Summary) {
+    let Some(idle) = form.idle_agent else {
+        for (agent, spread) in summary.agents.iter() {
+            let (times, last) = (Number(spread.times), Number(spread.last));
+            out.put(form.agent, &[Number(*agent), times, last]);
+        }
+        return;
+    };
+    for agent in 0..summary.size {
+        match summary.agents.get(&agent) {
+            Some(spread) => {
+                let (times, last) = (Number(spread.times), Number(spread.last));
+                out.put(form.agent, &[Number(agent), times, last]);
+            }
+            None => out.put(idle, &[Number(agent)]),
+        }
+    }
+}
+
+/// The text of a summary.
+fn summary_text(
+    alloc: Global,
+    form: &SummaryForm,
+    summary: &Summary,
+) -> Result<Vec<u8>, AllocError> {
+    let mut out = Text::new(alloc);
+    out.put(form.actions, &[Number(summary.actions)]);
+    for (label, spread) in summary.answers.iter() {
+        let (times, last) = (Number(spread.times), Number(spread.last));
+        out.put(form.answer, &[Bytes(label), times, last]);
+    }
+    put_agents(&mut out, form, summary);
+    for (event, spread) in summary.events.iter() {
+        let (name, payload) = (Hex(event.name.as_slice()), Hex(event.payload.as_slice()));
+        let (times, last) = (Number(spread.times), Number(spread.last));
+        let parts = [Number(event.time), name, payload, times, last];
+        out.put(form.event, &parts);
+    }
+    out.whole()
+}
+
 /// The form that the words ask for. Only a summary has one.
-fn form_of<'a>(matches: &ArgMatches) -> Result<Form, Fault<'a>> {
+fn form_of<'a>(matches: &ArgMatches) -> Result<SummaryForm, Fault<'a>> {
     let words = "text, csv or json, where --summary is given too";
     if !matches.get_flag("summary") && matches.get_str("as").is_some() {
         return Err(bad_word("as", words));
@@ -37,9 +120,9 @@ fn form_of<'a>(matches: &ArgMatches) -> Result<Form, Fault<'a>> {
 
 /// What came of the run of the schedule in a file, or on standard input.
 fn summary_of<'a>(io: Io, matches: &ArgMatches<'a>) -> Result<Summary, Fault<'a>> {
-    let source = io.schedule(matches)?;
+    let mut source = io.schedule(matches)?;
     if matches.get_flag("stream") {
-        return Ok(source.stream(|alloc, source, _output| summarize_lines(alloc, source))?);
+        return Ok(summarize_lines(io.alloc(), &mut source)?);
     }
     let schedule = parse_schedule(io.alloc(), &source.text()?)?;
     Ok(summarize(io.alloc(), schedule, &mut Progress::of(io, ACTIONS))?)
@@ -47,20 +130,24 @@ fn summary_of<'a>(io: Io, matches: &ArgMatches<'a>) -> Result<Summary, Fault<'a>
 
 /// Writes the trace of the schedule in a file, or on standard input; line by line where that is asked for: then a line that
 /// is bad ends it, after the text of those before.
-fn write_trace<'a>(io: Io, matches: &ArgMatches<'a>) -> Ended<'a> {
-    let source = io.schedule(matches)?;
+fn write_trace<'a>(io: Io, matches: &ArgMatches<'a>) -> CommandResult<'a> {
+    let mut source = io.schedule(matches)?;
+    let mut output = io::writer(&io);
     if matches.get_flag("stream") {
-        source.stream(|alloc, source, output| replay_lines(alloc, source, output))?;
+        replay_lines(io.alloc(), &mut source, &mut output)?;
     } else {
-        source.stream(move |alloc, source, output| {
-            replay(alloc, source, output, &mut Progress::of(io, ACTIONS))
-        })?;
+        replay(
+            io.alloc(),
+            &mut source,
+            &mut output,
+            &mut Progress::of(io, ACTIONS),
+        )?;
     }
     Ok(Status::Done)
 }
 
 /// Runs the schedule of a file, or of standard input.
-pub(super) fn run<'a>(io: Io, matches: &ArgMatches<'a>) -> Ended<'a> {
+pub(super) fn run<'a>(io: Io, matches: &ArgMatches<'a>) -> CommandResult<'a> {
     let form = form_of(matches)?;
     if !matches.get_flag("summary") {
         return write_trace(io, matches);

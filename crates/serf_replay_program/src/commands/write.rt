@@ -1,8 +1,8 @@
 //! `write`: the schedule that a person wrote, in the words that `replay` reads.
 
-use crate::fault::{Ended, Fault};
+use crate::fault::{CommandResult, Fault};
 use crate::io::Io;
-use crate::options::Takes::Place;
+use crate::options::OptionKind::Place;
 use crate::options::{CommandRow, rows};
 use crate::progress::{BYTES, Progress};
 use clap::ArgMatches;
@@ -20,7 +20,7 @@ pub(crate) const COMMAND: CommandRow = CommandRow {
 
 /// Writes the schedule of a file's text, or of standard input. Of a bad line it is said which word is wrong, and what may
 /// stand there.
-pub(super) fn run<'a>(io: Io, matches: &ArgMatches<'a>) -> Ended<'a> {
+pub(super) fn run<'a>(io: Io, matches: &ArgMatches<'a>) -> CommandResult<'a> {
     let text = io.source(matches.get_str("FILE"))?.text()?;
     match write(io.alloc(), &text, &mut Progress::of(io, BYTES)) {
         Ok(schedule) => io.finish(&schedule),

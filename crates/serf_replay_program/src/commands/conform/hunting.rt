@@ -1,18 +1,17 @@
 //! `conform --random`: an agent, held against the reference on the random schedules of many seeds.
 
-use super::Asked;
-use super::report::Held;
+use super::HoldOptions;
+use super::report::HeldAgent;
 use super::session::Session;
 use crate::commands::random::{ask_with, kind_of};
-use crate::fault::{Ended, Fault, Status};
+use crate::fault::{CommandResult, Fault, Status};
 use crate::io::Io;
 use crate::options::{KINDS_OR_ALL, bad_word};
 use crate::progress::{Progress, SEEDS, say_kind};
 use clap::ArgMatches;
-use serf_hunt::{Case, Found, HuntFault, Hunted, RandomSchedules, case_of, hunt, sum_of};
-use serf_random::{Ask, Kind, random_schedule};
+use serf_hunt::{Counts, Found, HuntFault, Hunted, RandomSchedules, case_of, hunt, sum_of};
+use serf_random::{Ask, Kind, Made, random_schedule};
 use serf_schedule::Unwatched;
-use std::alloc::{AllocError, Global};
 
 /// The names of all kinds, in the order in which they are held.
 const KINDS: &str =
@@ -34,11 +33,8 @@ pub(super) struct Seeds {
 fn ends_of(word: &str) -> Option<(u64, u64)> {
     let (first, last) = word.split_once("-").unwrap_or((word, word));
     let first = first.parse::<u64>().ok()?;
-    let last = last.parse::<u64>().ok()?;
-    if first > last {
-        return None;
-    }
-    Some((first, last.checked_add(1)?))
+    let end = last.parse::<u64>().ok()?.checked_add(1)?;
+    (first < end).then_some((first, end))
 }
 
 /// The seeds of this word, and what the words ask for of each.
@@ -64,8 +60,6 @@ pub(super) fn seeds_of<'a>(word: &str, matches: &ArgMatches) -> Result<Seeds, Fa
 struct KindProgress {
     /// What is asked for of each seed, in the place of its own seed.
     ask: Ask,
-    /// The kind's name, where it is printed.
-    name: Option<&'static str>,
     /// The first seed that wasn't held.
     next: u64,
     /// How many seeds were held to their end.
@@ -77,41 +71,46 @@ struct KindProgress {
 }
 
 impl KindProgress {
-    /// What a hunt adds that found an agent on this seed, or none before this end.
-    fn held_to(&mut self, seed: u64, hunted: &Hunted) {
+    /// Adds what a hunt came to that found an agent on a seed, or none before this end.
+    fn held_to(&mut self, end: u64, counts: Counts, found: &Option<Found>) {
+        let seed = match found {
+            Some(found) => found.seed,
+            None => end,
+        };
         let agreed = seed.saturating_sub(self.next);
         self.agreed = self.agreed.saturating_add(agreed);
-        self.calls = self.calls.saturating_add(hunted.counts.calls);
+        self.calls = self.calls.saturating_add(counts.calls);
+        self.found = self.found.saturating_add(found.is_some() as u64);
         self.next = seed.saturating_add(1);
     }
-
-    /// Reports what came of all seeds of the kind, and gives the status.
-    fn tell_end(&self, io: Io) -> Status {
-        let (agreed, calls, found) = (self.agreed, self.calls, self.found);
-        let _ = say_kind(io, self.name);
-        if found == 0 {
-            let _ = eprintln!(io.rt; "{agreed} seeds and {calls} calls agree");
-            return Status::Done;
-        }
-        let _ = eprintln!(io.rt; "{agreed} seeds and {calls} calls agree, and {found} seeds don't");
-        Status::Refused
-    }
-}
-
-/// The text of a seed's schedule, and its case.
-fn made_again(alloc: Global, ask: Ask, seed: u64) -> Result<(Vec<u8>, Case), AllocError> {
-    let made = random_schedule(alloc, &Ask { seed, ..ask }, &mut Unwatched)?;
-    let case = case_of(alloc, made.schedule)?;
-    Ok((made.text, case))
 }
 
 impl Session<'_> {
-    /// Reports which agent of which seed does otherwise, and gives the status with which it goes on.
-    fn conclude_found<'b>(&mut self, ask: Ask, found: &Found) -> Ended<'b> {
-        let Found { seed, other } = found;
-        let (text, case) = made_again(self.io.alloc(), ask, *seed)?;
-        self.conclude(&Held {
-            seed: Some(*seed),
+    /// Reports what came of all seeds of a kind, and gives the status.
+    fn tell_end(&self, kind: &KindProgress) -> Status {
+        let (agreed, calls, found) = (kind.agreed, kind.calls, kind.found);
+        let _ = say_kind(self.io, self.report.kind);
+        if found == 0 {
+            let _ = eprintln!(self.io.rt; "{agreed} seeds and {calls} calls agree");
+            return Status::Done;
+        }
+        let _ = eprintln!(self.io.rt;
+            "{agreed} seeds and {calls} calls agree, and {found} seeds don't"
+        );
+        Status::Refused
+    }
+
+    /// Reports which agent of which seed does otherwise, how many seeds of its kind agree before, and how.
+    fn tell_found<'b>(&mut self, kind: &KindProgress, found: &Found) -> CommandResult<'b> {
+        let (alloc, seed, other) = (self.io.alloc(), found.seed, &found.other);
+        let (agreed, calls) = (kind.agreed, kind.calls);
+        let _ = say_kind(self.io, self.report.kind);
+        let _ = eprintln!(self.io.rt; "seed {seed}: {agreed} seeds and {calls} calls agree before");
+        let ask = Ask { seed, ..kind.ask };
+        let Made { schedule, text } = random_schedule(alloc, &ask, &mut Unwatched)?;
+        let case = case_of(alloc, schedule)?;
+        self.conclude(&HeldAgent {
+            seed: Some(seed),
             text: &text,
             case: &case,
             agent: other.agent,
@@ -119,87 +118,64 @@ impl Session<'_> {
         })
     }
 
-    /// What a hunt over the seeds of a kind that are left comes to, which the sums then have.
+    /// Holds an agent against the seeds of a kind that are left, up to the first that it does otherwise on, if it does on
+    /// one. The sums then have what came of it.
     fn hunt_on<'b>(
-        &mut self,
-        end: u64,
-        kind: &KindProgress,
-        progress: &mut Progress,
-    ) -> Result<Hunted, Fault<'b>> {
-        let maker = RandomSchedules(kind.ask);
-        let (alloc, rules, first) = (self.io.alloc(), self.asked.rules, kind.next);
-        let (reader, writer) = (&mut self.reader, &mut self.writer);
-        match hunt(alloc, &maker, reader, writer, rules, first, end, progress) {
-            Ok(hunted) => {
-                self.reporting.counts = sum_of(self.reporting.counts, hunted.counts);
-                Ok(hunted)
-            }
-            Err(HuntFault { seed, fault }) => {
-                self.reporting.has_fault = true;
-                let _ = say_kind(self.io, kind.name);
-                Err(Fault::Held("seed", seed, fault))
-            }
-        }
-    }
-
-    /// Holds an agent against the seeds of a kind that are left, up to the first that it does otherwise on, and reports
-    /// what came of it: the status of all of them, or `None` where it may go on.
-    fn hold_on<'b>(
         &mut self,
         end: u64,
         kind: &mut KindProgress,
         progress: &mut Progress,
-    ) -> Result<Option<Status>, Fault<'b>> {
-        let hunted = self.hunt_on(end, kind, progress)?;
-        let Some(found) = &hunted.found else {
-            kind.held_to(end, &hunted);
-            return Ok(Some(kind.tell_end(self.io)));
-        };
-        let seed = found.seed;
-        kind.held_to(seed, &hunted);
-        kind.found = kind.found.saturating_add(1);
-        let _ = say_kind(self.io, kind.name);
-        let (agreed, calls) = (kind.agreed, kind.calls);
-        let _ = eprintln!(self.io.rt; "seed {seed}: {agreed} seeds and {calls} calls agree before");
-        self.conclude_found(kind.ask, found)?;
-        Ok(None)
+    ) -> Result<Option<Found>, Fault<'b>> {
+        let maker = RandomSchedules(kind.ask);
+        let (alloc, rules, first) = (self.io.alloc(), self.asked.rules, kind.next);
+        let (reader, writer) = (&mut self.reader, &mut self.writer);
+        match hunt(alloc, &maker, reader, writer, rules, first, end, progress) {
+            Ok(Hunted { counts, found }) => {
+                self.report.counts = sum_of(self.report.counts, counts);
+                kind.held_to(end, counts, &found);
+                Ok(found)
+            }
+            Err(HuntFault { seed, fault }) => {
+                self.report.has_fault = true;
+                let _ = say_kind(self.io, self.report.kind);
+                Err(Fault::NotHeld("seed", seed, fault))
+            }
+        }
     }
 
     /// Holds an agent against all seeds of a kind, and goes on after a disagreement as often as is asked for. Gives the
     /// status with which it goes on.
-    fn hold_kind<'b>(&mut self, seeds: &Seeds, kind: &mut KindProgress) -> Ended<'b> {
+    fn hold_kind<'b>(&mut self, seeds: &Seeds, kind: &mut KindProgress) -> CommandResult<'b> {
         let mut progress = Progress::of(self.io, SEEDS);
-        for _ in self.reporting.disagreements..self.asked.go_on.unwrap_or(1) {
-            progress.goes_on(kind.name, kind.next.saturating_sub(seeds.first));
-            if let Some(status) = self.hold_on(seeds.end, kind, &mut progress)? {
-                return Ok(status);
-            }
+        for _ in self.report.disagreements..self.asked.go_on.unwrap_or(1) {
+            progress.goes_on(self.report.kind, kind.next.saturating_sub(seeds.first));
+            match self.hunt_on(seeds.end, kind, &mut progress)? {
+                Some(found) => self.tell_found(kind, &found)?,
+                None => return Ok(self.tell_end(kind)),
+            };
         }
         Err(Fault::Told(Status::Refused))
     }
 
     /// Holds an agent against all seeds, kind by kind: the greatest of their statuses. Adds to the report how many seeds
     /// agree.
-    fn hold_kinds<'b>(&mut self, seeds: &Seeds) -> Ended<'b> {
+    fn hold_kinds<'b>(&mut self, seeds: &Seeds) -> CommandResult<'b> {
         let mut status = Status::Done;
         for word in KINDS.split(' ') {
             let kind = Kind::of_name(word.as_bytes()).unwrap_or(seeds.ask.kind);
             if !seeds.are_of_all_kinds && seeds.ask.kind != kind {
                 continue;
             }
-            let name = seeds.are_of_all_kinds.then_some(word);
-            self.reporting.kind = name;
+            self.report.kind = seeds.are_of_all_kinds.then_some(word);
             let mut held = KindProgress {
                 ask: Ask { kind, ..seeds.ask },
-                name,
                 next: seeds.first,
                 agreed: 0,
                 calls: 0,
                 found: 0,
             };
             let came = self.hold_kind(seeds, &mut held);
-            let schedules = self.reporting.schedules;
-            self.reporting.schedules = schedules.saturating_add(held.agreed);
+            self.report.schedules = self.report.schedules.saturating_add(held.agreed);
             status = status.max(came?);
         }
         Ok(status)
@@ -208,8 +184,8 @@ impl Session<'_> {
 
 /// Holds an agent on standard input and output against the random schedules of all seeds, up to the first that it does
 /// otherwise on, or to as many as are asked for.
-pub(super) fn hold_seeds<'a>(io: Io, seeds: &Seeds, asked: Asked<'a>) -> Ended<'a> {
-    let mut session = Session::new(io, asked)?;
+pub(super) fn hold_seeds<'a>(io: Io, seeds: &Seeds, asked: HoldOptions<'a>) -> CommandResult<'a> {
+    let mut session = Session::new(&io, asked)?;
     let ended = session.hold_kinds(seeds);
     session.finish(ended)
 }

@@ -1,68 +1,26 @@
-//! What is said of an agent that was held, on standard error.
+//! What came of an agent that was held: for a person on standard error, and for machines in a file.
 
-use super::reporting::Reporting;
-use crate::fault::{Ended, Status};
+use crate::fault::{CommandResult, Fault, Status};
 use crate::io::Io;
-use crate::parts::Part::Number;
-use crate::parts::put;
+use crate::parts::Part::{Bytes, Number, Shown};
+use crate::parts::Text;
 use serf_conform::{
     End, Reply, Verdict, given_packet, look_line, look_reply, opening, put_call, put_open,
     put_reply_line, wanted,
 };
-use serf_hunt::Case;
-use serf_model::Line;
+use serf_hunt::{Case, Counts, Disagreement, Sums, no_counts, put_disagreement, put_sums};
 use serf_text::decode_text;
 use std::alloc::{AllocError, Global};
 
-/// A byte as it is shown: one that is no printable ASCII as `?`.
-fn shown_byte(byte: u8) -> char {
-    if byte.is_ascii_graphic() || byte == b' ' {
-        char::from(byte)
-    } else {
-        '?'
-    }
-}
-
-/// The bytes of a line as they are shown.
-fn shown_text(alloc: Global, text: &[u8]) -> Result<String, AllocError> {
-    text.iter().map(|byte| shown_byte(*byte)).collect(alloc)
-}
-
-/// Prints a whole line on standard error, since a packet in it is there to be decoded.
-fn say(io: Io, text: &[u8]) {
-    if let Ok(shown) = shown_text(io.alloc(), text) {
-        let _ = eprintln!(io.rt; "{shown}");
-    }
-}
-
-/// Prints each line of a text after this word.
-fn say_lines(io: Io, word: &[u8], text: &[u8]) -> Result<(), AllocError> {
+/// Appends each line of a text after this word, or after spaces behind the first.
+fn put_lines(out: &mut Text, word: &[u8], text: &[u8]) {
     let mut before = word;
     for line in text.split(|b| *b == b'\n') {
-        if line.is_empty() {
-            continue;
+        if !line.is_empty() {
+            out.put("~~\n", &[Bytes(before), Shown(line)]);
+            before = b"       ";
         }
-        let mut out = Vec::from_slice(io.alloc(), before)?;
-        out.extend_from_slice(line)?;
-        say(io, &out);
-        before = b"       ";
     }
-    Ok(())
-}
-
-/// Whether a line of a reply ends with a carriage return.
-fn has_return(text: &[u8]) -> bool {
-    text.split(|b| *b == b'\n')
-        .any(|line| line.last() == Some(&b'\r'))
-}
-
-/// Prints the reply that came. Of a carriage return it is said what it is, since it is shown as another byte.
-fn say_reply(io: Io, got: &[u8]) -> Result<(), AllocError> {
-    say_lines(io, b"  got: ", got)?;
-    if has_return(got) {
-        let _ = eprintln!(io.rt; "  a carriage return: lines end by a newline alone");
-    }
-    Ok(())
 }
 
 /// The lines of a reply.
@@ -75,7 +33,7 @@ fn reply_text(alloc: Global, reply: &Reply) -> Result<Vec<u8>, AllocError> {
     Ok(out)
 }
 
-/// The number of the line that has the action of this number, both counted from 1.
+/// The number of the line of `text` that has action number `number`, both counted from 1, behind the lines of `agents`.
 fn line_of_action(text: &[u8], agents: usize, number: u64) -> u64 {
     let mut left = (agents as u64).saturating_add(number);
     let mut place: u64 = 0;
@@ -93,18 +51,9 @@ fn line_of_action(text: &[u8], agents: usize, number: u64) -> u64 {
     place
 }
 
-/// How many packets were sent at the first so many actions.
-fn sent_before(lines: &[Line], actions: usize) -> usize {
-    let sent = lines
-        .iter()
-        .take(actions)
-        .map(|line| line.sent.as_slice().len());
-    sent.fold(0, |sum: usize, count| sum.saturating_add(count))
-}
-
 /// An agent that was held, and its verdict.
 #[derive(Clone, Copy)]
-pub(super) struct Held<'a> {
+pub(super) struct HeldAgent<'a> {
     /// The seed of the schedule; `None` where it is of a file.
     pub(super) seed: Option<u64>,
     /// The schedule's text.
@@ -114,7 +63,7 @@ pub(super) struct Held<'a> {
     pub(super) verdict: &'a Verdict,
 }
 
-impl Held<'_> {
+impl HeldAgent<'_> {
     /// The line of the action at which the verdict stands, counted from 1; 0 where it stands at the opening, or behind the
     /// last action.
     pub(super) fn line(&self) -> u64 {
@@ -126,103 +75,87 @@ impl Held<'_> {
     }
 }
 
-/// The text of the call at which a verdict stands, and the reply that is wanted of it: of a look, of an action with the
+/// Appends the call at which a verdict stands, and gives the reply that is wanted of it: of a look, of an action with the
 /// packets that were sent before it, or else of the opening.
-fn call_and_wanted(alloc: Global, held: &Held) -> Result<(Vec<u8>, Reply), AllocError> {
-    let Held { case, verdict, .. } = *held;
-    let mut call = Vec::new(alloc);
+fn put_held_call(out: &mut Vec<u8>, alloc: Global, held: &HeldAgent) -> Result<Reply, AllocError> {
+    let HeldAgent { case, verdict, .. } = *held;
     if let Some(look) = &verdict.look {
-        call.extend_from_slice(look_line())?;
-        return Ok((call, look_reply(alloc, look)?));
+        out.extend_from_slice(look_line())?;
+        return look_reply(alloc, look);
     }
     let (lines, sent) = (case.trace.lines.as_slice(), case.trace.sent.as_slice());
     let place = (verdict.action as usize).wrapping_sub(1);
     let (Some(action), Some(line)) = (case.actions.get(place), lines.get(place)) else {
         if let Some(config) = case.configs.get(held.agent as usize) {
-            put_open(&mut call, config, &[])?;
+            put_open(out, config, &[])?;
         }
-        return Ok((call, opening(alloc)?));
+        return opening(alloc);
     };
-    let before = sent_before(lines, place).min(sent.len());
+    let counts = lines
+        .iter()
+        .take(place)
+        .map(|line| line.sent.as_slice().len());
+    let before = counts
+        .fold(0, |sum: usize, count| sum.saturating_add(count))
+        .min(sent.len());
     let own = line.sent.as_slice().len().min(sent.len() - before);
     let given = given_packet(action, &sent[..before]).unwrap_or(&[]);
-    put_call(&mut call, action, given)?;
-    let reply = wanted(alloc, line, given, &sent[before..before + own])?;
-    Ok((call, reply))
+    put_call(out, action, given)?;
+    wanted(alloc, line, given, &sent[before..before + own])
 }
 
 /// What `decode` writes of the packet in a line of a reply; `None` where the line has none that spells a message.
-fn message_of(alloc: Global, line: &str) -> Option<Vec<u8>> {
+fn message_of(alloc: Global, line: &str) -> Option<String> {
     let digits = line.strip_prefix("sent ")?;
     let packet = hex::decode(alloc, digits).ok()?;
-    decode_text(alloc, &packet).ok()
+    let text = decode_text(alloc, &packet).ok()?;
+    String::from_utf8(text).ok()
 }
 
-/// The first word of two lines and what is behind it in each, where both begin with the same word.
+/// The first word of `one` and `other`, and what is behind it in each, where both begin with one word.
 fn behind_one_word<'a, 'b>(one: &'a str, other: &'b str) -> Option<(&'a str, &'a str, &'b str)> {
     let (name, is) = one.split_once(' ')?;
     let (second, was) = other.split_once(' ')?;
-    if name != second {
-        return None;
-    }
-    Some((name, is, was))
+    (name == second).then_some((name, is, was))
 }
 
-/// Prints a line that is another one than is wanted. Where both begin with one word, this word is said once.
-fn say_pair(io: Io, wanted: &str, got: &str) {
-    let _ = match behind_one_word(wanted, got) {
-        Some((name, is, was)) => eprintln!(io.rt; "  {name}: wanted {is}, got {was}"),
-        None => eprintln!(io.rt; "  wanted {wanted}, got {got}"),
-    };
-}
-
+/// Prints each pair of lines that differ. Where both begin with one word, this word is said once.
 fn say_pairs(io: Io, wanted: &[&str], got: &[&str]) {
     for (one, other) in wanted.iter().zip(got.iter()) {
-        if *one != *other {
-            say_pair(io, one, other);
+        if *one == *other {
+            continue;
         }
+        let _ = match behind_one_word(one, other) {
+            Some((name, is, was)) => eprintln!(io.rt; "  {name}: wanted {is}, got {was}"),
+            None => eprintln!(io.rt; "  wanted {one}, got {other}"),
+        };
     }
 }
 
-/// Prints these lines, each after this word.
+/// Prints `lines`, each after `word`.
 fn say_all(io: Io, word: &str, lines: &[&str]) {
     for line in lines {
         let _ = eprintln!(io.rt; "  {word} {line}");
     }
 }
 
-/// How many lines two texts have in common at their start.
-fn common_front(left: &[&str], right: &[&str]) -> usize {
-    left.iter()
-        .zip(right)
-        .take_while(|(one, other)| **one == **other)
-        .count()
-}
-
-/// How many lines two texts have in common at their end.
-fn common_end(left: &[&str], right: &[&str]) -> usize {
-    left.iter()
-        .rev()
-        .zip(right.iter().rev())
-        .take_while(|(one, other)| **one == **other)
-        .count()
-}
-
-/// The lines after so many at the start, and before so many at the end.
+/// The `lines` but the first `front` and the last `end`.
 fn middle<'a, 'b>(lines: &'a [&'b str], front: usize, end: usize) -> &'a [&'b str] {
     let stop = lines.len().saturating_sub(end);
     &lines[front.min(stop)..stop]
 }
 
-/// Prints the lines of two messages that aren't in both.
+/// Prints the lines of two messages that aren't in both: those between what they have in common at the start and at the end.
 fn say_messages(io: Io, wanted: &[&str], got: &[&str]) {
     if wanted.len() == got.len() {
         say_pairs(io, wanted, got);
         return;
     }
-    let front = common_front(wanted, got);
+    let pairs = wanted.iter().zip(got);
+    let front = pairs.take_while(|(one, other)| **one == **other).count();
     let (wanted, got) = (middle(wanted, front, 0), middle(got, front, 0));
-    let end = common_end(wanted, got);
+    let pairs = wanted.iter().rev().zip(got.iter().rev());
+    let end = pairs.take_while(|(one, other)| **one == **other).count();
     say_all(io, "wanted", middle(wanted, 0, end));
     say_all(io, "got", middle(got, 0, end));
 }
@@ -231,9 +164,6 @@ fn say_messages(io: Io, wanted: &[&str], got: &[&str]) {
 fn say_packets(io: Io, wanted: &str, got: &str) -> Result<(), AllocError> {
     let alloc = io.alloc();
     let (Some(wanted), Some(got)) = (message_of(alloc, wanted), message_of(alloc, got)) else {
-        return Ok(());
-    };
-    let (Ok(wanted), Ok(got)) = (str::from_utf8(&wanted), str::from_utf8(&got)) else {
         return Ok(());
     };
     let wanted = wanted.lines().collect::<Vec<&str>>(alloc)?;
@@ -255,69 +185,177 @@ fn say_what_differs(io: Io, wanted: &[u8], got: &[u8]) -> Result<(), AllocError>
     Ok(())
 }
 
-/// Prints where a call stands, and its words: its agent, and its action with the line of the schedule, or no action for the
+/// Appends where a call stands, and its words: its agent, and its action with the line of the schedule, or no action for the
 /// opening. A look stands after an action.
-fn say_head(io: Io, held: &Held, words: &[u8]) -> Result<(), AllocError> {
+fn put_head(out: &mut Text, held: &HeldAgent, words: &[u8]) {
     let (number, line) = (held.verdict.action, held.line());
     let text = if number == 0 {
-        "agent ~: "
+        "agent ~: ~\n"
     } else if line == 0 {
-        "agent ~: behind its last call: "
+        "agent ~: behind its last call: ~\n"
     } else if held.verdict.look.is_some() {
-        "agent ~: behind action ~, line ~: "
+        "agent ~: behind action ~, line ~: ~\n"
     } else {
-        "agent ~: action ~, line ~: "
+        "agent ~: action ~, line ~: ~\n"
     };
-    let mut head = Vec::new(io.alloc());
-    let parts = [Number(held.agent), Number(number), Number(line)];
-    put(&mut head, text, &parts)?;
-    head.extend_from_slice(words)?;
-    say(io, &head);
-    Ok(())
-}
-
-/// Reports where an agent is told apart from the reference, and how, and adds it to the report.
-fn tell(io: Io, reporting: &mut Reporting, held: &Held, got: &[u8]) -> Result<(), AllocError> {
-    let (call, reply) = call_and_wanted(io.alloc(), held)?;
-    let words = &call[..call.len().saturating_sub(1)];
-    say_head(io, held, words)?;
-    let wanted = reply_text(io.alloc(), &reply)?;
-    reporting.add(held, words, &wanted);
-    say_lines(io, b"  wanted: ", &wanted)?;
-    say_reply(io, got)?;
-    say_what_differs(io, &wanted, got)
-}
-
-/// What is printed in place of a reply, where the agent ended. The sums have its verdict already.
-fn ended_words(reporting: &Reporting, verdict: &Verdict) -> &'static [u8] {
-    let is_first = reporting.counts.agents <= 1 && verdict.calls == 0;
-    if is_first {
-        b"the agent ended before its first reply"
+    let (agent, words) = (Number(held.agent), Shown(words));
+    if line == 0 {
+        out.put(text, &[agent, words]);
     } else {
-        b"the agent ended"
+        out.put(text, &[agent, Number(number), Number(line), words]);
     }
 }
 
+/// Reports where an agent is told apart from the reference, and how, and adds it to the report. Of a carriage return it is
+/// said what it is, since it is shown as another byte.
+fn tell(io: Io, report: &mut Report, held: &HeldAgent, got: &[u8]) -> Result<(), AllocError> {
+    let mut call = Vec::new(io.alloc());
+    let reply = put_held_call(&mut call, io.alloc(), held)?;
+    let wanted = reply_text(io.alloc(), &reply)?;
+    let words = &call[..call.len().saturating_sub(1)];
+    report.add(held, words, &wanted);
+    let mut said = Text::new(io.alloc());
+    put_head(&mut said, held, words);
+    put_lines(&mut said, b"  wanted: ", &wanted);
+    put_lines(&mut said, b"  got: ", got);
+    if got
+        .split(|b| *b == b'\n')
+        .any(|line| line.last() == Some(&b'\r'))
+    {
+        said.put("  a carriage return: lines end by a newline alone\n", &[]);
+    }
+    io.say(&said.whole()?);
+    say_what_differs(io, &wanted, got)
+}
+
 /// Prints how many calls agree, and where it isn't all of them, why the others aren't compared.
-fn say_agreeing<'b>(io: Io, held: &Held, why: Option<&str>) -> Ended<'b> {
+fn say_agreeing(io: Io, held: &HeldAgent, why: Option<&str>) -> Status {
     let agent = held.agent;
     let Verdict { calls, action, .. } = held.verdict;
     let _ = match why {
         None => eprintln!(io.rt; "agent {agent}: {calls} calls agree"),
         Some(why) => eprintln!(io.rt; "agent {agent}: {calls} calls agree; action {action} {why}"),
     };
-    Ok(Status::Done)
+    Status::Done
 }
 
 /// Prints a verdict, adds it to the report where the agent did otherwise, and gives its status.
-pub(super) fn report<'b>(io: Io, reporting: &mut Reporting, held: &Held) -> Ended<'b> {
-    let (got, status) = match &held.verdict.end {
-        End::AllAgree => return say_agreeing(io, held, None),
-        End::OwnRule => return say_agreeing(io, held, Some("rests on an own rule")),
-        End::Unsupported => return say_agreeing(io, held, Some("is unsupported")),
+pub(super) fn tell_verdict<'b>(io: Io, report: &mut Report, held: &HeldAgent) -> CommandResult<'b> {
+    // The sums have this verdict already.
+    let is_first = report.counts.agents <= 1 && held.verdict.calls == 0;
+    let (got, status): (&[u8], Status) = match &held.verdict.end {
+        End::AllAgree => return Ok(say_agreeing(io, held, None)),
+        End::OwnRule => return Ok(say_agreeing(io, held, Some("rests on an own rule"))),
+        End::Unsupported => return Ok(say_agreeing(io, held, Some("is unsupported"))),
         End::Differs(got) => (got.as_slice(), Status::Refused),
-        End::Ended => (ended_words(reporting, held.verdict), Status::Device),
+        End::Ended if is_first => (b"the agent ended before its first reply", Status::Device),
+        End::Ended => (b"the agent ended", Status::Device),
     };
-    tell(io, reporting, held, got)?;
+    tell(io, report, held, got)?;
     Ok(status)
+}
+
+/// A report for machines as it grows, and where it goes.
+#[derive(Drop)]
+pub(super) struct Report<'a> {
+    /// Its file; `None` where no report is asked for.
+    path: Option<&'a str>,
+    text: Vec<u8>,
+    /// The name of the kind whose schedules are held, where these are of more than one kind.
+    pub(super) kind: Option<&'static str>,
+    /// How many schedules were held to their end.
+    pub(super) schedules: u64,
+    /// The sums over the agents that were held.
+    pub(super) counts: Counts,
+    pub(super) disagreements: u64,
+    /// Whether a hunt ended at a fault.
+    pub(super) has_fault: bool,
+    /// Whether memory ran out for a line.
+    is_cut: bool,
+}
+
+impl<'a> Report<'a> {
+    /// A report of nothing.
+    pub(super) fn new(alloc: Global, path: Option<&'a str>) -> Report<'a> {
+        Report {
+            path,
+            text: Vec::new(alloc),
+            kind: None,
+            schedules: 0,
+            counts: no_counts(),
+            disagreements: 0,
+            has_fault: false,
+            is_cut: false,
+        }
+    }
+
+    /// Adds where an agent did otherwise. Its reply stands in the verdict.
+    pub(super) fn add(&mut self, held: &HeldAgent, call: &[u8], wanted: &[u8]) {
+        let verdict = held.verdict;
+        let (got, has_ended): (&[u8], bool) = match &verdict.end {
+            End::Differs(got) => (got.as_slice(), false),
+            _ => (&[], true),
+        };
+        let told = Disagreement {
+            seed: held.seed,
+            kind: self.kind.map(|kind| kind.as_bytes()),
+            agent: held.agent,
+            agreed: verdict.calls,
+            action: verdict.action,
+            line: held.line(),
+            call,
+            wanted,
+            got,
+            has_ended,
+        };
+        self.disagreements = self.disagreements.saturating_add(1);
+        if put_disagreement(&mut self.text, &told).is_err() {
+            self.is_cut = true;
+        }
+    }
+
+    /// Writes the report, with the sums at its end, where one is asked for.
+    fn save<'b>(&mut self, io: Io, status: Status) -> CommandResult<'b> {
+        let Some(path) = self.path else {
+            return Ok(status);
+        };
+        let sums = Sums {
+            schedules: self.schedules,
+            calls: self.counts.calls,
+            disagreements: self.disagreements,
+            status: status as u64,
+        };
+        if self.is_cut || put_sums(&mut self.text, &sums).is_err() {
+            return Err(Fault::NoMemory);
+        }
+        io.save(path, &self.text, status)
+    }
+
+    /// Reports agents and looks that are unsupported, and writes the report, where one is asked for. Gives `status`, or
+    /// that of a disagreement where no call but `open` was compared, or that of a device that failed. Where a hunt
+    /// ended at a fault before any disagreement, there is nothing to report.
+    pub(super) fn finish<'b>(&mut self, io: Io, status: Status) -> CommandResult<'b> {
+        if self.has_fault && self.disagreements == 0 {
+            return Ok(status);
+        }
+        self.save(io, told_unsupported(io, self.counts, status))
+    }
+}
+
+/// Reports how many agents the comparison ended at an unsupported call, and how many looks are unsupported. Where by that
+/// no call but the openings was compared, all that agrees says nothing, and the status is that of a disagreement.
+fn told_unsupported(io: Io, counts: Counts, status: Status) -> Status {
+    let (agents, ended) = (counts.agents, counts.unsupported_agents);
+    let looks = counts.unsupported_looks;
+    if looks > 0 {
+        let _ = eprintln!(io.rt; "{looks} looks are unsupported");
+    }
+    if ended > 0 {
+        let _ = eprintln!(io.rt; "of {agents} agents {ended} ended at an unsupported call");
+    }
+    if ended == 0 || counts.calls > agents || status != Status::Done {
+        return status;
+    }
+    let _ = eprintln!(io.rt; "no call but open was compared");
+    Status::Refused
 }

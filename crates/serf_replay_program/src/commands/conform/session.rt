@@ -1,48 +1,109 @@
-//! An agent on standard input and output, and the agents of a schedule, held there one after another.
+//! An agent on standard input and output: it is held there, and the calls at which it fails are made fewer (`--shrink`).
 
-use super::Asked;
-use super::report::{Held, report};
-use super::reporting::Reporting;
-use super::shrinking::is_shrunk;
-use crate::agents::agents_of;
-use crate::fault::{Ended, Fault, Status};
-use crate::io::{Io, Output};
+use super::HoldOptions;
+use super::report::{HeldAgent, Report, tell_verdict};
+use crate::fault::{CommandResult, Fault, Status};
+use crate::io::Io;
+use crate::options::agents_of;
+use crate::progress::{CALLS, Progress};
+use clap::ArgMatches;
 use serf_agent::Config;
-use serf_conform::hold;
-use serf_hunt::{Case, case_of, with_verdict};
-use serf_schedule::parse_schedule;
-use std::io::{BufReader, StdinLock};
+use serf_conform::{ConformFault, End, hold};
+use serf_hunt::{Case, Shrunk, alone_schedule, calls_of, case_of, shrink, with_verdict};
+use serf_schedule::{parse_schedule, put_schedule};
+use std::alloc::{AllocError, Global};
+use std::io::{self, BufReader, Printer, StdinLock};
 
 /// An agent that is held, what is asked for, and what came of it so far.
 #[derive(Drop)]
 pub(super) struct Session<'a> {
     pub(super) io: Io<'a>,
-    pub(super) asked: Asked<'a>,
-    pub(super) reporting: Reporting<'a>,
+    pub(super) asked: HoldOptions<'a>,
+    pub(super) report: Report<'a>,
     pub(super) reader: BufReader<StdinLock<'static>>,
-    pub(super) writer: Output<'a>,
+    pub(super) writer: Printer<'a, Io<'a>>,
+}
+
+/// The text of the schedule of what is left.
+fn text_of_left(alloc: Global, config: &Config, shrunk: &Shrunk) -> Result<Vec<u8>, AllocError> {
+    let schedule = alone_schedule(alloc, config, &shrunk.calls).map_err(|_| AllocError)?;
+    let mut text = Vec::new(alloc);
+    put_schedule(&mut text, &schedule)?;
+    Ok(text)
 }
 
 impl<'a> Session<'a> {
     /// A session of which nothing was read or written yet.
-    pub(super) fn new<'b>(io: Io<'a>, asked: Asked<'a>) -> Result<Session<'a>, Fault<'b>> {
+    pub(super) fn new<'b>(
+        io: &'a Io<'a>,
+        asked: HoldOptions<'a>,
+    ) -> Result<Session<'a>, Fault<'b>> {
         let reader = BufReader::new(io.alloc(), io.rt.reader()).map_err(|_| Fault::NoMemory)?;
-        let mut writer = io.output();
-        writer.has_calls = true;
         Ok(Session {
-            io,
+            io: *io,
             asked,
-            reporting: Reporting::new(io.alloc(), asked.report),
+            report: Report::new(io.alloc(), asked.report),
             reader,
-            writer,
+            writer: io::writer(io),
         })
+    }
+
+    /// The calls of an agent up to the one at which it fails, or after which its look does, made fewer, and how many they were.
+    /// The opening is none of them.
+    fn shrunk_calls(
+        &mut self,
+        held: &HeldAgent,
+        config: &Config,
+    ) -> Result<(usize, Option<Shrunk>), ConformFault> {
+        let (alloc, rules) = (self.io.alloc(), self.asked.rules);
+        let mut progress = Progress::of(self.io, CALLS);
+        let mut calls = calls_of(alloc, held.case, held.agent)?;
+        let looks = held.verdict.look.is_some() as usize;
+        calls.truncate((held.verdict.calls as usize).saturating_sub(looks));
+        let count = calls.len();
+        let (reader, writer) = (&mut self.reader, &mut self.writer);
+        let shrunk = shrink(alloc, reader, writer, rules, config, calls, &mut progress)?;
+        Ok((count, shrunk))
+    }
+
+    /// Reports what is left, and writes its schedule to its place.
+    fn tell_shrunk<'b>(&self, config: &Config, count: usize, shrunk: &Shrunk) -> CommandResult<'b> {
+        let left = shrunk.calls.len();
+        let end = if shrunk.is_smallest {
+            ""
+        } else {
+            "; then the agent ended"
+        };
+        let _ = eprintln!(self.io.rt; "shrunk to {left} of {count} calls{end}");
+        let text = text_of_left(self.io.alloc(), config, shrunk)?;
+        if let Some(path) = self.asked.save {
+            return self.io.save(path, &text, Status::Refused);
+        }
+        self.io.say(&text);
+        Ok(Status::Refused)
+    }
+
+    /// Makes the calls fewer at which an agent fails, and gives the status as without this. Where the calls by themselves
+    /// don't fail, that is reported.
+    fn shrink_found<'b>(&mut self, held: &HeldAgent) -> CommandResult<'b> {
+        let Some(config) = held.case.configs.get(held.agent as usize) else {
+            return Ok(Status::Refused);
+        };
+        match self.shrunk_calls(held, config) {
+            Ok((count, Some(shrunk))) => self.tell_shrunk(config, count, &shrunk),
+            Ok((count, None)) => {
+                let _ = eprintln!(self.io.rt; "the {count} calls don't fail by themselves");
+                Ok(Status::Refused)
+            }
+            Err(fault) => Err(Fault::NotShrunk(fault)),
+        }
     }
 
     /// Reports a verdict, and gives the status with which it goes on. An agent that ended ends all, and so does one whose
     /// calls are made fewer.
-    pub(super) fn conclude<'b>(&mut self, held: &Held) -> Ended<'b> {
-        let status = report(self.io, &mut self.reporting, held)?;
-        if is_shrunk(&self.asked, held.verdict) {
+    pub(super) fn conclude<'b>(&mut self, held: &HeldAgent) -> CommandResult<'b> {
+        let status = tell_verdict(self.io, &mut self.report, held)?;
+        if self.asked.shrinks && matches!(&held.verdict.end, End::Differs(_)) {
             return Err(Fault::Told(self.shrink_found(held)?));
         }
         if status == Status::Device {
@@ -58,14 +119,14 @@ impl<'a> Session<'a> {
         case: &Case,
         agent: u64,
         config: &Config,
-    ) -> Ended<'b> {
+    ) -> CommandResult<'b> {
         let (alloc, rules) = (self.io.alloc(), self.asked.rules);
         let (reader, writer) = (&mut self.reader, &mut self.writer);
         let (actions, trace) = (case.actions.as_slice(), &case.trace);
         let outcome = hold(alloc, reader, writer, rules, agent, config, actions, trace);
-        let verdict = outcome.map_err(|fault| Fault::Held("agent", agent, fault))?;
-        self.reporting.counts = with_verdict(self.reporting.counts, &verdict);
-        self.conclude(&Held {
+        let verdict = outcome.map_err(|fault| Fault::NotHeld("agent", agent, fault))?;
+        self.report.counts = with_verdict(self.report.counts, &verdict);
+        self.conclude(&HeldAgent {
             seed: None,
             text,
             case,
@@ -75,12 +136,15 @@ impl<'a> Session<'a> {
     }
 
     /// Holds this agent, or all of them: the greatest of their statuses.
-    fn hold_agents<'b>(&mut self, text: &[u8], case: &Case, only: Option<u64>) -> Ended<'b> {
+    fn hold_agents<'b>(
+        &mut self,
+        text: &[u8],
+        case: &Case,
+        only: Option<u64>,
+    ) -> CommandResult<'b> {
         let mut status = Status::Done;
-        let mut agent: u64 = 0;
-        for config in &case.configs {
-            let number = agent;
-            agent = agent.saturating_add(1);
+        for (place, config) in case.configs.iter().enumerate() {
+            let number = place as u64;
             if only.is_none() || only == Some(number) {
                 status = status.max(self.hold_agent(text, case, number, config)?);
             }
@@ -88,31 +152,34 @@ impl<'a> Session<'a> {
         Ok(status)
     }
 
-    /// Reports what came of all agents, with this status or that of the fault that ended it, and gives the last status.
-    pub(super) fn finish<'b>(&mut self, ended: Ended) -> Ended<'b> {
+    /// Reports what came of all agents, with the status of `ended`, which may be a fault that is told first, and gives the
+    /// last status.
+    pub(super) fn finish<'b>(&mut self, ended: CommandResult) -> CommandResult<'b> {
         let status = match ended {
             Ok(status) => status,
             Err(fault) => fault.tell(self.io, None),
         };
-        self.reporting.finish(self.io, status)
+        self.report.finish(self.io, status)
     }
 }
 
 /// Holds the agents of the schedule in a file against the reference. A schedule with a bad line is refused before a call
 /// is written.
-pub(super) fn hold_file<'a>(io: Io, path: &'a str, asked: Asked<'a>) -> Ended<'a> {
+pub(super) fn hold_file<'a>(
+    io: Io,
+    matches: &ArgMatches<'a>,
+    path: &'a str,
+    asked: HoldOptions<'a>,
+) -> CommandResult<'a> {
     let text = io.file(path)?.of_schedule().text()?;
     let schedule = parse_schedule(io.alloc(), &text)?;
     let case = case_of(io.alloc(), schedule)?;
     if case.configs.is_empty() {
         let _ = eprintln!(io.rt; "the schedule has no agents: nothing was compared");
     }
-    let only = match asked.agent {
-        Some(word) => agents_of(io.alloc(), &text, &[word])?.first().copied(),
-        None => None,
-    };
-    let mut session = Session::new(io, asked)?;
-    session.reporting.schedules = 1;
+    let only = agents_of(io.alloc(), matches, &text)?.first().copied();
+    let mut session = Session::new(&io, asked)?;
+    session.report.schedules = 1;
     let ended = session.hold_agents(&text, &case, only);
     session.finish(ended)
 }

@@ -1,12 +1,13 @@
 //! The text of the verdicts on a log, and where a line of it stands.
 
 use crate::parts::Part::{Bytes, Line, Number, Quoted, Word};
-use crate::parts::{Part, put};
+use crate::parts::{Part, Text};
 use serf_judge::{
-    BadLine, DatedLine, EventEntry, Handed, HandedOut, Key, Log, NodeTally, QueryEntry, Tally,
-    first_event_twice, first_not_later, first_query_twice, first_unfired, log_nodes, missed_events,
-    receivers, tally_repeats,
+    BadLine, DatedLine, EventEntry, Handed, HandedOut, Key, Log, NodeTally, Tally, behind_leave,
+    first_above, first_event_twice, first_not_later, first_query_twice, first_unfired,
+    is_own_snapshot, log_nodes, missed_events, receivers, tally_repeats,
 };
+use serf_snap::read_clocks;
 use std::alloc::{AllocError, Global};
 
 /// How many bad lines are named, and how many nodes of an event that they never had.
@@ -23,44 +24,16 @@ pub(super) struct Placed<'a> {
 /// The verdicts so far, a line each.
 #[derive(Drop)]
 pub(super) struct Verdicts<'a> {
-    pub(super) text: Vec<u8>,
+    pub(super) text: Text,
     /// Whether a promise is broken, a snapshot leaves a line open, or a line is bad.
     pub(super) is_broken: bool,
     /// The logs that are judged, in order. A log alone has no name.
-    logs: Vec<Placed<'a>>,
+    pub(super) logs: &'a [Placed<'a>],
     /// The dates of their lines, in order.
-    dates: &'a [DatedLine],
-}
-
-/// Which lines a promise of firings lacks, so that it isn't asked; `None` where it is.
-fn lacks(fired: &[EventEntry], events: &[EventEntry]) -> Option<&'static str> {
-    match (fired.is_empty(), events.is_empty()) {
-        (true, _) => Some("fired"),
-        (false, true) => Some("event"),
-        (false, false) => None,
-    }
-}
-
-/// What stands before the node of this place in a list, and the node's own place.
-fn between(place: usize) -> &'static str {
-    if place == 0 { " ~" } else { ", ~" }
+    pub(super) dates: &'a [DatedLine],
 }
 
 impl<'a> Verdicts<'a> {
-    /// No verdicts yet, on these logs, whose lines have these dates. Takes no memory.
-    pub(super) fn new(
-        alloc: Global,
-        logs: Vec<Placed<'a>>,
-        dates: &'a [DatedLine],
-    ) -> Verdicts<'a> {
-        Verdicts {
-            text: Vec::new(alloc),
-            is_broken: false,
-            logs,
-            dates,
-        }
-    }
-
     /// The date of a line, or no bytes where it has none.
     fn date(&self, line: u64) -> &'a [u8] {
         let place = self.dates.partition_point(|dated| dated.line < line);
@@ -72,115 +45,15 @@ impl<'a> Verdicts<'a> {
 
     /// A line, counted from 1 over all logs, with its date. Where there are several, it is one of the last that begins
     /// before it.
-    pub(super) fn line(&self, line: u64) -> Part<'a> {
+    fn line(&self, line: u64) -> Part<'a> {
         let date = self.date(line);
         let mut part = Line("line", " ", line, date);
-        for log in &self.logs {
+        for log in self.logs {
             if self.logs.len() > 1 && log.before < line {
                 part = Line(log.name, ":", line.saturating_sub(log.before), date);
             }
         }
         part
-    }
-
-    /// Appends a text with parts in its places.
-    pub(super) fn put(&mut self, text: &str, parts: &[Part]) -> Result<(), AllocError> {
-        put(&mut self.text, text, parts)
-    }
-
-    /// Appends the same, which says that something is broken.
-    pub(super) fn put_broken(&mut self, text: &str, parts: &[Part]) -> Result<(), AllocError> {
-        self.is_broken = true;
-        self.put(text, parts)
-    }
-
-    /// Says of a promise that the log has no lines of this kind, so that it wasn't asked.
-    fn put_not_asked(&mut self, promise: &str, lines: &str) -> Result<(), AllocError> {
-        self.put("~: not asked: no ~ lines\n", &[Word(promise), Word(lines)])
-    }
-
-    fn put_holds(&mut self, promise: &str) -> Result<(), AllocError> {
-        self.put("~: holds\n", &[Word(promise)])
-    }
-
-    /// Appends an event's time and texts, and ends the line.
-    fn put_event(&mut self, event: &Key) -> Result<(), AllocError> {
-        let (name, payload) = (Quoted(event.name), Quoted(event.payload));
-        self.put(" ~ ~ ~\n", &[Number(event.time), name, payload])
-    }
-}
-
-impl<'a> Verdicts<'a> {
-    /// Appends how many events and queries were handed out in a log, and how many nodes it names.
-    fn put_counts(&mut self, alloc: Global, log: &Log) -> Result<(), AllocError> {
-        let nodes = Number(log_nodes(alloc, log)?.len() as u64);
-        let events = Number(log.events.len() as u64);
-        let queries = Number(log.queries.len() as u64);
-        let text = "read: ~ events, ~ queries, ~ nodes\n";
-        self.put(text, &[events, queries, nodes])
-    }
-
-    /// Appends a bad line, and what is wrong with it.
-    fn put_bad_line(&mut self, alloc: Global, bad: &BadLine) -> Result<(), AllocError> {
-        let cause = bad.cause;
-        let cause = format!(in alloc; "{cause}")?;
-        let line = self.line(bad.line);
-        self.put_broken("bad: ~ ~\n", &[line, Word(&cause)])
-    }
-
-    /// Appends the first bad lines of a log, and how many more there are. A log that has any isn't all sound.
-    fn put_bad(&mut self, alloc: Global, bad: &[BadLine]) -> Result<(), AllocError> {
-        for told in bad.iter().take(NAMED) {
-            self.put_bad_line(alloc, told)?;
-        }
-        if bad.len() <= NAMED {
-            return Ok(());
-        }
-        let more = bad.len().saturating_sub(NAMED) as u64;
-        self.put("bad: and ~ more\n", &[Number(more)])
-    }
-
-    /// Says whether a thing of this kind was handed to a node twice, as the places of the first two such lines tell: then it
-    /// gives what it was, and the line is to be ended.
-    fn put_once<'b, E: HandedOut>(
-        &mut self,
-        promise: &str,
-        kind: &str,
-        entries: &'b [E],
-        twice: Option<(usize, usize)>,
-    ) -> Result<Option<Key<'b>>, AllocError> {
-        if entries.is_empty() {
-            self.put_not_asked(promise, kind)?;
-            return Ok(None);
-        }
-        if let Some((earlier, later)) = twice
-            && let Some(first) = entries.get(earlier)
-            && let Some(second) = entries.get(later)
-        {
-            let (first, Handed { line, key }) = (first.handed(), second.handed());
-            let (later, earlier) = (self.line(line), self.line(first.line));
-            let parts = [Word(promise), later, earlier, Bytes(key.node)];
-            self.put_broken("~: ~ repeats ~: ~", &parts)?;
-            return Ok(Some(key));
-        }
-        self.put_holds(promise)?;
-        Ok(None)
-    }
-
-    /// Appends how often and when a node was handed a thing of this name again.
-    fn put_tally<'b>(&mut self, name: &'b str, told: &NodeTally<'b>) -> Result<(), AllocError> {
-        let tally = told.tally;
-        let parts = [Bytes(told.node), Word(name), Number(tally.count)];
-        self.put("~ was handed ~ again on ~ ", &parts)?;
-        let (first, last) = self.span(&tally);
-        let (least, greatest) = (Number(tally.least_time), Number(tally.greatest_time));
-        if tally.count == 1 {
-            return self.put("line: time ~, ~\n", &[least, first]);
-        }
-        self.put(
-            "lines: times ~ to ~, ~ to ~\n",
-            &[least, greatest, first, last],
-        )
     }
 
     /// The first and the last of lines that repeat.
@@ -193,138 +66,186 @@ impl<'a> Verdicts<'a> {
         (first, Line("", "", last, self.date(last)))
     }
 
-    /// Appends of each node how often it was handed a thing of this kind again, and that the others were handed each once.
+    /// Appends `text`, with `parts` in its places.
+    fn put(&mut self, text: &str, parts: &[Part]) {
+        self.text.put(text, parts);
+    }
+
+    /// Appends `text` with `parts`, as [`Verdicts::put`] does, and notes that something is broken.
+    fn put_broken(&mut self, text: &str, parts: &[Part]) {
+        self.is_broken = true;
+        self.put(text, parts);
+    }
+
+    /// Says of a promise that the log has no lines of this kind, so that it wasn't asked.
+    fn put_not_asked(&mut self, promise: &str, lines: &str) {
+        self.put("~: not asked: no ~ lines\n", &[Word(promise), Word(lines)]);
+    }
+
+    /// Appends an event's time and texts, and ends the line.
+    fn put_event(&mut self, event: &Key) {
+        let (name, payload) = (Quoted(event.name), Quoted(event.payload));
+        self.put(" ~ ~ ~\n", &[Number(event.time), name, payload]);
+    }
+
+    /// Appends the first bad lines of a log, and how many more there are. A log that has any isn't all sound.
+    fn put_bad(&mut self, alloc: Global, bad: &[BadLine]) -> Result<(), AllocError> {
+        for told in bad.iter().take(NAMED) {
+            let cause = told.cause;
+            let cause = format!(in alloc; "{cause}")?;
+            let parts = [self.line(told.line), Word(&cause)];
+            self.put_broken("bad: ~ ~\n", &parts);
+        }
+        if bad.len() > NAMED {
+            let more = bad.len().saturating_sub(NAMED) as u64;
+            self.put("bad: and ~ more\n", &[Number(more)]);
+        }
+        Ok(())
+    }
+
+    /// Appends how often and when a node was handed a thing again, by `told`; `name` is the thing, as `an event`.
+    fn put_tally<'b>(&mut self, name: &'b str, told: &NodeTally<'b>) {
+        let tally = told.tally;
+        let parts = [Bytes(told.node), Word(name), Number(tally.count)];
+        self.put("~ was handed ~ again on ~ ", &parts);
+        let (first, last) = self.span(&tally);
+        let (least, greatest) = (Number(tally.least_time), Number(tally.greatest_time));
+        if tally.count == 1 {
+            self.put("line: time ~, ~\n", &[least, first]);
+        } else {
+            let parts = [least, greatest, first, last];
+            self.put("lines: times ~ to ~, ~ to ~\n", &parts);
+        }
+    }
+
+    /// Appends of each node how often it was handed one of `entries` again, and that the other nodes were handed each once.
     fn put_tallies<E: HandedOut>(
         &mut self,
         alloc: Global,
-        name: &str,
-        kind: &str,
+        words: [&str; 2],
         entries: &[E],
     ) -> Result<(), AllocError> {
+        let [name, kind] = words;
         let tallies = tally_repeats(alloc, entries)?;
+        let nodes = receivers(alloc, entries)?.len();
         for told in &tallies {
-            self.put_tally(name, told)?;
+            self.put_tally(name, told);
         }
-        let others = receivers(alloc, entries)?
-            .len()
-            .saturating_sub(tallies.len());
+        let others = nodes.saturating_sub(tallies.len());
         let text = match others {
             0 => "",
             1 => "~ other node was handed each ~ once\n",
             _ => "~ other nodes were handed each ~ once\n",
         };
-        self.put(text, &[Number(others as u64), Word(kind)])
+        self.put(text, &[Number(others as u64), Word(kind)]);
+        Ok(())
     }
 
-    /// Whether an event was handed to a node twice.
-    fn judge_events(&mut self, alloc: Global, events: &[EventEntry]) -> Result<(), AllocError> {
-        let twice = first_event_twice(alloc, events)?;
-        let Some(event) = self.put_once("Once", "event", events, twice)? else {
-            return Ok(());
-        };
-        self.put_event(&event)?;
-        self.put_tallies(alloc, "an event", "event", events)
-    }
-
-    /// Whether a query was handed to a node twice.
-    fn judge_queries(&mut self, alloc: Global, queries: &[QueryEntry]) -> Result<(), AllocError> {
-        let twice = first_query_twice(alloc, queries)?;
-        let Some(query) = self.put_once("QueryOnce", "query", queries, twice)? else {
-            return Ok(());
-        };
-        let id = match query.id {
-            Some(id) => Number(id),
-            None => Word("-"),
-        };
-        self.put(" ~ ~\n", &[Number(query.time), id])?;
-        self.put_tallies(alloc, "a query", "query", queries)
-    }
-
-    /// Whether each event was fired on a line above, or in another log, where the logs have firings.
-    fn judge_fired(
+    /// Whether a thing was handed to a node twice, as the places of the first two such lines tell. The words are the promise,
+    /// a thing, and its kind.
+    fn judge_once<E: HandedOut>(
         &mut self,
         alloc: Global,
-        fired: &[EventEntry],
-        events: &[EventEntry],
+        words: [&str; 3],
+        entries: &[E],
+        twice: Option<(usize, usize)>,
     ) -> Result<(), AllocError> {
-        if let Some(lines) = lacks(fired, events) {
-            return self.put_not_asked("Fired", lines);
+        let [promise, name, kind] = words;
+        if let Some((earlier, later)) = twice
+            && let Some(first) = entries.get(earlier)
+            && let Some(second) = entries.get(later)
+        {
+            let (early, late) = (first.handed(), second.handed());
+            let (late_line, early_line) = (self.line(late.line), self.line(early.line));
+            let key = late.key;
+            let parts = [Word(promise), late_line, early_line, Bytes(key.node)];
+            self.put_broken("~: ~ repeats ~: ~", &parts);
+            match key.id {
+                Some(id) => self.put(" ~ ~\n", &[Number(key.time), Number(id)]),
+                None if kind == "query" => self.put(" ~ -\n", &[Number(key.time)]),
+                None => self.put_event(&key),
+            }
+            return self.put_tallies(alloc, [name, kind], entries);
         }
+        if entries.is_empty() {
+            self.put_not_asked(promise, kind);
+        } else {
+            self.put("~: holds\n", &[Word(promise)]);
+        }
+        Ok(())
+    }
+
+    /// Whether each event was fired on a line above, or in another log.
+    fn judge_fired(&mut self, alloc: Global, log: &Log) -> Result<(), AllocError> {
+        let (fired, events) = (log.fired.as_slice(), log.events.as_slice());
         let later = self.logs.iter().skip(1);
         let starts = later.map(|log| log.before).collect::<Vec<u64>>(alloc)?;
         if let Some(place) = first_unfired(alloc, &starts, fired, events)?
             && let Some(event) = events.get(place)
         {
             let parts = [self.line(event.line), Bytes(event.node.as_slice())];
-            self.put_broken("Fired: ~ hands out what no line above it fired: ~", &parts)?;
-            return self.put_event(&event.handed().key);
+            self.put_broken("Fired: ~ hands out what no line above it fired: ~", &parts);
+            self.put_event(&event.handed().key);
+        } else {
+            self.put("Fired: holds\n", &[]);
         }
-        self.put_holds("Fired")
+        Ok(())
     }
 
-    /// Appends which line fires no later than which, and the node.
-    fn put_not_later(&mut self, firing: &EventEntry, event: &EventEntry) -> Result<(), AllocError> {
-        let (time, handed) = (Number(firing.time), Number(event.time));
-        let (place, earlier) = (self.line(firing.line), self.line(event.line));
-        let parts = [place, time, earlier, handed];
-        self.put_broken("Later: ~ fires at ~, and ~ was handed out at ~: ", &parts)?;
-        self.put("~", &[Bytes(firing.node.as_slice())])?;
-        self.put_event(&firing.handed().key)
-    }
-
-    /// Whether each node fired only later than what it was handed on lines above, where the log has firings.
-    fn judge_later(
-        &mut self,
-        alloc: Global,
-        fired: &[EventEntry],
-        events: &[EventEntry],
-    ) -> Result<(), AllocError> {
-        if let Some(lines) = lacks(fired, events) {
-            return self.put_not_asked("Later", lines);
-        }
+    /// Whether each node fired only later than what it was handed on lines above.
+    fn judge_later(&mut self, alloc: Global, log: &Log) -> Result<(), AllocError> {
+        let (fired, events) = (log.fired.as_slice(), log.events.as_slice());
         // A log's entries stand in the order of their lines, so that only memory may run out.
         let found = first_not_later(alloc, fired, events).map_err(|_| AllocError)?;
         if let Some((place, earlier)) = found
             && let Some(firing) = fired.get(place)
             && let Some(event) = events.get(earlier)
         {
-            return self.put_not_later(firing, event);
+            let (place, earlier) = (self.line(firing.line), self.line(event.line));
+            let (time, handed) = (Number(firing.time), Number(event.time));
+            let parts = [place, time, earlier, handed];
+            self.put_broken("Later: ~ fires at ~, and ~ was handed out at ~: ", &parts);
+            self.put("~", &[Bytes(firing.node.as_slice())]);
+            self.put_event(&firing.handed().key);
+        } else {
+            self.put("Later: holds\n", &[]);
         }
-        self.put_holds("Later")
+        Ok(())
     }
 
-    /// Appends nodes with a comma between each two, and that there are others after the first so many.
-    fn put_nodes(&mut self, nodes: &[&[u8]]) -> Result<(), AllocError> {
+    /// Appends the first [`NAMED`] of `nodes` with a comma between each two, and that there are others, if there are.
+    fn put_nodes(&mut self, nodes: &[&[u8]]) {
         for (place, node) in nodes.iter().take(NAMED).enumerate() {
-            self.put(between(place), &[Bytes(node)])?;
+            let text = if place == 0 { " ~" } else { ", ~" };
+            self.put(text, &[Bytes(node)]);
         }
         if nodes.len() > NAMED {
-            return self.put(" and others\n", &[]);
+            self.put(" and others", &[]);
         }
-        self.put("\n", &[])
+        self.put("\n", &[]);
     }
 
-    /// Appends each event that some node never had, with these nodes, and how many they are.
+    /// Appends each event that some node never had, with the nodes that lack it, and how many such events there are.
     fn put_missed(&mut self, alloc: Global, events: &[EventEntry]) -> Result<(), AllocError> {
         if events.is_empty() {
-            return self.put_not_asked("Missed", "event");
+            self.put_not_asked("Missed", "event");
+            return Ok(());
         }
+        let nodes = receivers(alloc, events)?.len() as u64;
         let report = missed_events(alloc, events, NAMED + 1)?;
         for event in report.missed.iter() {
             let (name, payload) = (Quoted(event.name), Quoted(event.payload));
             let parts = [Number(event.time), name, payload];
-            self.put("Missed: ~ ~ ~ never came to", &parts)?;
-            self.put_nodes(event.nodes.as_slice())?;
+            self.put("Missed: ~ ~ ~ never came to", &parts);
+            self.put_nodes(event.nodes.as_slice());
         }
         let count = Number(report.events as u64);
-        if report.missed.is_empty() {
-            let nodes = Number(receivers(alloc, events)?.len() as u64);
-            let text = "Missed: each of ~ nodes had each of ~ events\n";
-            return self.put(text, &[nodes, count]);
-        }
-        let missed = Number(report.missed.len() as u64);
-        let text = "Missed: ~ of ~ events were missed by a node\n";
-        self.put(text, &[missed, count])
+        let (text, few) = match report.missed.len() as u64 {
+            0 => ("Missed: each of ~ nodes had each of ~ events\n", nodes),
+            missed => ("Missed: ~ of ~ events were missed by a node\n", missed),
+        };
+        self.put(text, &[Number(few), count]);
+        Ok(())
     }
 
     /// Judges a log, after lines that say how much was read and what is bad; and where it is wanted, reports what nodes
@@ -335,16 +256,77 @@ impl<'a> Verdicts<'a> {
         log: &Log,
         tells_missed: bool,
     ) -> Result<(), AllocError> {
-        let (fired, events) = (log.fired.as_slice(), log.events.as_slice());
-        self.put_counts(alloc, log)?;
+        let (events, queries) = (log.events.as_slice(), log.queries.as_slice());
+        let nodes = Number(log_nodes(alloc, log)?.len() as u64);
+        let (handed, asked) = (Number(events.len() as u64), Number(queries.len() as u64));
+        self.put(
+            "read: ~ events, ~ queries, ~ nodes\n",
+            &[handed, asked, nodes],
+        );
         self.put_bad(alloc, log.bad.as_slice())?;
-        self.judge_events(alloc, events)?;
-        self.judge_queries(alloc, log.queries.as_slice())?;
-        self.judge_fired(alloc, fired, events)?;
-        self.judge_later(alloc, fired, events)?;
+        let twice = first_event_twice(alloc, events)?;
+        self.judge_once(alloc, ["Once", "an event", "event"], events, twice)?;
+        let twice = first_query_twice(alloc, queries)?;
+        self.judge_once(alloc, ["QueryOnce", "a query", "query"], queries, twice)?;
+        if log.fired.is_empty() {
+            self.put_not_asked("Fired", "fired");
+            self.put_not_asked("Later", "fired");
+        } else if events.is_empty() {
+            self.put_not_asked("Fired", "event");
+            self.put_not_asked("Later", "event");
+        } else {
+            self.judge_fired(alloc, log)?;
+            self.judge_later(alloc, log)?;
+        }
         if tells_missed {
             self.put_missed(alloc, events)?;
         }
         Ok(())
+    }
+
+    /// Judges what a clock of a node's snapshot leaves open, where the log has such lines.
+    fn judge_clock<'b, E: HandedOut>(
+        &mut self,
+        entries: &[E],
+        node: &'b [u8],
+        words: [&'b str; 2],
+        clock: u64,
+    ) {
+        if entries.is_empty() {
+            return;
+        }
+        let [how, name] = words;
+        let kept = [Bytes(node), Word(how), Word(name), Number(clock)];
+        self.put("~~ keeps ~ ~", &kept);
+        if let Some(place) = first_above(entries, node, clock)
+            && let Some(entry) = entries.get(place)
+        {
+            let Handed { line, key } = entry.handed();
+            let parts = [self.line(line), Number(key.time)];
+            let text = ", and ~ was handed out at ~: it can be handed out again\n";
+            self.put_broken(text, &parts);
+        } else {
+            self.put(": nothing was handed out above it\n", &[]);
+        }
+    }
+
+    /// Judges what the clocks of a node's snapshot leave open.
+    fn judge_clocks<'b>(&mut self, log: &Log, node: &'b [u8], how: &'b str, snapshot: &[u8]) {
+        let clocks = read_clocks(snapshot);
+        let (events, queries) = (log.events.as_slice(), log.queries.as_slice());
+        self.judge_clock(events, node, [how, "event-clock"], clocks.event_clock);
+        self.judge_clock(queries, node, [how, "query-clock"], clocks.query_clock);
+    }
+
+    /// Judges what a node's snapshot leaves open: of one of Serf's with a line `leave` what it does where Serf is started
+    /// with `-rejoin`, and what without. An agent of this project goes on from all lines.
+    pub(super) fn judge_kept(&mut self, log: &Log, node: &[u8], snapshot: &[u8], is_own: bool) {
+        let counted = behind_leave(snapshot);
+        if is_own || is_own_snapshot(snapshot) || counted.len() == snapshot.len() {
+            self.judge_clocks(log, node, "", snapshot);
+        } else {
+            self.judge_clocks(log, node, " with -rejoin", snapshot);
+            self.judge_clocks(log, node, " without -rejoin", counted);
+        }
     }
 }
