@@ -53,7 +53,22 @@ use serf_low::add;
 pub fn double(a: u8) -> u8
     ensures double { result ≡ twice a }
 {
+    let pair = Pair { a };
     add(a, a)
+}
+
+/// A number by a name.
+pub struct Pair {
+    pub a: u8,
+}
+
+impl Pair {
+    /// The number.
+    pub fn of(a: u8) -> u8
+        ensures of { result ≡ a }
+    {
+        a
+    }
 }
 
 /// Halves.
@@ -70,6 +85,7 @@ pub fn half(a: u8) -> u8
     PROOF: "use Rattle.std.proofs.Common.{arith}\nuse Rattle.serf_high.proofs.Lemmas.{doubled}\n\nanswers = (doubled, arith)\n",
     "crates/serf_high/proofs/Names.antt": "pub use Rattle.std.proofs.Common.{arith}\n",
     "crates/serf_high/proofs/Lemmas.antt": "pub doubled : ℕ\ndoubled = 2\n",
+    "crates/serf_high/proofs/Lib.antt": "pub mod Lemmas\n",
     "crates/serf_high/proofs/Others.antt": "pub halved : ℕ\nhalved = 1\n",
     "crates/serf_high/mutants/lib.edits": """file: src/lib.rt
 
@@ -113,6 +129,8 @@ CHANGES = [
     ("a lemma that its proof imports", "crates/serf_high/proofs/Lemmas.antt", "doubled = 2", "doubled = 3", True),
     ("a lemma that it doesn't import", "crates/serf_high/proofs/Others.antt", "halved = 1", "halved = 2", False),
     ("its definition", "crates/serf_high/specs/Twice.antt", "twice a = total a a", "twice a = total a (a + 0)", True),
+    ("a comment that names a method", "crates/serf_high/src/lib.rt", "    let pair", "    // (of one)\n    let pair", False),
+    ("a line that names a file", "crates/serf_high/proofs/Lib.antt", "Lemmas\n", "Lemmas\npub mod Others\n", False),
     ("a lemma that is imported and not used", PROOF, ".{doubled}", ".{doubled, trebled}", False),
     ("another lemma of that name", PROOF, "serf_high.proofs.Lemmas", "serf_low.proofs.Lemmas", True),
     ("a lemma of std that another file passes on", PROOF, "Rattle.std.proofs.Common", "Rattle.serf_high.proofs.Names", False),
