@@ -189,8 +189,7 @@ impl<S: Sink> Agent<S> {
         }
     }
 
-    /// Writes an event's line to the sink, enters the event into the buffer once that is durable, and gives what is
-    /// handed out.
+    /// Writes an event's line to the sink, enters it into the buffer once that is durable, and gives what is handed out.
     pub(crate) fn take_in(
         &mut self,
         alloc: Global,

@@ -54,8 +54,7 @@ impl OwnLine {
     }
 }
 
-/// Notes a time of a kind, with a line of its own where `line` is one: what has to be written goes to the sink by one
-/// append and one flush.
+/// Notes a time of a kind, and `line`, if it is one: what has to be written goes to the sink by one append and one flush.
 pub(crate) fn note_line<S: Sink>(
     snapshot: &mut Snapshot<S>,
     alloc: Global,

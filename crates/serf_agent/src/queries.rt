@@ -171,8 +171,7 @@ impl<S: Sink> Agent<S> {
         self.queries.reason(time, &id)
     }
 
-    /// Writes a query's line to the sink, enters the query into the buffer once that is durable, and gives what is handed
-    /// out.
+    /// Writes a query's line to the sink, enters it into the buffer once that is durable, and gives what is handed out.
     fn take_in_query(
         &mut self,
         alloc: Global,

@@ -227,8 +227,7 @@ impl<S: Sink> Agent<S> {
         Ok(self.ask(alloc, now, time, id, name, payload, params)?)
     }
 
-    /// Writes the line of a query of this agent's own, opens the query once that is durable, and gives its packet and
-    /// what is handed out.
+    /// Writes the line of this agent's own query, opens it once that is durable, and gives its packet and what is handed out.
     fn ask(
         &mut self,
         alloc: Global,
@@ -266,8 +265,7 @@ impl<S: Sink> Agent<S> {
         Ok(fired)
     }
 
-    /// Writes the line of a query of this agent's own to the sink, and enters the query once that is durable, open for
-    /// answers.
+    /// Writes the line of a query of this agent's own to the sink, and enters it once that is durable, open for answers.
     fn enter_asked(&mut self, alloc: Global, time: Time, query: OpenQuery) -> Result<(), NoteFault>
         requires runs { self.old.concrete.snapshot.stopped ≡ false }
         requires at { time ≡ self.old.concrete.queries.clock }

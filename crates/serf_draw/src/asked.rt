@@ -123,8 +123,7 @@ impl Asked {
         self.agents.iter().copied().find(|agent| count <= *agent)
     }
 
-    /// Whether an action is drawn by its `answer` and by `passed`, the times of the events that it passed over. Takes no
-    /// memory.
+    /// Whether an action is drawn by its `answer` and by `passed`, the times of the events it passed over. Takes no memory.
     fn keeps(&self, answer: Answer, passed: &[u64]) -> bool
         ensures { result ≡ is_kept self.now.taken answer passed.now }
     {
@@ -135,8 +134,7 @@ impl Asked {
         }
     }
 
-    /// Whether `action`, which gives the packet `given`, fires, injects or delivers an event that is asked for. Takes no
-    /// memory.
+    /// Whether `action`, which gives the packet `given`, fires, injects or delivers an event asked for. Takes no memory.
     pub(crate) fn names(&self, action: &Action, given: Option<&[u8]>) -> bool
         ensures { result ≡ names self.now.event action.now (option_copied given.entry) }
     {

@@ -2,7 +2,7 @@
 
 ghost use Rattle.std.specs.Prelude.{◌≡◌, ◌++◌, ◌+◌, ◌-◌, IfOk, OnOk};
 ghost use Rattle.std.specs.List.{flat_map};
-ghost use Rattle.serf_draw.specs.Svg.{agent_thousands, arrow_line, arrow_text, back_text, begins_outside as arrow_begins_outside, columns as columns_of, cross_text, frame_text, front_text, guide_text, has_outside as any_outside, head_text, heads_text, is_outside as outside_of, label_place, lane_line, lane_place as place_among, lanes_text, legend_text, line_above as above, line_of, mark_text, name_text, names_text, outside_text, place_text, row_is_outside as row_outside, row_text, size_text, svg_of, tone_word as word_of, view_text};
+ghost use Rattle.serf_draw.specs.Svg.{agent_thousands, arrow_line, arrow_text, back_text, begins_outside as arrow_begins_outside, columns as columns_of, cross_text, frame_text, front_text, guide_text, has_outside as any_outside, head_text, heads_text, is_outside as outside_of, label_place, lane_line, lane_place as place_among, lanes_text, legend_text, line_above as above, line_of, mark_text, name_text, names_text, outside_text, place_text, row_text, size_text, svg_of, tone_word as word_of, view_text};
 
 use crate::filled::{Part, put_each, put_filled};
 use crate::label::{label_columns, longest, short_name};
@@ -99,18 +99,11 @@ fn begins_outside(lanes: &[Lane], arrow: Arrow) -> bool
     }
 }
 
-/// Whether a row has something outside of the lanes that are drawn.
-fn row_is_outside(lanes: &[Lane], row: &Row) -> bool
-    ensures { result ≡ row_outside lanes.now row.now }
-{
-    is_outside(lanes, row.agent) || begins_outside(lanes, row.arrow)
-}
-
 /// Whether a row, or the begin of its arrow, is left of all lanes.
 fn has_outside(lanes: &[Lane], rows: &[Row]) -> bool
     ensures { result ≡ any_outside lanes.now rows.now }
 {
-    rows.iter().any(|row| row_is_outside(lanes, row))
+    rows.iter().any(|row| is_outside(lanes, row.agent) || begins_outside(lanes, row.arrow))
 }
 
 /// The class of a tone in the SVG.

@@ -69,21 +69,14 @@ fn note_before<'a>(
     Ok(place)
 }
 
-/// Whether `event` was handed to the node of `firing` on an earlier line than `firing` stands on, at `time` or later.
-fn is_reached(event: &EventEntry, firing: &EventEntry, time: u64) -> bool
-    ensures { result ≡ is_handed_at firing.now time event.now }
-{
-    firing.node == event.node && event.line < firing.line && time <= event.time
-}
-
 /// The place, from 0 on, of the first of `events` that the node of `firing` was handed on an earlier line, at `time` or
 /// later; `None` where there is none.
 fn first_reached(events: &[EventEntry], firing: &EventEntry, time: u64) -> Option<usize>
     ensures { result ≡ position (is_handed_at firing.now time) events.now }
 {
-    events
-        .iter()
-        .position(|event| is_reached(event, firing, time))
+    events.iter().position(|event| firing.node == event.node
+        && event.line < firing.line
+        && time <= event.time)
 }
 
 /// The place, from 0 on, of one of `events` that the node of `firing` was handed on an earlier line, at a time not below

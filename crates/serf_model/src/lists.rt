@@ -1,10 +1,55 @@
 //! The lists of a trace.
 
+ghost use Rattle.std.specs.Prelude.{◌≡◌, ◌∷◌, []};
+
 use crate::line::{EventLine, Line};
 use serf_agent::List;
+use smallvec::SmallVec;
+use std::alloc::Global;
+use std::marker::Model;
 
 /// Numbers of packets, in order; packets are numbered from 0 as they are sent.
-pub type Numbers = List<u64>;
+///
+/// Contracts see the list of them. A single number takes no block of memory.
+#[derive(Drop)]
+pub struct Numbers {
+    all: SmallVec<u64, 1>,
+}
+
+impl Model for Numbers {
+    ghost use Rattle.std.specs.Prelude.{ℕ, List};
+
+    ghost Value = { List ℕ };
+
+    ghost view = { λ n. n.all.items };
+}
+
+impl Numbers {
+    /// The number `number` alone. Takes no memory.
+    pub fn one(alloc: Global, number: u64) -> Numbers
+        ensures { result ≡ number ∷ [] }
+    {
+        Numbers {
+            all: SmallVec::from_buf(alloc, [number]),
+        }
+    }
+
+    /// The numbers of a vector. Takes no memory.
+    pub fn from_vec(numbers: Vec<u64>) -> Numbers
+        ensures { result ≡ numbers.items }
+    {
+        Numbers {
+            all: SmallVec::from_vec(numbers),
+        }
+    }
+
+    /// The numbers. Takes no memory.
+    pub fn as_slice(&self) -> &[u64]
+        ensures { result.now ≡ self.now }
+    {
+        self.all.as_slice()
+    }
+}
 
 /// Events that were handed out, in order.
 pub type EventLines = List<EventLine>;

@@ -104,12 +104,9 @@ impl Print for Io<'_> {
     }
 
     fn write_some(&self, bytes: &[u8]) -> io::Result<usize> {
-        let outcome = self.rt.write_some(bytes);
-        if let Err(error) = &outcome {
-            self.last_error.set(Some(*error));
-            if self.has_agent && self.has_no_reader() {
-                return Ok(bytes.len());
-            }
+        let outcome = self.noted(self.rt.write_some(bytes));
+        if outcome.is_err() && self.has_agent && self.has_no_reader() {
+            return Ok(bytes.len());
         }
         outcome
     }

@@ -128,8 +128,7 @@ pub(crate) fn bad_word<'a>(name: &'a str, words: &'a str) -> Fault<'a> {
     Fault::CommandLine("a bad word for --", name, ": here may stand ", words, "")
 }
 
-/// What the word of the option `name` stands for by `choices`: the first of them where it is left out. `words` names all
-/// that it may have.
+/// What the word of the option `name` stands for by `choices`: the first where it is left out. `words` names them all.
 pub(crate) fn chosen<'a, T: Copy>(
     matches: &ArgMatches,
     name: &'a str,

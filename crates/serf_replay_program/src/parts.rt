@@ -34,7 +34,7 @@ fn is_printable(byte: u8) -> bool {
 }
 
 impl Text {
-    /// A text of no bytes. OptionKind no memory.
+    /// A text of no bytes. Takes no memory.
     pub(crate) fn new(alloc: Global) -> Text {
         Text {
             bytes: Vec::new(alloc),

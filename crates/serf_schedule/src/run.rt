@@ -219,8 +219,7 @@ impl<T: Turns> LineTeller for Run<T> {
     }
 }
 
-/// Does the actions of `schedule`, one after another, and gives what `teller` tells of them. Each action is dropped
-/// once it is done.
+/// Does the actions of `schedule` in order, and gives what `teller` tells of them. Each is dropped once it is done.
 pub fn tell_schedule<T: Turns>(
     alloc: Global,
     schedule: Schedule,

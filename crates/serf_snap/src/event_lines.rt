@@ -4,6 +4,7 @@ ghost use Rattle.std.specs.Prelude.{◌≡◌, ◌+◌, ◌*◌, ◌++◌, ◌�
 ghost use Rattle.hex.specs.Hex.{encode_lower};
 ghost use Rattle.serf_snap.specs.EventLines.{event_line, kept_clock_line, least_line, least_prefix, query_line};
 
+use crate::clock_lines::{LineBytes, put_line};
 use crate::kind::ClockKind;
 use itoa::Buffer;
 use serf_lamport::Time;
@@ -104,8 +105,7 @@ pub fn put_least_line(text: &mut Vec<u8>, kind: ClockKind, time: u64) -> Result<
 pub fn put_kept_clock_line(text: &mut Vec<u8>, kind: ClockKind, time: u64) -> Result<(), AllocError>
     ensures { OnOk result (text.new.items ≡ text.old.items ++ kept_clock_line kind time) }
 {
-    text.extend_from_slice(kind.prefix())?;
-    text.extend_from_slice(b"0")?;
-    put_number(text, time)?;
-    text.extend_from_slice(b"\n")
+    let mut line = LineBytes::new(*text.allocator());
+    put_line(&mut line, true, kind, time)?;
+    text.extend_from_slice(line.as_slice())
 }

@@ -256,8 +256,7 @@ impl<S: Sink> Snapshot<S> {
         self.write(alloc, kind, last.max(value), bytes.as_slice())
     }
 
-    /// Appends `bytes` to the sink and flushes them: the last line of `kind` says `value` then. Memory is taken before the sink
-    /// is touched.
+    /// Makes room in the sink, appends `bytes` and flushes them: the last line of `kind` says `value` then.
     fn write(
         &mut self,
         alloc: Global,

@@ -257,8 +257,7 @@ impl<K: Drop> Window<K> {
         LentSlots::of(self.made.as_slice(), unused as u32)
     }
 
-    /// The number of keys that the window holds: never more than its slots times `per_time`. Takes no
-    /// memory.
+    /// How many keys the window holds: never more than its slots times `per_time`. Takes no memory.
     pub fn held(&self) -> u64
         ensures count { result ≡ held_count self.now.slots }
         ensures bound { result ≤ length self.now.slots * self.now.per_time }

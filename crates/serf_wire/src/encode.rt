@@ -17,11 +17,11 @@ use crate::length::user_event_len;
 use crate::long::{is_long_push_pull, is_long_query, is_long_text};
 use crate::message::{PushPullParts, Query, QueryResponse, UserEvent};
 use crate::put::{
-    put_filters_field, put_flag_field, put_number_field, put_slots_field, put_status_field,
-    put_text_field, put_texts_field, put_timeout_field,
+    put_filters_field, put_number_field, put_slots_field, put_status_field, put_text_field,
+    put_texts_field, put_timeout_field,
 };
 use crate::texts::Bytes;
-use serf_pack::put_map;
+use serf_pack::{put_bool, put_map, put_raw, put_uint};
 use std::alloc::{AllocError, Global};
 use thiserror::Error;
 
@@ -58,12 +58,15 @@ fn write_user_event(alloc: Global, event: &UserEvent) -> Result<Vec<u8>, AllocEr
 {
     let len = user_event_len(event);
     let mut out = Vec::with_capacity(alloc, len as usize)?;
-    out.extend_from_slice(&[3])?;
-    put_map(&mut out, 4)?;
-    put_number_field(&mut out, b"LTime", event.time.get())?;
-    put_text_field(&mut out, b"Name", event.name)?;
-    put_text_field(&mut out, b"Payload", event.payload)?;
-    put_flag_field(&mut out, b"CC", event.coalesce)?;
+    // (each key with its head, and the first with the type and the map's head, as constants: an event is fired often)
+    out.extend_from_slice(b"\x03\x84\xa5LTime")?;
+    put_uint(&mut out, event.time.get())?;
+    out.extend_from_slice(b"\xa4Name")?;
+    put_raw(&mut out, event.name)?;
+    out.extend_from_slice(b"\xa7Payload")?;
+    put_raw(&mut out, event.payload)?;
+    out.extend_from_slice(b"\xa2CC")?;
+    put_bool(&mut out, event.coalesce)?;
     Ok(out)
 }
 

@@ -31,8 +31,7 @@ pub(crate) fn refused(alloc: Global, refusal: Refusal) -> Line
     line_only(alloc, Answer::Refused(refusal))
 }
 
-/// Appends `packet` to `sent`, and gives a line with `answer` and the packet's number. An `AllocError` leaves `sent`
-/// unchanged.
+/// Appends `packet` to `sent`, and gives a line with `answer` and its number. An `AllocError` leaves `sent` unchanged.
 #[inline(always)]
 pub(crate) fn line_with_packet(
     alloc: Global,
@@ -50,12 +49,11 @@ pub(crate) fn line_with_packet(
     ensures sent { OnOk result (sent.new.items ≡ sent.old.items ++ packet ∷ []) }
     ensures err { OnErr result (sent.new.items ≡ sent.old.items) }
 {
-    let mut numbers = Vec::with_capacity(alloc, 1)?;
-    numbers.push(sent.len() as u64)?;
+    let number = sent.len() as u64;
     sent.push(packet)?;
     Ok(Line {
         answer,
-        sent: Numbers::from_vec(numbers),
+        sent: Numbers::one(alloc, number),
         events: EventLines::from_vec(Vec::new(alloc)),
         handed: None,
     })
@@ -91,12 +89,11 @@ pub(crate) fn line_with_event(
         coalesce: event.coalesce,
     };
     events.push(shown)?;
-    let mut numbers = Vec::with_capacity(alloc, 1)?;
-    numbers.push(sent.len() as u64)?;
+    let number = sent.len() as u64;
     sent.push(packet)?;
     Ok(Line {
         answer,
-        sent: Numbers::from_vec(numbers),
+        sent: Numbers::one(alloc, number),
         events: EventLines::from_vec(events),
         handed: None,
     })

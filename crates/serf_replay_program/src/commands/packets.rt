@@ -107,8 +107,7 @@ pub(super) fn decode<'a>(io: Io, matches: &ArgMatches<'a>) -> CommandResult<'a> 
     }
 }
 
-/// Writes the answer to each text on standard input. One that the end of the input cuts off gets a line on standard
-/// error.
+/// Writes the answer to each text on standard input. Of one that the input's end cuts off standard error gets a line.
 pub(super) fn encode<'a>(io: Io, _matches: &ArgMatches<'a>) -> CommandResult<'a> {
     let mut source = io.source(None)?;
     let outcome = encode_blocks(io.alloc(), &mut source, &mut io::writer(&io));

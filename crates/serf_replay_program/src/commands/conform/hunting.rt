@@ -157,8 +157,7 @@ impl Session<'_> {
         Err(Fault::Told(Status::Refused))
     }
 
-    /// Holds an agent against all seeds, kind by kind: the greatest of their statuses. Adds to the report how many seeds
-    /// agree.
+    /// Holds an agent against all seeds, kind by kind: the greatest of their statuses. The report gets how many agree.
     fn hold_kinds<'b>(&mut self, seeds: &Seeds) -> CommandResult<'b> {
         let mut status = Status::Done;
         for word in KINDS.split(' ') {

@@ -152,8 +152,7 @@ impl<'a> Session<'a> {
         Ok(status)
     }
 
-    /// Reports what came of all agents, with the status of `ended`, which may be a fault that is told first, and gives the
-    /// last status.
+    /// Reports what came of all agents. `ended` may be a fault, which is told first. Gives the last status.
     pub(super) fn finish<'b>(&mut self, ended: CommandResult) -> CommandResult<'b> {
         let status = match ended {
             Ok(status) => status,
@@ -163,8 +162,7 @@ impl<'a> Session<'a> {
     }
 }
 
-/// Holds the agents of the schedule in a file against the reference. A schedule with a bad line is refused before a call
-/// is written.
+/// Holds the agents of the schedule in a file against the reference. A bad line is refused before a call is written.
 pub(super) fn hold_file<'a>(
     io: Io,
     matches: &ArgMatches<'a>,

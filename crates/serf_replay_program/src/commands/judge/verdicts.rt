@@ -248,8 +248,7 @@ impl<'a> Verdicts<'a> {
         Ok(())
     }
 
-    /// Judges a log, after lines that say how much was read and what is bad; and where it is wanted, reports what nodes
-    /// missed.
+    /// Judges a log, after lines that say how much was read and what is bad; where it is wanted, reports what nodes missed.
     pub(super) fn judge(
         &mut self,
         alloc: Global,
