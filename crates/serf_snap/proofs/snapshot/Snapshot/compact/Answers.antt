@@ -6,5 +6,5 @@ pub returns : goal.returns
 returns g c =
     let e = c.clocks.ensures in
     let lines = c.args.lines.now in
-    let text : c.as_slice.result.now ≡ text_with (lines_given lines) c.args.self.now.snapshot = c.as_slice.ensures.value ∙ c.in_ok-text.ensures ∙ (λ k. compaction_bytes lines (e.member k) (e.event k) (e.query k)) ∙ text-given lines c.args.self.now.snapshot in
+    let text : c.as_slice.result.now ≡ text_with (lines_given lines) c.args.self.now.snapshot = c.as_slice.ensures ∙ c.in_ok-text.ensures ∙ (λ k. compaction_bytes lines (e.member k) (e.event k) (e.query k)) ∙ text-given lines c.args.self.now.snapshot in
     subst (λ (t : List ℕ). ReplacesText t c.args.self.now c.replace_text.new.self c.replace_text.result) text c.replace_text.ensures
