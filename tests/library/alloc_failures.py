@@ -129,6 +129,7 @@ CALLS = {
     "serf_model Action::try_clone": "copied_actions",
     "serf_model Boxed::new": "parse_schedule",
     "serf_model NewQuery::try_clone": "copied_actions",
+    "serf_model Numbers::one": None,
     "serf_replay replay": "replay",
     "serf_replay replay_lines": "replay_lines",
     "serf_replay summarize": "summarize",
