@@ -14,14 +14,14 @@ use serf_agent::{
 };
 use serf_store::{FileStore, SystemFile};
 use serf_wire::Bytes;
-use std::fs::{File, Files};
+use std::fs::Files;
 use std::io::ErrorKind;
 
 /// An agent of this program.
-type OnFile<'a, R> = Agent<FileStore<SystemFile<'a, R>>>;
+type OnFile<'a> = Agent<FileStore<SystemFile<'a, HostRuntime>>>;
 
 /// Removes the snapshot of an earlier run.
-fn forget<R: Files>(rt: &R, path: &str) -> Result<()> {
+fn forget(rt: &HostRuntime, path: &str) -> Result<()> {
     match rt.remove_file(path) {
         Err(fault) if fault.kind() != ErrorKind::NotFound => Err(fault.into()),
         _ => Ok(()),
@@ -29,27 +29,19 @@ fn forget<R: Files>(rt: &R, path: &str) -> Result<()> {
 }
 
 /// The agent `name` over the file at `path`.
-fn open_over<'a, R: Files<File = File> + AllocGlobal>(
-    rt: &'a R,
-    name: &str,
-    path: &str,
-) -> Result<OnFile<'a, R>> {
+fn open_over<'a>(rt: &'a HostRuntime, name: &str, path: &str) -> Result<OnFile<'a>> {
     let (store, text) = FileStore::open(rt.alloc(), rt, path)?;
     let config = Config::new(rt.alloc(), name.as_bytes())?;
     Ok(Agent::open(rt.alloc(), config, &text, store).map_err(|refused| refused.fault)?)
 }
 
 /// The agent `name`, in its first life or in its next one, as its snapshot at `path` says. An error begins with the name.
-fn open<'a, R: Files<File = File> + AllocGlobal>(
-    rt: &'a R,
-    name: &'static str,
-    path: &str,
-) -> Result<OnFile<'a, R>> {
+fn open<'a>(rt: &'a HostRuntime, name: &'static str, path: &str) -> Result<OnFile<'a>> {
     open_over(rt, name, path).context(name)
 }
 
 /// What a deployment tool does once for each event.
-fn handle<R: Print>(rt: &R, agent: &str, event: &EventOut) -> Result<()> {
+fn handle(rt: &HostRuntime, agent: &str, event: &EventOut) -> Result<()> {
     println!(rt;
         "{agent} runs its handler for the event of time {}",
         event.time.get()
@@ -58,7 +50,7 @@ fn handle<R: Print>(rt: &R, agent: &str, event: &EventOut) -> Result<()> {
 }
 
 /// Reports an ack or a response that an agent counted.
-fn tell_answer<R: Print>(rt: &R, agent: &str, packet: &Bytes) -> Result<()> {
+fn tell_answer(rt: &HostRuntime, agent: &str, packet: &Bytes) -> Result<()> {
     if let Some(answer) = answer_in(packet.as_slice()) {
         let kind = if is_ack(&answer) {
             "an ack"
@@ -74,7 +66,7 @@ fn tell_answer<R: Print>(rt: &R, agent: &str, packet: &Bytes) -> Result<()> {
 }
 
 /// Prints what an agent made of a packet, and runs its handler for an event.
-fn tell<R: Print>(rt: &R, name: &str, packet: &Bytes, outcome: &Outcome) -> Result<()> {
+fn tell(rt: &HostRuntime, name: &str, packet: &Bytes, outcome: &Outcome) -> Result<()> {
     match outcome {
         Outcome::Event(event) => handle(rt, name, event),
         Outcome::Ack | Outcome::Response => tell_answer(rt, name, packet),
@@ -84,25 +76,20 @@ fn tell<R: Print>(rt: &R, name: &str, packet: &Bytes, outcome: &Outcome) -> Resu
 }
 
 /// Gives an agent a packet that came over the network at moment 0.
-fn deliver<R: Files<File = File> + Print + AllocGlobal>(
-    rt: &R,
-    agent: &mut OnFile<'_, R>,
-    name: &str,
-    packet: &Bytes,
-) -> Result<()> {
+fn deliver(rt: &HostRuntime, agent: &mut OnFile<'_>, name: &str, packet: &Bytes) -> Result<()> {
     let outcome = agent.receive(rt.alloc(), 0, packet.as_slice(), false)?;
     tell(rt, name, packet, &outcome)
 }
 
 /// The agent `beta` takes a packet twice, and stops as it would in a crash: with no call after it.
-fn first_life<R: Files<File = File> + Print + AllocGlobal>(rt: &R, packet: &Bytes) -> Result<()> {
+fn first_life(rt: &HostRuntime, packet: &Bytes) -> Result<()> {
     let mut beta = open(rt, "beta", "beta.snapshot")?;
     deliver(rt, &mut beta, "beta", packet)?;
     deliver(rt, &mut beta, "beta", packet)
 }
 
 /// A query of every node, which takes answers for 1,000 nanoseconds.
-fn of_every_node<R: AllocGlobal>(rt: &R) -> Result<QueryParams> {
+fn of_every_node(rt: &HostRuntime) -> Result<QueryParams> {
     Ok(QueryParams {
         filters: BytesList::new(rt.alloc()),
         want_ack: true,
@@ -116,11 +103,7 @@ fn of_every_node<R: AllocGlobal>(rt: &R) -> Result<QueryParams> {
 }
 
 /// The ack and the response of the agent `beta` to a query that comes.
-fn answer<R: Files<File = File> + AllocGlobal>(
-    rt: &R,
-    beta: &mut OnFile<'_, R>,
-    packet: &Bytes,
-) -> Result<(Bytes, Bytes)> {
+fn answer(rt: &HostRuntime, beta: &mut OnFile<'_>, packet: &Bytes) -> Result<(Bytes, Bytes)> {
     let Outcome::Query { handed, ack, .. } = beta.receive(rt.alloc(), 0, packet.as_slice(), false)?
     else {
         bail!("beta isn't asked");
@@ -138,7 +121,7 @@ fn answer<R: Files<File = File> + AllocGlobal>(
 }
 
 /// Reports a query whose time is over, and how many answers it had.
-fn tell_closed<R: Print>(rt: &R, time: u64, query: &OpenQuery) -> Result<()> {
+fn tell_closed(rt: &HostRuntime, time: u64, query: &OpenQuery) -> Result<()> {
     println!(rt;
         "alpha closes its query of time {time}: {} acks, {} responses",
         query.acks.as_slice().len(),
@@ -148,10 +131,7 @@ fn tell_closed<R: Print>(rt: &R, time: u64, query: &OpenQuery) -> Result<()> {
 }
 
 /// The agent `alpha` has each query back whose time is over, with all its answers.
-fn close<R: Files<File = File> + Print + AllocGlobal>(
-    rt: &R,
-    alpha: &mut OnFile<'_, R>,
-) -> Result<()> {
+fn close(rt: &HostRuntime, alpha: &mut OnFile<'_>) -> Result<()> {
     for (time, query) in alpha.take_due(rt.alloc(), 1_001)? {
         tell_closed(rt, time, &query)?;
     }
@@ -159,37 +139,28 @@ fn close<R: Files<File = File> + Print + AllocGlobal>(
 }
 
 /// The agent `alpha` asks every node for its load: the packet of the query.
-fn ask<R: Files<File = File> + AllocGlobal>(rt: &R, alpha: &mut OnFile<'_, R>) -> Result<Bytes> {
+fn ask(rt: &HostRuntime, alpha: &mut OnFile<'_>) -> Result<Bytes> {
     let params = of_every_node(rt)?;
     let asked = alpha.query(rt.alloc(), 0, 7, b"load", b"", &params)?;
     Ok(asked.packet)
 }
 
 /// The agent `alpha` hears the ack and the response to its query, whose time then ends.
-fn hear<R: Files<File = File> + Print + AllocGlobal>(
-    rt: &R,
-    alpha: &mut OnFile<'_, R>,
-    ack: &Bytes,
-    response: &Bytes,
-) -> Result<()> {
+fn hear(rt: &HostRuntime, alpha: &mut OnFile<'_>, ack: &Bytes, response: &Bytes) -> Result<()> {
     deliver(rt, alpha, "alpha", ack)?;
     deliver(rt, alpha, "alpha", response)?;
     close(rt, alpha)
 }
 
 /// The agent `alpha` asks and `beta` answers.
-fn talk<R: Files<File = File> + Print + AllocGlobal>(
-    rt: &R,
-    alpha: &mut OnFile<'_, R>,
-    beta: &mut OnFile<'_, R>,
-) -> Result<()> {
+fn talk(rt: &HostRuntime, alpha: &mut OnFile<'_>, beta: &mut OnFile<'_>) -> Result<()> {
     let question = ask(rt, alpha)?;
     let (ack, response) = answer(rt, beta, &question)?;
     hear(rt, alpha, &ack, &response)
 }
 
 /// Replaces an agent's snapshot by its last lines, where that is worth doing.
-fn tidy<R: Files<File = File> + AllocGlobal>(rt: &R, agent: &mut OnFile<'_, R>) -> Result<()> {
+fn tidy(rt: &HostRuntime, agent: &mut OnFile<'_>) -> Result<()> {
     if agent.should_compact(DEFAULT_SNAPSHOT_LIMIT) {
         agent.compact(rt.alloc())?;
     }
@@ -197,11 +168,7 @@ fn tidy<R: Files<File = File> + AllocGlobal>(rt: &R, agent: &mut OnFile<'_, R>) 
 }
 
 /// The agent `beta`, back from its crash, takes `packet` once more, and answers what `alpha` asks.
-fn second_life<R: Files<File = File> + Print + AllocGlobal>(
-    rt: &R,
-    alpha: &mut OnFile<'_, R>,
-    packet: &Bytes,
-) -> Result<()> {
+fn second_life(rt: &HostRuntime, alpha: &mut OnFile<'_>, packet: &Bytes) -> Result<()> {
     println!(rt; "beta crashes and comes back")?;
     let mut beta = open(rt, "beta", "beta.snapshot")?;
     deliver(rt, &mut beta, "beta", packet)?;
@@ -209,20 +176,14 @@ fn second_life<R: Files<File = File> + Print + AllocGlobal>(
 }
 
 /// The agent `alpha` fires an event, and runs its own handler for it: the packet of the event.
-fn fire<R: Files<File = File> + Print + AllocGlobal>(
-    rt: &R,
-    alpha: &mut OnFile<'_, R>,
-) -> Result<Bytes> {
+fn fire(rt: &HostRuntime, alpha: &mut OnFile<'_>) -> Result<Bytes> {
     let fired = alpha.fire(rt.alloc(), b"deploy", b"v2", false)?;
     handle(rt, "alpha", &fired.handed)?;
     Ok(fired.packet)
 }
 
 /// The life of the agent `alpha`, in which `beta` has two.
-fn live<R: Files<File = File> + Print + AllocGlobal>(
-    rt: &R,
-    alpha: &mut OnFile<'_, R>,
-) -> Result<()> {
+fn live(rt: &HostRuntime, alpha: &mut OnFile<'_>) -> Result<()> {
     let packet = fire(rt, alpha)?;
     first_life(rt, &packet)?;
     second_life(rt, alpha, &packet)?;
