@@ -21,6 +21,8 @@ func TestWhoLacksEventsAsks(t *testing.T) {
 			a, b := start(t, "a", folder, withoutGossip), start(t, "b", folder, withoutGossip)
 			k := start(t, "k", folder, withoutGossip, func(m *made) { m.KeepEvents = isKeeping })
 			b.join(a)
+			// (a join ends before the other side has taken its state in, and nothing tells it of b later)
+			eventually(t, "a knows b", func() bool { return a.status("b") == "alive" })
 			k.join(a)
 			eventually(t, "it knows them", func() bool { return k.status("a") == "alive" && k.status("b") == "alive" })
 			// (its exchanges behind the join are over)
