@@ -1,9 +1,10 @@
 -- The names of std, of the crates below and of the definitions that the proofs of this crate cite.
 pub use Rattle.std.proofs.Common.{Bool, Bor, List, None, OnOk, Option, Some, [], ap, append_assoc, arith, codes, cond, decimal, drop, false, filter}
-pub use Rattle.std.proofs.Common.{length, map, nat_lt, refl, replicate, rules, subst, sym, take, take_all, true, zero-add, ℕ, ◌%◌, ◌*◌, ◌++◌, ◌+◌}
+pub use Rattle.std.proofs.Common.{length, map, nat_lt, refl, rules, subst, sym, take, take_all, true, zero-add, ℕ, ◌%◌, ◌*◌, ◌++◌, ◌+◌}
 pub use Rattle.std.proofs.Common.{◌<◌, ◌==◌, ◌^◌, ◌||◌, ◌∙◌, ◌∷◌, ◌≡◌}
 pub use Rattle.std.proofs.lemmas.Bool.Decides.{nat_tests}
 pub use Rattle.std.proofs.lemmas.Fmt.{decimal_by_steps}
+pub use Rattle.std.proofs.lemmas.Fn.{filter_same}
 pub use Rattle.std.proofs.lemmas.Grind.{common_steps}
 pub use Rattle.std.proofs.lemmas.List.{append-nil, flat_map_more, take_more}
 pub use Rattle.std.proofs.lemmas.List.Folds.{list_all-append}
@@ -19,8 +20,8 @@ pub use Rattle.serf_agent.specs.declared.config.Config.{Config}
 pub use Rattle.serf_model.specs.Cluster.{Cluster, IdealNode, Run, after, run_of, start, step}
 pub use Rattle.serf_model.specs.declared.action.Action.{Action}
 pub use Rattle.serf_world.specs.View.{IsViewed, NodeState, TakesStep, WorldState, agent_at, node_of}
-pub use Rattle.serf_draw.specs.Asked.{is_chosen}
-pub use Rattle.serf_draw.specs.Drawing.{Drawing, IsDrawn, blank, clock_in, drawing_of, drawn, lanes_from, least_in, lost_in, packet_of, shown_lanes}
+pub use Rattle.serf_draw.specs.Asked.{has_name, is_chosen}
+pub use Rattle.serf_draw.specs.Drawing.{Drawing, IsDrawn, blank, clock_in, drawing_of, drawn, lanes_from, least_in, lost_in, shown_lanes}
 pub use Rattle.serf_draw.specs.Escape.{escape, escaped_byte, is_safe}
 pub use Rattle.serf_draw.specs.Filled.{filled}
 pub use Rattle.serf_draw.specs.Merges.{below_words, slots_times}

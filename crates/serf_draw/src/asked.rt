@@ -1,14 +1,13 @@
 //! Which part of a run is drawn.
 
-ghost use Rattle.std.specs.Prelude.{◌≡◌, ◌==◌, ◌&&◌, ◌||◌, IfOk, filter};
+ghost use Rattle.std.specs.Prelude.{◌≡◌, ◌==◌, ◌&&◌, ◌||◌, filter};
 ghost use Rattle.std.specs.List.{list_any};
 ghost use Rattle.std.specs.Option.{option_copied};
 ghost use Rattle.serf_model.specs.Trace.{actor_of};
-ghost use Rattle.serf_draw.specs.Asked.{act_names, hands_out, has_name, is_chosen, is_kept, is_taken as is_taken_answer, missing_agent, named, names, packet_brings, shows};
+ghost use Rattle.serf_draw.specs.Asked.{hands_out, has_name, is_chosen, is_kept, is_taken as is_taken_answer, missing_agent, named, names, packet_brings, shows};
 
 use serf_model::{Act, Action, Answer, EventLine, EventLines, Line};
 use serf_wire::{Bytes, Message, decode};
-use std::alloc::{AllocError, Global};
 
 /// Which part of a run is drawn: the actions from one number to another; of them those of some agents, or of all where
 /// none is named; of them those that were neither ignored nor refused nor injected, where `taken` asks for that; and of
@@ -49,20 +48,6 @@ fn is_event_of(name: &[u8], packet: &[u8]) -> bool
     }
 }
 
-/// Whether `act` fires an event called `name`, or delivers one, in the packet `given`.
-fn act_is_of(name: &[u8], act: &Act, given: Option<&[u8]>) -> bool
-    ensures { result ≡ act_names name.now act.now (option_copied given.entry) }
-{
-    match act {
-        Act::Fire { name: fired, .. } => fired.as_slice() == name,
-        Act::Deliver { .. } => match given {
-            Some(packet) => is_event_of(name, packet),
-            None => false,
-        },
-        _ => false,
-    }
-}
-
 /// Whether `event`, which was handed out, is called `name`.
 fn is_named(name: &[u8], event: &EventLine) -> bool
     ensures { result ≡ has_name name.now event.now }
@@ -77,18 +62,11 @@ fn any_named(name: &[u8], events: &[EventLine]) -> bool
     events.iter().any(|event| is_named(name, event))
 }
 
-/// Those of these events that have this name.
-fn those_named(
-    alloc: Global,
-    name: &[u8],
-    events: Vec<EventLine>,
-) -> Result<Vec<EventLine>, AllocError>
-    ensures { IfOk result (λ those. those.items ≡ filter (has_name name.now) events.items) }
+/// Takes out the events that haven't this name. Takes no memory.
+fn keep_named(name: &[u8], events: &mut Vec<EventLine>)
+    ensures { events.new.items ≡ filter (has_name name.now) events.old.items }
 {
-    events
-        .into_iter()
-        .filter(|event| is_named(name, event))
-        .collect(alloc)
+    events.retain(|event| is_named(name, event));
 }
 
 impl Asked {
@@ -143,7 +121,14 @@ impl Asked {
         };
         match action {
             Action::Inject { bytes } => is_event_of(name.as_slice(), bytes.as_slice()),
-            Action::Of { act, .. } => act_is_of(name.as_slice(), act, given),
+            Action::Of { act, .. } => match act {
+                Act::Fire { name: fired, .. } => fired.as_slice() == name.as_slice(),
+                Act::Deliver { .. } => match given {
+                    Some(packet) => is_event_of(name.as_slice(), packet),
+                    None => false,
+                },
+                _ => false,
+            },
         }
     }
 
@@ -176,17 +161,14 @@ impl Asked {
             && (is_named || self.hands_out(line.events.as_slice()))
     }
 
-    /// Those of `events` that are asked for.
-    pub(crate) fn named(
-        &self,
-        alloc: Global,
-        events: EventLines,
-    ) -> Result<Vec<EventLine>, AllocError>
-        ensures { IfOk result (λ those. those.items ≡ named self.now.event events) }
+    /// Those of `events` that are asked for. Takes no memory.
+    pub(crate) fn named(&self, events: EventLines) -> Vec<EventLine>
+        ensures { result.items ≡ named self.now.event events }
     {
-        match &self.event {
-            Some(name) => those_named(alloc, name.as_slice(), events.into_vec()),
-            None => Ok(events.into_vec()),
+        let mut events = events.into_vec();
+        if let Some(name) = &self.event {
+            keep_named(name.as_slice(), &mut events);
         }
+        events
     }
 }

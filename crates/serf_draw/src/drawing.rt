@@ -3,7 +3,7 @@
 ghost use Rattle.std.specs.Prelude.{◌≡◌, ◌++◌, ◌∷◌, [], filter, IfOk, OnOk, Ok};
 ghost use Rattle.serf_schedule.specs.Schedule.{parsed_of, schedule_of};
 ghost use Rattle.serf_draw.specs.Asked.{is_chosen};
-ghost use Rattle.serf_draw.specs.Drawing.{Draws, IsPicture, lost_in, shown_lanes};
+ghost use Rattle.serf_draw.specs.Drawing.{Draws, IsPicture, lanes_from, lost_in, shown_lanes};
 
 use crate::asked::Asked;
 use crate::picture::{Lane, Packet, Picture, Sender};
@@ -39,13 +39,21 @@ fn lost_of(alloc: Global, packets: &[Packet]) -> Result<Vec<Sender>, AllocError>
         .collect(alloc)
 }
 
-/// Adds `lane`, where its agent is drawn.
-fn add_lane(lanes: &mut Vec<Lane>, asked: &Asked, lane: Lane) -> Result<(), AllocError>
+/// Adds the lane of agent number `agent`, which has the settings `config`, where it is drawn.
+fn add_lane(
+    alloc: Global,
+    lanes: &mut Vec<Lane>,
+    asked: &Asked,
+    agent: u64,
+    config: &Config,
+) -> Result<(), AllocError>
     ensures { OnOk result (lanes.new.items ≡ lanes.old.items
-        ++ filter (λ l. is_chosen asked.now.agents.items l.agent) (lane ∷ [])) }
+        ++ filter (λ l. is_chosen asked.now.agents.items l.agent)
+        (lanes_from agent (config.now ∷ []))) }
 {
-    if asked.is_chosen(lane.agent) {
-        lanes.push(lane)?;
+    if asked.is_chosen(agent) {
+        let name = Bytes::copy_of(alloc, config.name.as_slice())?;
+        lanes.push(Lane { agent, name })?;
     }
     Ok(())
 }
@@ -57,11 +65,7 @@ fn lanes_of(alloc: Global, configs: &[Config], asked: &Asked) -> Result<Vec<Lane
     let mut lanes = Vec::new(alloc);
     let mut agent: u64 = 0;
     for config in configs {
-        let lane = Lane {
-            agent,
-            name: Bytes::copy_of(alloc, config.name.as_slice())?,
-        };
-        add_lane(&mut lanes, asked, lane)?;
+        add_lane(alloc, &mut lanes, asked, agent, config)?;
         agent += 1;
     }
     Ok(lanes)

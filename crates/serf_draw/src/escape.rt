@@ -6,28 +6,35 @@ ghost use Rattle.std.specs.List.{list_all};
 
 use crate::filled::put_each;
 use std::alloc::AllocError;
+use std::slice;
 
-/// Appends a byte: `&`, `<`, `>` and the two quotes as their entities, and one that is no printable ASCII as the replacement
-/// character.
-fn put_escaped_byte(out: &mut Vec<u8>, byte: u8) -> Result<(), AllocError>
-    ensures { OnOk result (out.new.items ≡ out.old.items ++ escaped_byte byte) }
+/// What stands for a byte: the entity of a `&`, `<`, `>` or one of the two quotes, the replacement character's for one that
+/// is no printable ASCII, and else the byte itself.
+fn escaped(byte: &u8) -> &[u8]
+    ensures { result.now ≡ escaped_byte byte.now }
 {
-    if byte == b'&' {
-        out.extend_from_slice(b"&amp;")
-    } else if byte == b'<' {
-        out.extend_from_slice(b"&lt;")
-    } else if byte == b'>' {
-        out.extend_from_slice(b"&gt;")
-    } else if byte == b'"' {
-        out.extend_from_slice(b"&quot;")
-    } else if byte == b'\'' {
-        out.extend_from_slice(b"&#39;")
-    } else if byte < 32 || 126 < byte {
-        out.extend_from_slice(b"&#65533;")
+    if *byte == b'&' {
+        b"&amp;"
+    } else if *byte == b'<' {
+        b"&lt;"
+    } else if *byte == b'>' {
+        b"&gt;"
+    } else if *byte == b'"' {
+        b"&quot;"
+    } else if *byte == b'\'' {
+        b"&#39;"
+    } else if *byte < 32 || 126 < *byte {
+        b"&#65533;"
     } else {
-        out.push(byte)?;
-        Ok(())
+        slice::from_ref(byte)
     }
+}
+
+/// Appends what stands for a byte.
+fn put_escaped_byte(out: &mut Vec<u8>, byte: &u8) -> Result<(), AllocError>
+    ensures { OnOk result (out.new.items ≡ out.old.items ++ escaped_byte byte.now) }
+{
+    out.extend_from_slice(escaped(byte))
 }
 
 /// Appends bytes of any kind as text that stays in its place: one character of the picture a byte. After an
@@ -35,7 +42,7 @@ fn put_escaped_byte(out: &mut Vec<u8>, byte: u8) -> Result<(), AllocError>
 pub fn put_escaped(out: &mut Vec<u8>, text: &[u8]) -> Result<(), AllocError>
     ensures { OnOk result (out.new.items ≡ out.old.items ++ escape text.now) }
 {
-    put_each(out, text, |out, byte| put_escaped_byte(out, *byte))
+    put_each(out, text, put_escaped_byte)
 }
 
 /// What is escaped has only bytes that leave no place: no `<`, no `>`, no quote, nothing but printable ASCII. A `&` in it

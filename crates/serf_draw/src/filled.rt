@@ -3,6 +3,7 @@
 ghost use Rattle.std.specs.List.{flat_map};
 ghost use Rattle.std.specs.Prelude.{◌≡◌, ◌++◌, ◌∷◌, ℕ, IfOk, List, OnOk, drop};
 ghost use Rattle.serf_draw.specs.Filled.{filled, part_text};
+ghost use Rattle.serf_draw.specs.Svg.{between};
 
 use crate::escape::put_escaped;
 use crate::label::put_short;
@@ -30,6 +31,21 @@ pub(crate) enum Part<'a> {
     LabelPlace(&'a [Lane]),
     /// This agent's participant, or the one for all that have no lane among these.
     Participant(&'a [Lane], Option<u64>),
+}
+
+/// Appends `number` between two texts.
+#[tactic(auto, unfolding(crate::specs::Svg::between))]
+pub(crate) fn put_between(
+    out: &mut Vec<u8>,
+    before: &[u8],
+    number: u64,
+    behind: &[u8],
+) -> Result<(), AllocError>
+    ensures { OnOk result (out.new.items ≡ out.old.items ++ between before.now number behind.now) }
+{
+    out.extend_from_slice(before)?;
+    put_number(out, number)?;
+    out.extend_from_slice(behind)
 }
 
 /// Appends a part of a text.

@@ -5,15 +5,14 @@ ghost use Rattle.std.specs.List.{flat_map, list_any};
 ghost use Rattle.std.specs.Option.{option_copied};
 ghost use Rattle.serf_wire.specs.Lists.{events_left, slot_of_view, slots_left};
 ghost use Rattle.serf_wire.specs.Message.{message_of};
-ghost use Rattle.serf_draw.specs.Label.{act_words, action_words, clock_words, count_words, cut_to, event_behind, first_two, joined as joined_words, label_of, message_words, outcome_words, packet_words, short};
+ghost use Rattle.serf_draw.specs.Label.{action_words, clock_words, count_words, cut_to, event_behind, first_two, joined as joined_words, label_of, message_words, outcome_words, packet_words, short};
 ghost use Rattle.serf_draw.specs.Merges.{below_words, came_words, passed_over as passed_over_by, passed_words, slot_times, slots_times, times_brought as brought_by, times_given};
 ghost use Rattle.serf_draw.specs.Svg.{label_columns as columns_of_labels, longest as longest_of};
 
-use crate::filled::{Part, put_filled};
+use crate::filled::{Part, put_between, put_filled};
 use crate::picture::Row;
 use serf_model::{Act, Action, Answer, EventLine};
 use serf_schedule::put_answer;
-use serf_text::put_number;
 use serf_wire::{Bytes, EventViews, Message, SlotView, SlotViews, decode};
 use std::alloc::{AllocError, Global};
 
@@ -27,7 +26,7 @@ const WHOLE_BYTES: usize = 12;
 const FRONT_BYTES: usize = 8;
 
 /// Appends a text, or the beginning of a long one and its length.
-#[tactic(auto, unfolding(crate::specs::Label::short))]
+#[tactic(auto, unfolding(crate::specs::Label::short, crate::specs::Svg::between))]
 pub(crate) fn put_short(out: &mut Vec<u8>, text: &[u8]) -> Result<(), AllocError>
     ensures { OnOk result (out.new.items ≡ out.old.items ++ short text.now) }
 {
@@ -35,9 +34,7 @@ pub(crate) fn put_short(out: &mut Vec<u8>, text: &[u8]) -> Result<(), AllocError
         return out.extend_from_slice(text);
     }
     out.extend_from_slice(&text[..FRONT_BYTES])?;
-    out.extend_from_slice(b"..(")?;
-    put_number(out, text.len() as u64)?;
-    out.extend_from_slice(b")")
+    put_between(out, b"..(", text.len() as u64, b")")
 }
 
 /// A name, or the front of it where it is long.
@@ -86,31 +83,8 @@ fn put_packet_words(out: &mut Vec<u8>, packet: &[u8]) -> Result<(), AllocError>
     }
 }
 
-/// Appends what an agent does by `act`, which gives it the packet `given`.
-#[tactic(auto, unfolding(crate::specs::Label::texts))]
-fn put_act_words(out: &mut Vec<u8>, act: &Act, given: Option<&[u8]>) -> Result<(), AllocError>
-    ensures { OnOk result (out.new.items ≡ out.old.items
-        ++ act_words act.now (option_copied given.entry)) }
-{
-    match act {
-        Act::Fire { name, payload, .. } => {
-            let (name, payload) = (name.as_slice(), payload.as_slice());
-            put_filled(out, b"~ ~ ", &[Part::Short(name), Part::Short(payload)])
-        }
-        Act::Query(query) => {
-            let (name, payload) = (query.get().name.as_slice(), query.get().payload.as_slice());
-            let (name, payload) = (Part::Short(name), Part::Short(payload));
-            put_filled(out, b"query ~ ~ ", &[name, payload])
-        }
-        Act::Deliver { .. } | Act::Merge { .. } => match given {
-            Some(packet) => put_packet_words(out, packet),
-            None => Ok(()),
-        },
-        _ => Ok(()),
-    }
-}
-
 /// Appends what is done by `action`, which gives the packet `given`.
+#[tactic(auto, unfolding(crate::specs::Label::texts))]
 fn put_action_words(
     out: &mut Vec<u8>,
     action: &Action,
@@ -121,7 +95,22 @@ fn put_action_words(
 {
     match action {
         Action::Inject { bytes } => put_packet_words(out, bytes.as_slice()),
-        Action::Of { act, .. } => put_act_words(out, act, given),
+        Action::Of { act, .. } => match act {
+            Act::Fire { name, payload, .. } => {
+                let (name, payload) = (name.as_slice(), payload.as_slice());
+                put_filled(out, b"~ ~ ", &[Part::Short(name), Part::Short(payload)])
+            }
+            Act::Query(query) => {
+                let (name, payload) = (query.get().name.as_slice(), query.get().payload.as_slice());
+                let (name, payload) = (Part::Short(name), Part::Short(payload));
+                put_filled(out, b"query ~ ~ ", &[name, payload])
+            }
+            Act::Deliver { .. } | Act::Merge { .. } => match given {
+                Some(packet) => put_packet_words(out, packet),
+                None => Ok(()),
+            },
+            _ => Ok(()),
+        },
     }
 }
 

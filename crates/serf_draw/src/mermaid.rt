@@ -4,10 +4,9 @@ ghost use Rattle.std.specs.Prelude.{◌≡◌, ◌++◌, ◌==◌, ℕ, List, If
 ghost use Rattle.std.specs.List.{flat_map, list_all, list_any};
 ghost use Rattle.serf_draw.specs.Mermaid.{arrow_word as word_of, coded, coded_byte, is_coded, is_plain as is_plain_byte, mermaid_of, message_line, note_line, participant, participant_line, row_line};
 
-use crate::filled::{Part, put_each, put_filled};
+use crate::filled::{Part, put_between, put_each, put_filled};
 use crate::label::short_name;
 use crate::picture::{Arrow, Lane, Picture, Row, Tone};
-use serf_text::put_number;
 use std::alloc::{AllocError, Global};
 
 /// Whether `byte` is a letter, a digit, a space, a full stop, an `@` or a `_`.
@@ -25,16 +24,14 @@ fn is_plain(byte: u8) -> bool
 
 /// Appends a byte: a plain one as it is, and any other as an entity code.
 #[tactic(auto, unfolding(crate::specs::Svg::between))]
-fn put_coded_byte(out: &mut Vec<u8>, byte: u8) -> Result<(), AllocError>
-    ensures { OnOk result (out.new.items ≡ out.old.items ++ coded_byte byte) }
+fn put_coded_byte(out: &mut Vec<u8>, byte: &u8) -> Result<(), AllocError>
+    ensures { OnOk result (out.new.items ≡ out.old.items ++ coded_byte byte.now) }
 {
+    let byte = *byte;
     if is_plain(byte) {
-        out.push(byte)?;
-        Ok(())
+        out.extend_from_slice(&[byte])
     } else if 32 <= byte && byte <= 126 {
-        out.extend_from_slice(b"#")?;
-        put_number(out, u64::from(byte))?;
-        out.extend_from_slice(b";")
+        put_between(out, b"#", u64::from(byte), b";")
     } else {
         out.extend_from_slice(b"#65533;")
     }
@@ -44,7 +41,7 @@ fn put_coded_byte(out: &mut Vec<u8>, byte: u8) -> Result<(), AllocError>
 pub(crate) fn put_coded(out: &mut Vec<u8>, text: &[u8]) -> Result<(), AllocError>
     ensures { OnOk result (out.new.items ≡ out.old.items ++ coded text.now) }
 {
-    put_each(out, text, |out, byte| put_coded_byte(out, *byte))
+    put_each(out, text, put_coded_byte)
 }
 
 /// A coded text has letters, digits, spaces, full stops, `@`, `_`, `#` and `;` alone: no line break, no `%`, no `:` and
@@ -71,15 +68,8 @@ pub(crate) fn put_participant(
     ensures { OnOk result (out.new.items ≡ out.old.items ++ participant lanes.now agent) }
 {
     match agent {
-        Some(agent) => {
-            if has_lane(lanes, agent) {
-                out.extend_from_slice(b"a")?;
-                put_number(out, agent)
-            } else {
-                out.extend_from_slice(b"outside")
-            }
-        }
-        None => out.extend_from_slice(b"outside"),
+        Some(agent) if has_lane(lanes, agent) => put_between(out, b"a", agent, b""),
+        _ => out.extend_from_slice(b"outside"),
     }
 }
 

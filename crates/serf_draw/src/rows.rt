@@ -1,10 +1,10 @@
 //! The rows of a run, drawn turn by turn.
 
-ghost use Rattle.std.specs.Prelude.{◌≡◌, ◌++◌, ◌∷◌, ◌+◌, [], List, ℕ, IfOk, OnOk, false, replicate, length, slice_get};
+ghost use Rattle.std.specs.Prelude.{◌≡◌, ◌++◌, ◌∷◌, ◌+◌, [], List, ℕ, IfOk, OnOk, false, replicate, length};
 ghost use Rattle.serf_agent.specs.declared.config.Config.{Config};
 ghost use Rattle.serf_model.specs.Cluster.{Cluster, step};
 ghost use Rattle.serf_world.specs.View.{IsViewed, TakesStep};
-ghost use Rattle.serf_draw.specs.Drawing.{Drawing, IsDrawn, arrow_of, changed, clock_in, drawn, from_packet, given_by, least_in, merged_events as merged, packet_of, restarts, row_tone, row_with, shown_row, tone_of, with_given};
+ghost use Rattle.serf_draw.specs.Drawing.{Drawing, IsDrawn, arrow_of, changed, clock_in, drawn, given_by, least_in, merged_events as merged, packet_of, restarts, row_tone, row_with, shown_row};
 ghost use Rattle.serf_draw.specs.Rows.{IsFound, draws};
 
 use crate::asked::Asked;
@@ -14,17 +14,7 @@ use serf_model::{Act, Action, Answer, EventLine, EventLines, Line};
 use serf_world::{Turns, World};
 use std::alloc::{AllocError, Global};
 
-/// The arrow of packet number `packet`, from whoever sent it.
-fn arrow_from(packets: &[Packet], packet: u64) -> Arrow
-    ensures { result ≡ from_packet (slice_get packets.now packet) }
-{
-    match packets.get(packet as usize) {
-        Some(packet) => Arrow::From(packet.sender),
-        None => Arrow::Unsent,
-    }
-}
-
-/// The arrow of `action`, where `packets` were sent so far.
+/// The arrow of `action`, from whoever sent its packet, where `packets` were sent so far.
 fn arrow(packets: &[Packet], action: &Action) -> Arrow
     ensures { result ≡ arrow_of packets.now action.now }
 {
@@ -32,42 +22,26 @@ fn arrow(packets: &[Packet], action: &Action) -> Arrow
         Action::Of {
             act: Act::Deliver { packet, .. } | Act::Merge { packet, .. },
             ..
-        } => arrow_from(packets, *packet),
+        } => match packets.get(*packet as usize) {
+            Some(packet) => Arrow::From(packet.sender),
+            None => Arrow::Unsent,
+        },
         _ => Arrow::NoPacket,
     }
 }
 
-/// Notes that packet number `packet` was given to an agent, if it was sent.
-fn note_given(packets: &mut Vec<Packet>, packet: u64)
-    ensures { packets.new.items ≡ with_given packets.old.items packet }
-{
-    match packets.get_mut(packet as usize) {
-        Some(packet) => packet.is_given = true,
-        None => {}
-    }
-}
-
-/// Notes that the packet which `action` gives to an agent was given; nothing where it gives none.
+/// Notes that the packet which `action` gives to an agent was given; nothing where it gives none, or none that was sent.
 fn note_packet(packets: &mut Vec<Packet>, action: &Action)
     ensures { packets.new.items ≡ given_by packets.old.items action.now }
 {
-    match action {
-        Action::Of {
-            act: Act::Deliver { packet, .. } | Act::Merge { packet, .. },
-            ..
-        } => note_given(packets, *packet),
-        _ => {}
-    }
-}
-
-/// The tone of an answer.
-fn tone_of_answer(answer: Answer) -> Tone
-    ensures { result ≡ tone_of answer }
-{
-    match answer {
-        Answer::Ignored(_) => Tone::Ignored,
-        Answer::Refused(_) => Tone::Refused,
-        _ => Tone::Taken,
+    if let Action::Of {
+        act: Act::Deliver { packet, .. } | Act::Merge { packet, .. },
+        ..
+    } = action
+    {
+        if let Some(packet) = packets.get_mut(*packet as usize) {
+            packet.is_given = true;
+        }
     }
 }
 
@@ -76,7 +50,11 @@ fn tone(answer: Answer, passed: &[u64]) -> Tone
     ensures { result ≡ row_tone answer passed.now }
 {
     if passed.is_empty() {
-        tone_of_answer(answer)
+        match answer {
+            Answer::Ignored(_) => Tone::Ignored,
+            Answer::Refused(_) => Tone::Refused,
+            _ => Tone::Taken,
+        }
     } else {
         Tone::Ignored
     }
@@ -95,15 +73,15 @@ fn merged_events(
     asked: &Asked,
     action: &Action,
     events: EventLines,
-) -> Result<Vec<EventLine>, AllocError>
-    ensures { IfOk result (λ those. those.items ≡ merged asked.now.event action.now events) }
+) -> Vec<EventLine>
+    ensures { result.items ≡ merged asked.now.event action.now events }
 {
     match action {
         Action::Of {
             act: Act::Merge { .. },
             ..
-        } => asked.named(alloc, events),
-        _ => Ok(Vec::new(alloc)),
+        } => asked.named(events),
+        _ => Vec::new(alloc),
     }
 }
 
@@ -118,30 +96,27 @@ fn add_packets(
     ensures { OnOk result (packets.new.items ≡ packets.old.items
         ++ replicate (length numbers.now) (packet_of sender is_shown)) }
 {
-    for _number in numbers {
-        packets.push(Packet {
-            sender,
-            is_shown,
-            is_given: false,
-        })?;
+    let packet = Packet {
+        sender,
+        is_shown,
+        is_given: false,
+    };
+    packets.resize(packets.len().saturating_add(numbers.len()), packet)
+}
+
+/// The event clock of agent number `agent` in the cluster `world`, and its minimum of events.
+#[tactic(auto, using(crate::proofs::ClockLemmas::clock_viewed, crate::proofs::ClockLemmas::least_viewed))]
+fn event_times(world: &World, agent: Option<u64>) -> (Option<u64>, Option<u64>)
+    ensures clock { (c : Cluster) → IsViewed c world.now → result.0 ≡ clock_in c agent }
+    ensures least { (c : Cluster) → IsViewed c world.now → result.1 ≡ least_in c agent }
+{
+    let Some(number) = agent else {
+        return (None, None);
+    };
+    match world.agent(number) {
+        Some(agent) => (Some(agent.event_time()), Some(agent.event_minimum())),
+        None => (None, None),
     }
-    Ok(())
-}
-
-/// The event clock of agent number `agent` in the cluster `world`.
-#[tactic(auto, using(crate::proofs::ClockLemmas::clock_viewed))]
-fn event_clock(world: &World, agent: Option<u64>) -> Option<u64>
-    ensures { (c : Cluster) → IsViewed c world.now → result ≡ clock_in c agent }
-{
-    Some(world.agent(agent?)?.event_time())
-}
-
-/// The minimum of events of agent number `agent` in the cluster `world`.
-#[tactic(auto, using(crate::proofs::ClockLemmas::least_viewed))]
-fn event_minimum(world: &World, agent: Option<u64>) -> Option<u64>
-    ensures { (c : Cluster) → IsViewed c world.now → result ≡ least_in c agent }
-{
-    Some(world.agent(agent?)?.event_minimum())
 }
 
 /// The clock `now`, where it is another one than `before`.
@@ -170,7 +145,7 @@ fn row(
         event_clock least passed.now line) }
 {
     let answer = line.answer;
-    let events = merged_events(alloc, asked, action, line.into_events())?;
+    let events = merged_events(alloc, asked, action, line.into_events());
     Ok(Row {
         action: sender.action,
         above: sender.above,
@@ -233,7 +208,7 @@ impl<'a> Rows<'a> {
         Ok(Found {
             words: first_words(alloc, action, given)?,
             is_named: self.asked.names(action, given),
-            clock: event_clock(world, action.actor()),
+            clock: event_times(world, action.actor()).0,
             times: times_brought(alloc, action, given)?,
             arrow: arrow(self.packets.as_slice(), action),
         })
@@ -264,8 +239,8 @@ impl<'a> Rows<'a> {
             arrow,
         } = found;
         let agent = action.actor();
-        let clock = changed_clock(clock, event_clock(world, agent));
-        let least = event_minimum(world, agent);
+        let (event_clock, least) = event_times(world, agent);
+        let clock = changed_clock(clock, event_clock);
         let passed = passed_over(line.answer, line.events.as_slice(), &times);
         let is_shown = self.asked.draws(number, action, is_named, &line, passed);
         let sender = Sender {

@@ -4,7 +4,7 @@ ghost use Rattle.std.specs.Prelude.{◌≡◌, ◌++◌, ◌+◌, ◌-◌, IfOk,
 ghost use Rattle.std.specs.List.{flat_map};
 ghost use Rattle.serf_draw.specs.Svg.{agent_thousands, arrow_line, arrow_text, back_text, begins_outside as arrow_begins_outside, columns as columns_of, cross_text, frame_text, front_text, guide_text, has_outside as any_outside, head_text, heads_text, is_outside as outside_of, label_place, lane_line, lane_place as place_among, lanes_text, legend_text, line_above as above, line_of, mark_text, name_text, names_text, outside_text, place_text, row_text, size_text, svg_of, tone_word as word_of, view_text};
 
-use crate::filled::{Part, put_each, put_filled};
+use crate::filled::{Part, put_between, put_each, put_filled};
 use crate::label::{label_columns, longest, short_name};
 use crate::picture::{Arrow, Lane, Picture, Row, Sender, Tone};
 use crate::style::{CROSS, LEGEND, OPENING, ROW, STYLE};
@@ -51,7 +51,7 @@ fn put_thousands(out: &mut Vec<u8>, lanes: &[Lane], agent: Option<u64>) -> Resul
 
 /// Appends x and y of the middle of the agent's lane, on the line of a row that has `rows` above it: a lane is 1,000 wide
 /// and a line 100 high.
-#[tactic(auto, unfolding(crate::specs::Svg::place_text))]
+#[tactic(auto, unfolding(crate::specs::Svg::place_text, crate::specs::Svg::between))]
 pub(crate) fn put_place(
     out: &mut Vec<u8>,
     lanes: &[Lane],
@@ -61,9 +61,7 @@ pub(crate) fn put_place(
     ensures { OnOk result (out.new.items ≡ out.old.items ++ place_text lanes.now agent rows) }
 {
     put_thousands(out, lanes, agent)?;
-    out.extend_from_slice(b"500 ")?;
-    put_number(out, line(rows))?;
-    out.extend_from_slice(b"50")
+    put_between(out, b"500 ", line(rows), b"50")
 }
 
 /// Appends the x at which all labels begin, right of `lanes`.
@@ -74,8 +72,7 @@ pub(crate) fn put_label_place(out: &mut Vec<u8>, lanes: &[Lane]) -> Result<(), A
     if lanes.is_empty() {
         return out.extend_from_slice(b"-240");
     }
-    put_number(out, (lanes.len() as u64).saturating_sub(1))?;
-    out.extend_from_slice(b"760")
+    put_between(out, b"", (lanes.len() as u64).saturating_sub(1), b"760")
 }
 
 /// Whether what an agent does is drawn left of all lanes: it has none among these, or there is no agent.
@@ -335,9 +332,8 @@ fn put_frame(out: &mut Vec<u8>, columns: u64, lines: u64) -> Result<(), AllocErr
 fn put_legend(out: &mut Vec<u8>, line: u64) -> Result<(), AllocError>
     ensures { OnOk result (out.new.items ≡ out.old.items ++ legend_text line) }
 {
-    let parts = [Part::Number(line)];
-    put_filled(out, b"<g transform='translate(-680 ~50)'>", &parts)?;
-    out.extend_from_slice(LEGEND)
+    let parts = [Part::Number(line), Part::Text(LEGEND)];
+    put_filled(out, b"<g transform='translate(-680 ~50)'>~", &parts)
 }
 
 /// Appends what stands behind all else: the lanes with their names, and the lines to the labels.
