@@ -3,6 +3,7 @@
 ghost use Rattle.std.specs.List.{flat_map};
 ghost use Rattle.std.specs.Prelude.{◌≡◌, ◌++◌, ◌∷◌, ℕ, IfOk, List, OnOk, drop};
 ghost use Rattle.serf_draw.specs.Filled.{filled, part_text};
+ghost use Rattle.serf_draw.specs.declared.picture.Lane.{Lane};
 ghost use Rattle.serf_draw.specs.Svg.{between};
 
 use crate::escape::put_escaped;
@@ -108,6 +109,25 @@ pub(crate) fn put_each<T, F: Fn(&mut Vec<u8>, &T) -> Result<(), AllocError>>(
 {
     for item in items {
         put(out, item)?;
+    }
+    Ok(())
+}
+
+/// Appends each of `items`, as `put` writes it beside `lanes`, one after another.
+pub(crate) fn put_each_beside<T, F: Fn(&mut Vec<u8>, &[Lane], &T) -> Result<(), AllocError>>(
+    out: &mut Vec<u8>,
+    lanes: &[Lane],
+    items: &[T],
+    put: F,
+) -> Result<(), AllocError>
+    requires { F.IsAlwaysCallable put }
+    ensures { (text : List Lane → T → List ℕ)
+        → ((o : _) (l : _) (x : _) (r : _) (after : _) → F.post put o l x r after
+        → OnOk r (after.now.items ≡ o.now.items ++ text l.now x.now))
+        → OnOk result (out.new.items ≡ out.old.items ++ flat_map (text lanes.now) items.now) }
+{
+    for item in items {
+        put(out, lanes, item)?;
     }
     Ok(())
 }

@@ -4,7 +4,7 @@ ghost use Rattle.std.specs.Prelude.{◌≡◌, ◌++◌, ◌==◌, ℕ, List, If
 ghost use Rattle.std.specs.List.{flat_map, list_all, list_any};
 ghost use Rattle.serf_draw.specs.Mermaid.{arrow_word as word_of, coded, coded_byte, is_coded, is_plain as is_plain_byte, mermaid_of, message_line, note_line, participant, participant_line, row_line};
 
-use crate::filled::{Part, put_between, put_each, put_filled};
+use crate::filled::{Part, put_between, put_each, put_each_beside, put_filled};
 use crate::label::short_name;
 use crate::picture::{Arrow, Lane, Picture, Row, Tone};
 use std::alloc::{AllocError, Global};
@@ -157,6 +157,6 @@ pub fn mermaid_text(alloc: Global, picture: &Picture) -> Result<Vec<u8>, AllocEr
         lanes,
         |out, lane| put_participant_line(alloc, out, lane),
     )?;
-    put_each(&mut out, rows, |out, row| put_row_line(out, lanes, row))?;
+    put_each_beside(&mut out, lanes, rows, put_row_line)?;
     Ok(out)
 }

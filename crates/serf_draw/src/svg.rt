@@ -4,7 +4,7 @@ ghost use Rattle.std.specs.Prelude.{◌≡◌, ◌++◌, ◌+◌, ◌-◌, IfOk,
 ghost use Rattle.std.specs.List.{flat_map};
 ghost use Rattle.serf_draw.specs.Svg.{agent_thousands, arrow_line, arrow_text, back_text, begins_outside as arrow_begins_outside, columns as columns_of, cross_text, frame_text, front_text, guide_text, has_outside as any_outside, head_text, heads_text, is_outside as outside_of, label_place, lane_line, lane_place as place_among, lanes_text, legend_text, line_above as above, line_of, mark_text, name_text, names_text, outside_text, place_text, row_text, size_text, svg_of, tone_word as word_of, view_text};
 
-use crate::filled::{Part, put_between, put_each, put_filled};
+use crate::filled::{Part, put_between, put_each, put_each_beside, put_filled};
 use crate::label::{label_columns, longest, short_name};
 use crate::picture::{Arrow, Lane, Picture, Row, Sender, Tone};
 use crate::style::{CROSS, LEGEND, OPENING, ROW, STYLE};
@@ -260,8 +260,8 @@ fn put_arrow(out: &mut Vec<u8>, lanes: &[Lane], row: &Row) -> Result<(), AllocEr
 
 /// Appends a small cross where a packet was sent that nobody got.
 #[tactic(auto, unfolding(crate::specs::Svg::cross_text, crate::specs::Svg::placed_text))]
-fn put_cross(out: &mut Vec<u8>, lanes: &[Lane], sender: Sender) -> Result<(), AllocError>
-    ensures { OnOk result (out.new.items ≡ out.old.items ++ cross_text lanes.now sender) }
+fn put_cross(out: &mut Vec<u8>, lanes: &[Lane], sender: &Sender) -> Result<(), AllocError>
+    ensures { OnOk result (out.new.items ≡ out.old.items ++ cross_text lanes.now sender.now) }
 {
     let parts = [Part::Place(lanes, sender.agent, sender.above)];
     put_filled(out, CROSS, &parts)
@@ -349,7 +349,7 @@ fn put_back(
     let count = rows.len() as u64;
     put_lanes(out, line_above(count), lanes)?;
     put_heads(alloc, out, has_outside(lanes, rows), count, lanes)?;
-    put_each(out, rows, |out, row| put_guide(out, lanes, row))
+    put_each_beside(out, lanes, rows, put_guide)
 }
 
 /// Appends the arrows, the crosses and the rows.
@@ -363,8 +363,8 @@ fn put_front(
     ensures { OnOk result (out.new.items ≡ out.old.items
         ++ front_text lanes.now rows.now lost.now) }
 {
-    put_each(out, rows, |out, row| put_arrow(out, lanes, row))?;
-    put_each(out, lost, |out, sender| put_cross(out, lanes, *sender))?;
+    put_each_beside(out, lanes, rows, put_arrow)?;
+    put_each_beside(out, lanes, lost, put_cross)?;
     put_each(out, rows, |out, row| put_row(out, lanes, row))
 }
 

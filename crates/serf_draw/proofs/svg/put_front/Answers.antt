@@ -9,9 +9,9 @@ returns c =
     let out = c.args.out.now.items in
     let arrows = flat_map (arrow_text lanes) c.args.rows.now in
     let crosses = flat_map (cross_text lanes) c.args.lost.now in
-    let first : c.put_each.new.out.items ≡ out ++ arrows = c.in_ok-put_each.ensures (arrow_text lanes) (search rules) in
-    let second : c.put_each-2.new.out.items ≡ c.put_each.new.out.items ++ crosses = c.in_ok-put_each-2.ensures (cross_text lanes) (search rules) in
+    let first : c.put_each_beside.new.out.items ≡ out ++ arrows = c.in_ok-put_each_beside.ensures arrow_text (search rules) in
+    let second : c.put_each_beside-2.new.out.items ≡ c.put_each_beside.new.out.items ++ crosses = c.in_ok-put_each_beside-2.ensures cross_text (search rules) in
     let rows = flat_map (row_text lanes) c.args.rows.now in
-    on_ok_weaker c.put_each-3.result
+    on_ok_weaker c.put_each.result
     (λ is. is ∙ ap (λ t. t ++ rows) (second ∙ ap (λ t. t ++ crosses) first) ∙ three_more out arrows crosses rows)
-    (c.put_each-3.ensures (row_text lanes) (search rules))
+    (c.put_each.ensures (row_text lanes) (search rules))
