@@ -13,7 +13,7 @@ pub use Rattle.serf_world.specs.View.{WorldState}
 pub use Rattle.serf_schedule.specs.Sayable.{IsSayable}
 pub use Rattle.serf_write.specs.Gives.{wrong}
 pub use Rattle.serf_write.specs.Lines.{settings_from}
-pub use Rattle.serf_write.specs.Pieces.{pieces_from, text_from, text_within, words_behind}
+pub use Rattle.serf_write.specs.Pieces.{pieces_from, pieces_of, text_from, text_within, words_behind}
 pub use Rattle.serf_write.specs.Queries.{options_from}
 pub use Rattle.serf_write.specs.Running.{HasWorld}
 pub use Rattle.serf_write.specs.Written.{Written, after_lines, written_of}

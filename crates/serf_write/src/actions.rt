@@ -1,8 +1,9 @@
 //! The actions of a line, by its pieces. A place counts the pieces of a line from 1.
 
-ghost use Rattle.std.specs.Prelude.{◌<◌};
-ghost use Rattle.serf_write.specs.Gives.{Gives};
-ghost use Rattle.serf_write.specs.Lines.{actions_of, answer_of, break_of, closing_of, coalesce_in, count_in, delivery_of, firing_of, giving_of, injection_of, lone_of, merging_of, restart_of, tail_in, taking_of};
+ghost use Rattle.std.specs.Prelude.{◌<◌, Ok};
+ghost use Rattle.serf_write.specs.Gives.{◌>>=◌ as and_then, Gives};
+ghost use Rattle.serf_write.specs.Lines.{actions_of, answer_of, break_of, closing_of, coalesce_in, count_in, delivery_of, firing_of, giving_of, injection_of, merging_of, restart_of, tail_in, taking_of};
+ghost use Rattle.serf_write.specs.Values.{ends_behind};
 
 use crate::fault::{LineFault, Wanted, bad, or_bad};
 use crate::labels::Label;
@@ -65,6 +66,15 @@ fn count_at(pieces: &[Piece], place: usize) -> Result<u64, LineFault>
     or_bad(count, place, Wanted::Count)
 }
 
+/// The act `act`, of a line that ends within `count` pieces.
+pub(crate) fn ending(pieces: &[Piece], count: usize, act: Act) -> Result<Act, LineFault>
+    requires { count < 100 }
+    ensures { Gives (λ a. a) result (and_then (ends_behind count pieces.now) (λ _. Ok act)) }
+{
+    end_behind(pieces, count)?;
+    Ok(act)
+}
+
 /// The firing of an event, by the pieces of its line.
 #[tactic(auto, unfolding(crate::specs::Lines::firing_of))]
 pub(crate) fn firing(alloc: Global, pieces: &[Piece]) -> Result<Act, LineFault>
@@ -73,12 +83,15 @@ pub(crate) fn firing(alloc: Global, pieces: &[Piece]) -> Result<Act, LineFault>
     let name = bytes_at(alloc, pieces, 3)?;
     let payload = optional_bytes_at(alloc, pieces, 4)?;
     let coalesce = coalesce_at(pieces, 5)?;
-    end_behind(pieces, 5)?;
-    Ok(Act::Fire {
-        name,
-        payload,
-        coalesce,
-    })
+    ending(
+        pieces,
+        5,
+        Act::Fire {
+            name,
+            payload,
+            coalesce,
+        },
+    )
 }
 
 /// The delivery of a packet, by the pieces of its line.
@@ -88,8 +101,7 @@ pub(crate) fn delivery(labels: &[Label], pieces: &[Piece]) -> Result<Act, LineFa
 {
     let packet = packet_at(labels, pieces, 3)?;
     let now = moment_at(pieces, 4)?;
-    end_behind(pieces, 5)?;
-    Ok(Act::Deliver { packet, now })
+    ending(pieces, 5, Act::Deliver { packet, now })
 }
 
 /// The merge of a state, by the pieces of its line.
@@ -99,8 +111,7 @@ pub(crate) fn merging(labels: &[Label], pieces: &[Piece]) -> Result<Act, LineFau
 {
     let packet = packet_at(labels, pieces, 3)?;
     let join = mode_at(pieces, 4)?;
-    end_behind(pieces, 4)?;
-    Ok(Act::Merge { packet, join })
+    ending(pieces, 4, Act::Merge { packet, join })
 }
 
 /// The answer to a query, by the pieces of its line.
@@ -111,12 +122,15 @@ pub(crate) fn answer(alloc: Global, pieces: &[Piece]) -> Result<Act, LineFault>
     let handed = number_at(pieces, 3)?;
     let payload = bytes_at(alloc, pieces, 4)?;
     let now = moment_at(pieces, 5)?;
-    end_behind(pieces, 6)?;
-    Ok(Act::Respond {
-        handed,
-        now,
-        payload,
-    })
+    ending(
+        pieces,
+        6,
+        Act::Respond {
+            handed,
+            now,
+            payload,
+        },
+    )
 }
 
 /// The restart of an agent, by the pieces of its line.
@@ -125,8 +139,7 @@ pub(crate) fn restarting(alloc: Global, pieces: &[Piece]) -> Result<Act, LineFau
     ensures { Gives (λ a. a) result (restart_of pieces.now) }
 {
     let tail = tail_at(alloc, pieces, 3)?;
-    end_behind(pieces, 4)?;
-    Ok(Act::Restart { tail })
+    ending(pieces, 4, Act::Restart { tail })
 }
 
 /// The call of a sink that is to fail, by the pieces of its line.
@@ -136,8 +149,7 @@ pub(crate) fn breaking(pieces: &[Piece]) -> Result<Act, LineFault>
 {
     let call = sink_call_at(pieces, 3)?;
     let count = count_at(pieces, 4)?;
-    end_behind(pieces, 4)?;
-    Ok(Act::Break { call, count })
+    ending(pieces, 4, Act::Break { call, count })
 }
 
 /// The closing of queries, by the pieces of its line.
@@ -146,17 +158,7 @@ pub(crate) fn closing(pieces: &[Piece]) -> Result<Act, LineFault>
     ensures { Gives (λ a. a) result (closing_of pieces.now) }
 {
     let now = moment_at(pieces, 3)?;
-    end_behind(pieces, 4)?;
-    Ok(Act::Close { now })
-}
-
-/// The act `act`, of a line that says nothing after its agent.
-#[tactic(auto, unfolding(crate::specs::Lines::lone_of))]
-pub(crate) fn lone(act: Act, pieces: &[Piece]) -> Result<Act, LineFault>
-    ensures { Gives (λ a. a) result (lone_of act pieces.now) }
-{
-    end_behind(pieces, 2)?;
-    Ok(act)
+    ending(pieces, 4, Act::Close { now })
 }
 
 /// The injection of bytes, by the pieces of its line.

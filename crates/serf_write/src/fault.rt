@@ -1,54 +1,74 @@
 //! What is wrong with a line.
 
 use std::alloc::AllocError;
-use thiserror::Error;
+use std::error::Error;
+use std::fmt;
 
 /// What may stand at the place of a word that is wrong. It prints as a sentence.
-#[derive(Clone, Copy, Debug, Drop, Error, PartialEq, Eq)]
+#[derive(Clone, Copy, Debug, Drop, PartialEq, Eq)]
 pub enum Wanted {
-    #[error("the text that begins here needs a closing quote; a quote within a text is written \\x22")]
     ClosingQuote,
-    #[error("in a text a backslash stands only before x and two hex digits, as in \\x0a")]
     Escape,
-    #[error("a label is a new word that is no number and has no slash, with a colon behind it")]
     Label,
-    #[error("here may stand agent, fire, deliver, state, merge, query, respond, restart, break, inject, close, save, compact, give or take")]
     Command,
-    #[error("all agents stand before the first action")]
     AgentsFirst,
-    #[error("here stands the agent's name, which no agent above has")]
     NewName,
-    #[error("here may stand events=N, queries=N, limit=N, querylimit=N, responselimit=N, responders=N, pertime=N, keep, ignore or keep-events")]
     Setting,
-    #[error("a name has 1 to 128 bytes, each limit is at most 9216, and the other numbers of an agent are 1 to 65536")]
     Bounds,
-    #[error("here stands the name of an agent above, or an agent's number")]
     Agent,
-    #[error("here stands a label above whose line sent a packet, as in d2, or in d2/1 for its second one; or a packet's number")]
     Packet,
-    #[error("here stands a text in quotes, bytes in hex digits, or - for none")]
     Bytes,
-    #[error("here stands a number")]
     Number,
-    #[error("here stands a number from 1 on")]
     Count,
-    #[error("here stands join or sync")]
     Mode,
-    #[error("here stands append, flush, replace-old or replace-new")]
     SinkCall,
-    #[error("here may stand coalesce, or the line ends")]
     Coalesce,
-    #[error("here may stand tail with its bytes, or the line ends")]
     Tail,
-    #[error("here may stand at with a moment, or the line ends")]
     At,
-    #[error("here stands a time, as in 10ms, with ns, us, ms or s behind its number")]
     Time,
-    #[error("here may stand id=N, timeout=TIME, ack, quiet or filter=HEX, or the line ends")]
     Option,
-    #[error("the line ends before this word")]
     End,
 }
+
+impl fmt::Display for Wanted {
+    fn fmt<W: fmt::Write>(&self, f: &mut fmt::Formatter<W>) -> fmt::Result {
+        let sentence = match self {
+            Wanted::ClosingQuote =>
+                "the text that begins here needs a closing quote; a quote within a text is written \\x22",
+            Wanted::Escape =>
+                "in a text a backslash stands only before x and two hex digits, as in \\x0a",
+            Wanted::Label =>
+                "a label is a new word that is no number and has no slash, with a colon behind it",
+            Wanted::Command =>
+                "here may stand agent, fire, deliver, state, merge, query, respond, restart, break, inject, close, save, compact, give or take",
+            Wanted::AgentsFirst => "all agents stand before the first action",
+            Wanted::NewName => "here stands the agent's name, which no agent above has",
+            Wanted::Setting =>
+                "here may stand events=N, queries=N, limit=N, querylimit=N, responselimit=N, responders=N, pertime=N, keep, ignore or keep-events",
+            Wanted::Bounds =>
+                "a name has 1 to 128 bytes, each limit is at most 9216, and the other numbers of an agent are 1 to 65536",
+            Wanted::Agent => "here stands the name of an agent above, or an agent's number",
+            Wanted::Packet =>
+                "here stands a label above whose line sent a packet, as in d2, or in d2/1 for its second one; or a packet's number",
+            Wanted::Bytes => "here stands a text in quotes, bytes in hex digits, or - for none",
+            Wanted::Number => "here stands a number",
+            Wanted::Count => "here stands a number from 1 on",
+            Wanted::Mode => "here stands join or sync",
+            Wanted::SinkCall => "here stands append, flush, replace-old or replace-new",
+            Wanted::Coalesce => "here may stand coalesce, or the line ends",
+            Wanted::Tail => "here may stand tail with its bytes, or the line ends",
+            Wanted::At => "here may stand at with a moment, or the line ends",
+            Wanted::Time =>
+                "here stands a time, as in 10ms, with ns, us, ms or s behind its number",
+            Wanted::Option =>
+                "here may stand id=N, timeout=TIME, ack, quiet or filter=HEX, or the line ends",
+            Wanted::End => "the line ends before this word",
+        };
+        f.write_str(sentence)
+    }
+}
+
+impl Error for Wanted {}
 
 /// The first word that is wrong, counted from 1 in its line, and what may stand there. It may be the word after the
 /// last one, where a word is missing.
@@ -59,7 +79,7 @@ pub struct Fault {
 }
 
 /// Why a line is not taken.
-#[derive(Clone, Copy, Drop, PartialEq, Eq)]
+#[derive(Clone, Copy, Drop)]
 pub(crate) enum LineFault {
     /// A word of it is wrong.
     Bad(Fault),

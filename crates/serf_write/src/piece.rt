@@ -126,13 +126,15 @@ fn put_text<'a>(
     }
 }
 
-/// The pieces of the parts of a line between its quotes.
-fn all_pieces(alloc: Global, line: &[u8]) -> Result<Vec<Piece>, LineFault>
-    ensures { Gives (λ pieces. pieces.items) result
-        (pieces_from false [] (slice_split (λ b. b == 34) line.now)) }
+/// The pieces of a line: words between spaces and texts between quotes, up to a word that begins with `#`.
+///
+/// A carriage return at the line's end is left out. In a text `\x` and two hex digits stand for a byte.
+#[tactic(auto, unfolding(crate::specs::Pieces::pieces_of))]
+pub(crate) fn pieces(alloc: Global, line: &[u8]) -> Result<Vec<Piece>, LineFault>
+    ensures { Gives (λ pieces. pieces.items) result (pieces_of line.now) }
 {
     let mut pieces = Vec::new(alloc);
-    let mut rest = line;
+    let mut rest = without_return(line);
     'parts: loop {
         let (part, more) = cut(rest, b'"');
         if put_words(alloc, part, &mut pieces)? {
@@ -143,14 +145,4 @@ fn all_pieces(alloc: Global, line: &[u8]) -> Result<Vec<Piece>, LineFault>
             None => return Ok(pieces),
         }
     }
-}
-
-/// The pieces of a line: words between spaces and texts between quotes, up to a word that begins with `#`.
-///
-/// A carriage return at the line's end is left out. In a text `\x` and two hex digits stand for a byte.
-#[tactic(auto, unfolding(crate::specs::Pieces::pieces_of))]
-pub(crate) fn pieces(alloc: Global, line: &[u8]) -> Result<Vec<Piece>, LineFault>
-    ensures { Gives (λ pieces. pieces.items) result (pieces_of line.now) }
-{
-    all_pieces(alloc, without_return(line))
 }

@@ -1,16 +1,14 @@
 //! What a line of actions says, by the word with which it begins.
 
 ghost use Rattle.std.specs.Prelude.{◌≡◌};
-ghost use Rattle.serf_write.specs.Gives.{Gives, or_wrong};
+ghost use Rattle.serf_write.specs.Gives.{Gives};
 ghost use Rattle.serf_write.specs.Lines.{actions_of, by_agent};
 ghost use Rattle.serf_write.specs.Queries.{query_of};
-ghost use Rattle.serf_write.specs.Values.{word_at};
 ghost use Rattle.serf_write.specs.Verbs.{verb_of};
 ghost use Rattle.serf_write.specs.Written.{act_of, acts_of, acts_said};
-ghost use Rattle.serf_write.specs.declared.fault.Wanted.TheVariants as wanted;
 
 use crate::actions::{
-    Deed, answer, breaking, closing, delivery, firing, giving, injection, lone, merging,
+    Deed, answer, breaking, closing, delivery, ending, firing, giving, injection, merging,
     restarting, taking,
 };
 use crate::asked::query;
@@ -25,7 +23,7 @@ use serf_text::is_word;
 use std::alloc::Global;
 
 /// What a line does.
-#[derive(Clone, Copy, PartialEq, Eq)]
+#[derive(Clone, Copy)]
 pub(crate) enum Verb {
     /// What an agent does by such a line of a schedule.
     Act(ReplayVerb),
@@ -55,6 +53,7 @@ fn verb_in(word: &[u8]) -> Option<Verb>
 }
 
 /// What an agent does by a line whose word is one of a schedule's, other than a query's.
+#[tactic(auto, unfolding(crate::specs::Lines::lone_of))]
 fn act(
     alloc: Global,
     verb: ReplayVerb,
@@ -71,7 +70,7 @@ fn act(
         ReplayVerb::Restart => restarting(alloc, pieces),
         ReplayVerb::Break => breaking(pieces),
         ReplayVerb::Close => closing(pieces),
-        ReplayVerb::Lone(verb) => lone(verb.act(), pieces),
+        ReplayVerb::Lone(verb) => ending(pieces, 2, verb.act()),
     }
 }
 
@@ -120,13 +119,6 @@ fn deed(
     }
 }
 
-/// What a line's agent does, by its first piece.
-fn verb_at(pieces: &[Piece]) -> Result<Verb, LineFault>
-    ensures { Gives (λ v. v) result (or_wrong 1 wanted.Command (verb_of (word_at 1 pieces.now))) }
-{
-    or_bad(verb_in(word(pieces, 1)), 1, Wanted::Command)
-}
-
 /// What a line of actions does, where `sent` packets were sent before it.
 #[tactic(auto, unfolding(crate::specs::Written::acts_said))]
 pub(crate) fn said_deed(
@@ -138,6 +130,6 @@ pub(crate) fn said_deed(
 ) -> Result<Deed, LineFault>
     ensures { Gives actions_of result (acts_said agents.now labels.now sent pieces.now) }
 {
-    let verb = verb_at(pieces)?;
+    let verb = or_bad(verb_in(word(pieces, 1)), 1, Wanted::Command)?;
     deed(alloc, verb, agents, labels, sent, pieces)
 }

@@ -1,17 +1,15 @@
 //! A whole written schedule.
 
-ghost use Rattle.std.specs.Prelude.{◌≡◌, All, IfOk, Ok};
-ghost use Rattle.serf_schedule.specs.Schedule.{parsed_of, schedule_of};
-ghost use Rattle.serf_schedule.specs.Sayable.{IsSayable};
-ghost use Rattle.serf_schedule.specs.ScheduleText.{schedule_text};
+ghost use Rattle.std.specs.Prelude.{◌≡◌};
+ghost use Rattle.serf_write.specs.declared.fault.Fault.{Fault};
 ghost use Rattle.serf_write.specs.Whole.{Reads, Writes};
 ghost use Rattle.serf_write.specs.Written.{written_of};
 
 use crate::fault::{Fault, LineFault};
 use crate::writing::Writing;
-use serf_schedule::{Schedule, Watch, put_schedule};
+use serf_schedule::{Watch, put_schedule};
 use serf_text::cut;
-use std::alloc::{AllocError, Global};
+use std::alloc::Global;
 use thiserror::Error;
 
 /// Why a text is no written schedule.
@@ -24,6 +22,17 @@ pub enum WriteFault {
     OutOfMemory,
 }
 
+/// The fault of line `line`, counted from 1, where `fault` is that of its words.
+fn at_line(line: u64, fault: LineFault) -> WriteFault
+    ensures bad { (wrong : Fault) → fault ≡ LineFault.Bad wrong → result ≡ WriteFault.BadLine line wrong }
+    ensures memory { fault ≡ LineFault.OutOfMemory → result ≡ WriteFault.OutOfMemory }
+{
+    match fault {
+        LineFault::Bad(fault) => WriteFault::BadLine { line, fault },
+        LineFault::OutOfMemory => WriteFault::OutOfMemory,
+    }
+}
+
 /// Reads all lines of `text`; `watch` is told how many bytes are read.
 fn read_lines<T: Watch>(alloc: Global, text: &[u8], watch: &mut T) -> Result<Writing, WriteFault>
     ensures { Reads result (written_of text.now) }
@@ -33,15 +42,8 @@ fn read_lines<T: Watch>(alloc: Global, text: &[u8], watch: &mut T) -> Result<Wri
     let mut rest = text;
     'lines: loop {
         let (line, more) = cut(rest, b'\n');
-        match writing.add_line(alloc, line) {
-            Ok(()) => {}
-            Err(LineFault::Bad(fault)) => {
-                return Err(WriteFault::BadLine {
-                    line: number,
-                    fault,
-                });
-            }
-            Err(LineFault::OutOfMemory) => return Err(WriteFault::OutOfMemory),
+        if let Err(fault) = writing.add_line(alloc, line) {
+            return Err(at_line(number, fault));
         }
         match more {
             Some(next) => {
@@ -53,17 +55,6 @@ fn read_lines<T: Watch>(alloc: Global, text: &[u8], watch: &mut T) -> Result<Wri
             None => return Ok(writing),
         }
     }
-}
-
-/// The text of a schedule.
-fn text_of(alloc: Global, schedule: &Schedule) -> Result<Vec<u8>, AllocError>
-    requires { All IsSayable schedule.now.actions.items }
-    ensures text { IfOk result (λ out. out.items ≡ schedule_text (parsed_of schedule.now)) }
-    ensures reads_back { IfOk result (λ out. schedule_of out.items ≡ Ok (parsed_of schedule.now)) }
-{
-    let mut out = Vec::new(alloc);
-    put_schedule(&mut out, schedule)?;
-    Ok(out)
 }
 
 /// The schedule that a written text means, as text.
@@ -79,8 +70,9 @@ pub fn write<T: Watch>(alloc: Global, text: &[u8], watch: &mut T) -> Result<Vec<
 {
     let writing = read_lines(alloc, text, watch)?;
     let schedule = writing.into_schedule();
-    match text_of(alloc, &schedule) {
-        Ok(out) => Ok(out),
+    let mut out = Vec::new(alloc);
+    match put_schedule(&mut out, &schedule) {
+        Ok(()) => Ok(out),
         Err(_) => Err(WriteFault::OutOfMemory),
     }
 }

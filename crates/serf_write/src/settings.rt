@@ -6,7 +6,7 @@ ghost use Rattle.serf_write.specs.Lines.{agent_behind, agent_of, name_of, set_ke
 ghost use Rattle.std.specs.Option.{option_map};
 ghost use Rattle.serf_write.specs.Values.{word_of};
 
-use crate::fault::{LineFault, Wanted, bad};
+use crate::fault::{LineFault, Wanted, bad, or_bad};
 use crate::piece::Piece;
 use crate::values::{halves, nth};
 use serf_agent::Config;
@@ -44,10 +44,10 @@ fn set_pair(config: &mut Config, place: usize, word: &[u8]) -> Result<(), LineFa
         (set_key place config.old word.now (position (λ b. b == 61) word.now)) }
 {
     match halves(word, b'=') {
-        Some((key, value)) => match number(value) {
-            Some(value) => set(config, place, key, value),
-            None => Err(bad(place, Wanted::Setting)),
-        },
+        Some((key, value)) => {
+            let value = or_bad(number(value), place, Wanted::Setting)?;
+            set(config, place, key, value)
+        }
         None => Err(bad(place, Wanted::Setting)),
     }
 }

@@ -299,11 +299,8 @@ pub(crate) fn packet_at(labels: &[Label], pieces: &[Piece], place: usize) -> Res
 pub(crate) fn mode_at(pieces: &[Piece], place: usize) -> Result<bool, LineFault>
     ensures { Gives (λ b. b) result (mode_in place pieces.now) }
 {
-    or_bad(
-        choice(word(pieces, place), b"sync", b"join"),
-        place,
-        Wanted::Mode,
-    )
+    let is_join = choice(word(pieces, place), b"sync", b"join");
+    or_bad(is_join, place, Wanted::Mode)
 }
 
 /// The call of a sink that the word at `place` names.

@@ -1,6 +1,8 @@
 //! A written schedule, read line by line.
 
-ghost use Rattle.std.specs.Prelude.{◌≡◌, ◌++◌, ◌∷◌, [], All, IfOk, OnOk};
+ghost use Rattle.std.specs.Prelude.{◌≡◌, ◌++◌, ◌∷◌, [], All, IfOk, List, OnOk};
+ghost use Rattle.serf_agent.specs.declared.config.Config.{Config};
+ghost use Rattle.serf_model.specs.declared.action.Action.{Action};
 ghost use Rattle.serf_schedule.specs.Sayable.{IsSayable};
 ghost use Rattle.serf_schedule.specs.Schedule.{parsed_of};
 ghost use Rattle.serf_write.specs.Gives.{Gives};
@@ -23,6 +25,14 @@ use serf_world::{Roster, World};
 use std::alloc::{AllocError, Global};
 use std::marker::Model;
 
+/// A new cluster of `agents`.
+fn new_world(alloc: Global, agents: &Roster) -> Result<World, AllocError>
+    ensures { IfOk result (λ w. HasWorld agents.now [] w) }
+{
+    let roster = agents.try_clone(alloc)?;
+    World::new(alloc, roster)
+}
+
 /// The cluster after `actions`: `world`, or a new one of `agents` where there is no action yet. `AllocError` where memory
 /// ran out before, or runs out now.
 fn world_of(
@@ -36,28 +46,38 @@ fn world_of(
 {
     match world {
         Some(world) => Ok(world),
-        None => {
-            if !actions.is_empty() {
-                return Err(AllocError);
-            }
-            World::new(alloc, agents.try_clone(alloc)?)
-        }
+        None if actions.is_empty() => new_world(alloc, agents),
+        None => Err(AllocError),
     }
 }
 
-/// The cluster after `action`, where `world` is the one after `actions`.
+/// Does `action` in `world`.
+fn step(alloc: Global, world: &mut World, action: &Action) -> Result<(), AllocError>
+    ensures { (configs : List Config) (done : List Action) → HasWorld configs done world.old
+        → OnOk result (HasWorld configs (done ++ action.now ∷ []) world.new) }
+{
+    world.step(alloc, action)?;
+    Ok(())
+}
+
+/// The cluster after `action`, where `world` is the one after `actions`, if there is one. Lines say only actions that a
+/// schedule can say.
 fn world_behind(
     alloc: Global,
-    world: World,
+    world: Option<World>,
     agents: &Roster,
     actions: &[Action],
     action: &Action,
 ) -> Result<World, AllocError>
-    requires { HasWorld agents.now actions.now world }
-    ensures { IfOk result (λ w. HasWorld agents.now (actions.now ++ action.now ∷ []) w) }
+    requires { HasRun agents.now actions.now world }
+    ensures sayable { OnOk result (IsSayable action.now) }
+    ensures done { IfOk result (λ w. HasWorld agents.now (actions.now ++ action.now ∷ []) w) }
 {
-    let mut world = world;
-    world.step(alloc, action)?;
+    if !is_sayable(action) {
+        return Err(AllocError);
+    }
+    let mut world = world_of(alloc, world, agents, actions)?;
+    step(alloc, &mut world, action)?;
     Ok(world)
 }
 
@@ -107,26 +127,17 @@ impl Writing {
     {
         match &self.world {
             Some(world) => Ok(world.sent().len() as u64),
-            None => {
-                if self.actions.is_empty() {
-                    Ok(0)
-                } else {
-                    Err(AllocError)
-                }
-            }
+            None if self.actions.is_empty() => Ok(0),
+            None => Err(AllocError),
         }
     }
 
-    /// Does `action`, and puts it after the others. Lines say only actions that a schedule can say.
+    /// Does `action`, and puts it after the others.
     fn act(&mut self, alloc: Global, action: Action) -> Result<(), AllocError>
         ensures { OnOk result (self.new
             ≡ record self.old { actions = self.old.actions ++ action ∷ [] }) }
     {
-        if !is_sayable(&action) {
-            return Err(AllocError);
-        }
         let world = self.world.take();
-        let world = world_of(alloc, world, &self.agents, self.actions.as_slice())?;
         let world = world_behind(alloc, world, &self.agents, self.actions.as_slice(), &action)?;
         self.actions.push(action)?;
         self.world = Some(world);
@@ -152,13 +163,8 @@ impl Writing {
         ensures { Gives (λ _. self.new) result (act_line self.old pieces.now) }
     {
         let sent = self.sent()?;
-        let deed = said_deed(
-            alloc,
-            self.agents.as_slice(),
-            self.labels.as_slice(),
-            sent,
-            pieces,
-        )?;
+        let agents = self.agents.as_slice();
+        let deed = said_deed(alloc, agents, self.labels.as_slice(), sent, pieces)?;
         self.act_all(alloc, deed)
     }
 
@@ -197,9 +203,8 @@ impl Writing {
             return Err(bad(1, Wanted::Label));
         }
         let first = self.sent()?;
-        match self.add_actions(alloc, pieces) {
-            Ok(()) => {}
-            Err(fault) => return Err(behind_label(fault)),
+        if let Err(fault) = self.add_actions(alloc, pieces) {
+            return Err(behind_label(fault));
         }
         let past = self.sent()?;
         let name = Bytes::copy_of(alloc, name)?;

@@ -8,7 +8,7 @@ returns-in-Some c =
     ap length c.sent.ensures ∙ sent_is c.self.inside.agents c.self.inside.actions.items c.in-Some.world run
     ∙ ap (λ (w : Written). sent_count w.configs w.actions) c.self.view_is
 
-pub returns-then-is_empty : goal.returns-then-is_empty
-returns-then-is_empty c =
+pub returns-in-None : goal.returns-in-None
+returns-in-None c =
     let none : c.self.inside.actions.items ≡ [] = grind (arith, common_steps) in
     none_sent c.self.inside.agents c.self.inside.actions.items none ∙ ap (λ (w : Written). sent_count w.configs w.actions) c.self.view_is
