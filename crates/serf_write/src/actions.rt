@@ -75,6 +75,16 @@ pub(crate) fn ending(pieces: &[Piece], count: usize, act: Act) -> Result<Act, Li
     Ok(act)
 }
 
+/// What a line does, which is `deed`, where it ends within `count` pieces.
+fn ending_deed(pieces: &[Piece], count: usize, deed: Deed) -> Result<Deed, LineFault>
+    requires { count < 100 }
+    ensures { Gives actions_of result
+        (and_then (ends_behind count pieces.now) (λ _. Ok (actions_of deed))) }
+{
+    end_behind(pieces, count)?;
+    Ok(deed)
+}
+
 /// The firing of an event, by the pieces of its line.
 #[tactic(auto, unfolding(crate::specs::Lines::firing_of))]
 pub(crate) fn firing(alloc: Global, pieces: &[Piece]) -> Result<Act, LineFault>
@@ -83,15 +93,12 @@ pub(crate) fn firing(alloc: Global, pieces: &[Piece]) -> Result<Act, LineFault>
     let name = bytes_at(alloc, pieces, 3)?;
     let payload = optional_bytes_at(alloc, pieces, 4)?;
     let coalesce = coalesce_at(pieces, 5)?;
-    ending(
-        pieces,
-        5,
-        Act::Fire {
-            name,
-            payload,
-            coalesce,
-        },
-    )
+    let act = Act::Fire {
+        name,
+        payload,
+        coalesce,
+    };
+    ending(pieces, 5, act)
 }
 
 /// The delivery of a packet, by the pieces of its line.
@@ -122,15 +129,12 @@ pub(crate) fn answer(alloc: Global, pieces: &[Piece]) -> Result<Act, LineFault>
     let handed = number_at(pieces, 3)?;
     let payload = bytes_at(alloc, pieces, 4)?;
     let now = moment_at(pieces, 5)?;
-    ending(
-        pieces,
-        6,
-        Act::Respond {
-            handed,
-            now,
-            payload,
-        },
-    )
+    let act = Act::Respond {
+        handed,
+        now,
+        payload,
+    };
+    ending(pieces, 6, act)
 }
 
 /// The restart of an agent, by the pieces of its line.
@@ -167,8 +171,7 @@ pub(crate) fn injection(alloc: Global, pieces: &[Piece]) -> Result<Deed, LineFau
     ensures { Gives actions_of result (injection_of pieces.now) }
 {
     let bytes = bytes_at(alloc, pieces, 2)?;
-    end_behind(pieces, 2)?;
-    Ok(Deed::One(Action::Inject { bytes }))
+    ending_deed(pieces, 2, Deed::One(Action::Inject { bytes }))
 }
 
 /// A line's bytes are injected, as packet number `sent`, and its agent gets them.
@@ -184,9 +187,9 @@ pub(crate) fn giving(
     let agent = agent_at(agents, pieces, 2)?;
     let bytes = bytes_at(alloc, pieces, 3)?;
     let now = moment_at(pieces, 4)?;
-    end_behind(pieces, 5)?;
     let act = Act::Deliver { packet: sent, now };
-    Ok(Deed::Two(Action::Inject { bytes }, Action::Of { agent, act }))
+    let deed = Deed::Two(Action::Inject { bytes }, Action::Of { agent, act });
+    ending_deed(pieces, 5, deed)
 }
 
 /// A line's bytes are injected, as packet number `sent`, and its agent merges them.
@@ -202,7 +205,7 @@ pub(crate) fn taking(
     let agent = agent_at(agents, pieces, 2)?;
     let bytes = bytes_at(alloc, pieces, 3)?;
     let join = mode_at(pieces, 4)?;
-    end_behind(pieces, 4)?;
     let act = Act::Merge { packet: sent, join };
-    Ok(Deed::Two(Action::Inject { bytes }, Action::Of { agent, act }))
+    let deed = Deed::Two(Action::Inject { bytes }, Action::Of { agent, act });
+    ending_deed(pieces, 4, deed)
 }

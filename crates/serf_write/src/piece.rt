@@ -1,11 +1,10 @@
 //! The pieces of a line.
 
-ghost use Rattle.std.specs.Prelude.{◌≡◌, ◌==◌, ◌<◌, ◌++◌, ◌∷◌, IfOk, OnOk, MatchResult, length, false, true, []};
+ghost use Rattle.std.specs.Prelude.{◌≡◌, ◌==◌, ◌<◌, ◌++◌, ◌∷◌, IfOk, OnOk, List, MatchResult, None, Option, ℕ, if◌then◌else◌, length, false, true, []};
 ghost use Rattle.std.specs.List.{slice_split};
-ghost use Rattle.std.specs.Option.{option_map};
 ghost use Rattle.serf_text.specs.Words.{words_of};
 ghost use Rattle.serf_write.specs.Gives.{Fails, Gives};
-ghost use Rattle.serf_write.specs.Pieces.{before_return, escaped_of, pieces_from, pieces_of, text_within, words_behind};
+ghost use Rattle.serf_write.specs.Pieces.{before_return, escaped_of, pieces_from, pieces_of, text_within, with_escaped, words_behind};
 
 use crate::fault::{LineFault, Wanted, bad};
 use hex::FromHexError;
@@ -32,20 +31,23 @@ fn without_return(line: &[u8]) -> &[u8]
     }
 }
 
-/// What stands after a backslash: x, two hex digits and more text. `None` for anything else.
-fn escaped(alloc: Global, rest: &[u8]) -> Result<Option<Vec<u8>>, AllocError>
-    ensures { IfOk result (λ found. option_map (λ text. text.items) found ≡ escaped_of rest.now) }
+/// Puts what stands after a backslash after `text`: x, two hex digits and more text. Not where it is anything else.
+fn put_escaped(alloc: Global, rest: &[u8], text: &mut Vec<u8>) -> Result<bool, AllocError>
+    ensures { IfOk result (λ is_put. (next : List ℕ → Option (List ℕ))
+        → with_escaped text.old.items (escaped_of rest.now) next
+        ≡ (if is_put then next text.new.items else None)) }
 {
     if rest.len() < 3 || rest[0] != b'x' {
-        return Ok(None);
+        return Ok(false);
     }
     match hex::decode(alloc, &rest[1..3]) {
-        Ok(mut text) => {
-            text.extend_from_slice(&rest[3..])?;
-            Ok(Some(text))
+        Ok(mut found) => {
+            found.extend_from_slice(&rest[3..])?;
+            text.extend_from_slice(&found)?;
+            Ok(true)
         }
         Err(FromHexError::OutOfMemory) => Err(AllocError),
-        Err(_) => Ok(None),
+        Err(_) => Ok(false),
     }
 }
 
@@ -61,10 +63,9 @@ fn text(alloc: Global, quoted: &[u8]) -> Result<Option<Bytes>, AllocError>
     };
     'parts: loop {
         let (part, more) = cut(rest, b'\\');
-        let Some(found) = escaped(alloc, part)? else {
+        if !put_escaped(alloc, part, &mut text)? {
             return Ok(None);
-        };
-        text.extend_from_slice(&found)?;
+        }
         match more {
             Some(next) => rest = next,
             None => return Ok(Some(Bytes::from_vec(text))),

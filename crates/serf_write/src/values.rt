@@ -188,18 +188,13 @@ pub(crate) fn optional_bytes_at(
     }
 }
 
-/// Whether an agent's name is `name`.
-fn has_name(config: &Config, name: &[u8]) -> bool
-    ensures { result ≡ bytes_eq config.now.name name.now }
-{
-    config.name.as_slice() == name
-}
-
 /// The index of the agent called `name`.
 fn place_of_agent(agents: &[Config], name: &[u8]) -> Option<usize>
     ensures { result ≡ position (λ c. bytes_eq c.name name.now) agents.now }
 {
-    agents.iter().position(|config| has_name(config, name))
+    agents
+        .iter()
+        .position(|config| config.name.as_slice() == name)
 }
 
 /// The number of the agent called `name`.
@@ -231,18 +226,13 @@ pub(crate) fn agent_at(agents: &[Config], pieces: &[Piece], place: usize) -> Res
     or_bad(said_agent(agents, nth(pieces, place)), place, Wanted::Agent)
 }
 
-/// Whether `label` is called `name`.
-fn is_named(label: &Label, name: &[u8]) -> bool
-    ensures { result ≡ bytes_eq label.now.name name.now }
-{
-    label.name.as_slice() == name
-}
-
 /// The index of the label called `name`.
 fn place_of_label(labels: &[Label], name: &[u8]) -> Option<usize>
     ensures { result ≡ position (λ l. bytes_eq l.name name.now) labels.now }
 {
-    labels.iter().position(|label| is_named(label, name))
+    labels
+        .iter()
+        .position(|label| label.name.as_slice() == name)
 }
 
 /// The label called `name`.
