@@ -24,7 +24,8 @@ pub enum WriteFault {
 
 /// The fault of line `line`, counted from 1, where `fault` is that of its words.
 fn at_line(line: u64, fault: LineFault) -> WriteFault
-    ensures bad { (wrong : Fault) → fault ≡ LineFault.Bad wrong → result ≡ WriteFault.BadLine line wrong }
+    ensures bad { (wrong : Fault) → fault ≡ LineFault.Bad wrong
+        → result ≡ WriteFault.BadLine line wrong }
     ensures memory { fault ≡ LineFault.OutOfMemory → result ≡ WriteFault.OutOfMemory }
 {
     match fault {
