@@ -1,6 +1,6 @@
 //! What a command reads and writes: files, the standard streams, and memory.
 
-ghost use Rattle.std.specs.Prelude.{◌≡◌};
+ghost use Rattle.std.specs.Prelude.{◌≡◌, ◌≤◌, IfOk, length};
 
 use crate::fault::{CommandResult, Fault, Status};
 use crate::progress::{BYTES, Progress};
@@ -54,25 +54,22 @@ pub(crate) struct Source<'a> {
 
 impl Read for Source<'_> {
     fn read(&mut self, buf: &mut [u8]) -> io::Result<usize> {
-        let mut read = self.io.noted(self.input.read(buf))?;
-        let begins = self.is_schedule && self.count == 0;
-        if begins && read >= 3 && buf[..read].starts_with(b"\xef\xbb\xbf") {
-            buf.copy_within(3..read, 0);
-            read -= 3;
-            if read == 0 {
-                read = self.io.noted(self.input.read(buf))?;
-            }
-        }
+        let read = self.read_on(buf)?;
         self.count = self.count.saturating_add(read as u64);
         self.progress.acted(self.count, u64::MAX);
         if self.is_schedule && buf[..read].contains(&b'\r') {
-            for byte in buf[..read].iter_mut() {
-                if *byte == b'\r' {
-                    *byte = b' ';
-                }
-            }
+            blank_returns(&mut buf[..read]);
         }
         Ok(read)
+    }
+}
+
+/// Has a space in the place of each carriage return.
+fn blank_returns(text: &mut [u8]) {
+    for byte in text.iter_mut() {
+        if *byte == b'\r' {
+            *byte = b' ';
+        }
     }
 }
 
@@ -81,6 +78,22 @@ impl<'a> Source<'a> {
     pub(crate) fn of_schedule(mut self) -> Source<'a> {
         self.is_schedule = true;
         self
+    }
+
+    /// Reads on. A byte order mark in which a schedule begins is passed over.
+    fn read_on(&mut self, buf: &mut [u8]) -> io::Result<usize>
+        ensures { IfOk result (λ n. n ≤ length buf.old) }
+    {
+        let read = self.io.noted(self.input.read(buf))?;
+        let begins = self.is_schedule && self.count == 0;
+        if !begins || read < 3 || !buf[..read].starts_with(b"\xef\xbb\xbf") {
+            return Ok(read);
+        }
+        if read == 3 {
+            return self.io.noted(self.input.read(buf));
+        }
+        buf.copy_within(3..read, 0);
+        Ok(read - 3)
     }
 
     /// All bytes of the source.
@@ -192,15 +205,17 @@ impl<'a> Io<'a> {
 
     /// Writes a text to standard output.
     pub(crate) fn finish<'b>(self, text: &[u8]) -> CommandResult<'b> {
-        let outcome = write_output(&mut io::writer(&self), text);
-        outcome.map_err(|_| Fault::WriteFault)?;
-        Ok(Status::Done)
+        match write_output(&mut io::writer(&self), text) {
+            Ok(()) => Ok(Status::Done),
+            Err(_) => Err(Fault::WriteFault),
+        }
     }
 
     /// Writes a file, and gives the status of that, or else this one.
     pub(crate) fn save<'b>(self, path: &str, text: &[u8], status: Status) -> CommandResult<'b> {
-        let outcome = self.noted(fs::write(self.rt, path, text));
-        outcome.map_err(|_| Fault::WriteFault)?;
-        Ok(status)
+        match self.noted(fs::write(self.rt, path, text)) {
+            Ok(()) => Ok(status),
+            Err(_) => Err(Fault::WriteFault),
+        }
     }
 }

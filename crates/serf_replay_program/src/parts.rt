@@ -1,5 +1,6 @@
 //! Texts with places in them, and the parts that stand there.
 
+use crate::io::Io;
 use serf_text::{put_hex, put_number};
 use std::alloc::{AllocError, Global};
 
@@ -120,6 +121,19 @@ impl Text {
                 self.push_part(*part);
             }
             self.push(piece);
+        }
+    }
+}
+
+impl Io<'_> {
+    /// Writes a text to standard error, with a part in the place of each `~`, in order. Where there is no memory for it, that
+    /// is said.
+    pub(crate) fn report(self, text: &str, parts: &[Part]) {
+        let mut out = Text::new(self.alloc());
+        out.put(text, parts);
+        match out.whole() {
+            Ok(text) => self.say(&text),
+            Err(_) => self.say(b"no memory\n"),
         }
     }
 }

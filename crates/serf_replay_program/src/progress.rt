@@ -1,6 +1,7 @@
 //! How far a long run is, on a terminal.
 
 use crate::io::Io;
+use crate::parts::Part::{Number, Word};
 use serf_schedule::Watch;
 use std::io;
 use std::time::{Duration, Instant};
@@ -68,18 +69,17 @@ impl<'a> Progress<'a> {
 
     /// Shows a line where it is time for one, without the number of all where nobody knows it, and gives the time since which the next one waits.
     fn show(&self, since: Instant, done: u64, all: u64) -> Option<Instant> {
-        let rt = self.io.rt;
-        let now = Instant::now(rt).ok()?;
+        let now = Instant::now(self.io.rt).ok()?;
         if now.duration_since(since) < Duration::from_secs(PERIOD_SECONDS) {
             return Some(since);
         }
-        let Counted(things, _) = self.counted;
         say_kind(self.io, self.kind).ok()?;
-        if all == u64::MAX {
-            eprintln!(rt; "{done} {things}").ok()?;
-        } else {
-            eprintln!(rt; "{done} of {all} {things}").ok()?;
-        }
+        let things = Word(self.counted.0);
+        let (text, second) = match all {
+            u64::MAX => ("~ ~\n", things),
+            _ => ("~ of ~ ~\n", Number(all)),
+        };
+        self.io.report(text, &[Number(done), second, things]);
         Some(now)
     }
 }

@@ -10,10 +10,10 @@ use crate::io::Io;
 use crate::options::OptionKind::{Flag, Number, Place, Word};
 use crate::options::{CommandRow, KINDS_OR_ALL, bad_word, rows};
 use clap::ArgMatches;
-use hunting::{hold_seeds, seeds_of};
+use hunting::seeds_of;
 use serf_conform::Rules;
 use serf_random::MAX_ROUNDS_AGENTS;
-use session::hold_file;
+use session::{Against, hold_against, hold_file};
 
 /// What the command takes.
 pub(crate) const COMMAND: CommandRow = CommandRow {
@@ -49,25 +49,29 @@ struct HoldOptions<'a> {
     go_on: Option<u64>,
 }
 
-/// What the words ask for. A file stands for fewer calls alone, and fewer calls are tried of one disagreement.
-fn asked_of<'a>(matches: &ArgMatches<'a>) -> Result<HoldOptions<'a>, Fault<'a>> {
-    let rules = rules_of(matches)?;
-    let (shrinks, save) = (matches.get_flag("shrink"), matches.get_str("save"));
-    if save.is_some() && !shrinks {
+/// Refuses a file for fewer calls where they aren't made fewer, and to go on where one disagreement ends it.
+fn check<'a>(asked: &HoldOptions, is_random: bool) -> Result<(), Fault<'a>> {
+    if asked.save.is_some() && !asked.shrinks {
         return Err(bad_word("save", "a file, where --shrink is given too"));
     }
-    let go_on = matches.get_one::<u64>("go-on");
-    if go_on.is_some() && (shrinks || matches.get_str("random").is_none()) {
+    if asked.go_on.is_some() && (asked.shrinks || !is_random) {
         let words = "a number, where --random is given and --shrink isn't";
         return Err(bad_word("go-on", words));
     }
-    Ok(HoldOptions {
-        rules,
-        shrinks,
-        save,
+    Ok(())
+}
+
+/// What the words ask for.
+fn asked_of<'a>(matches: &ArgMatches<'a>) -> Result<HoldOptions<'a>, Fault<'a>> {
+    let asked = HoldOptions {
+        rules: rules_of(matches)?,
+        shrinks: matches.get_flag("shrink"),
+        save: matches.get_str("save"),
         report: matches.get_str("report"),
-        go_on,
-    })
+        go_on: matches.get_one::<u64>("go-on"),
+    };
+    check(&asked, matches.contains_id("random"))?;
+    Ok(asked)
 }
 
 /// Holds agents against a schedule, or an agent against those of seeds.
@@ -82,7 +86,7 @@ pub(super) fn run<'a>(io: Io, matches: &ArgMatches<'a>) -> CommandResult<'a> {
         (None, Some(_)) if matches.get_str("agent").is_some() => {
             Err(bad_word("agent", "an agent of a schedule, where one is given"))
         }
-        (None, Some(word)) => hold_seeds(io, &seeds_of(word, matches)?, asked),
+        (None, Some(word)) => hold_against(io, asked, Against::Seeds(&seeds_of(word, matches)?)),
         (Some(_), Some(_)) => Err(command_line("a schedule and --random: give one of them")),
         (None, None) => Err(command_line("no calls: give a schedule, or seeds as --random A-B")),
     }

@@ -62,12 +62,16 @@ fn write_picture<'a>(io: Io, picture: &Picture, form: PictureForm) -> CommandRes
     io.finish(&text?)
 }
 
+/// The picture of the run of the schedule in a file, or on standard input, that the words ask for.
+fn picture_of<'a>(io: Io, matches: &ArgMatches<'a>) -> Result<Picture, Fault<'a>> {
+    let text = io.schedule(matches)?.text()?;
+    let asked = asked_of(io.alloc(), matches, &text)?;
+    Ok(draw_picture(io.alloc(), &text, &asked, &mut Progress::of(io, ACTIONS))?)
+}
+
 /// Draws the run of the schedule in a file, or on standard input, as the words ask for.
 pub(super) fn run<'a>(io: Io, matches: &ArgMatches<'a>) -> CommandResult<'a> {
     let forms = [("svg", PictureForm::Svg), ("mermaid", PictureForm::Mermaid)];
     let form = chosen(matches, "as", &forms, "svg or mermaid")?;
-    let text = io.schedule(matches)?.text()?;
-    let asked = asked_of(io.alloc(), matches, &text)?;
-    let picture = draw_picture(io.alloc(), &text, &asked, &mut Progress::of(io, ACTIONS))?;
-    write_picture(io, &picture, form)
+    write_picture(io, &picture_of(io, matches)?, form)
 }

@@ -29,16 +29,14 @@ pub(crate) const COMMAND: CommandRow = CommandRow {
 
 /// The log of a file, or of standard input where it is `-`. A log alone has no name.
 fn log_of<'a>(io: Io, file: &'a str, is_alone: bool) -> Result<Log, Fault<'a>> {
+    let name = (!is_alone).then_some(file);
     let mut source = io.source(Some(file))?;
-    let outcome = read_log(io.alloc(), &mut source);
-    outcome.map_err(|fault| match fault {
-        StreamFault::ReadFault => Fault::ReadFault(Some(file)),
-        StreamFault::LineTooLong { line } => Fault::LongLogLine(
-            if is_alone { None } else { Some(file) },
-            line,
-        ),
-        fault => fault.into(),
-    })
+    match read_log(io.alloc(), &mut source) {
+        Ok(log) => Ok(log),
+        Err(StreamFault::ReadFault) => Err(Fault::ReadFault(Some(file))),
+        Err(StreamFault::LineTooLong { line }) => Err(Fault::LongLogLine(name, line)),
+        Err(fault) => Err(fault.into()),
+    }
 }
 
 /// Appends the log `name` to `places`, behind `before` lines of the logs before it.
@@ -79,7 +77,7 @@ fn judge_snapshot<'a>(
     verdicts: &mut Verdicts<'_>,
     log: &Log,
     word: &'a str,
-    is_own: bool,
+    matches: &ArgMatches,
 ) -> Result<(), Fault<'a>> {
     let Some((node, path)) = word.split_once('=') else {
         let wants = "--kept wants NODE=SNAPSHOT, and not '";
@@ -90,31 +88,30 @@ fn judge_snapshot<'a>(
         return Err(Fault::CommandLine("--kept ", word, why, node, "'"));
     }
     let snapshot = snapshot_of(io, path)?;
-    verdicts.judge_kept(log, node.as_bytes(), &snapshot, is_own);
+    verdicts.judge_kept(log, node.as_bytes(), &snapshot, matches.get_flag("own"));
     Ok(())
 }
 
-/// Writes the verdicts on a log. It is refused where a promise is broken, or a line of the log is bad.
-pub(super) fn run<'a>(io: Io, matches: &ArgMatches<'a>) -> CommandResult<'a> {
-    let names = matches.get_strs("LOG").unwrap_or(&[]);
-    let mut places = Vec::new(io.alloc());
-    let log = logs_of(io, names, &mut places)?;
+/// Writes the verdicts on the log that these are. It is refused where a promise is broken, or a line of the log is bad.
+fn judge<'a>(io: Io, matches: &ArgMatches<'a>, log: &Log, logs: &[Placed]) -> CommandResult<'a> {
     let mut verdicts = Verdicts {
         text: Text::new(io.alloc()),
         is_broken: false,
-        logs: &places,
+        logs,
         dates: &log.dates,
     };
-    verdicts.judge(io.alloc(), &log, matches.get_flag("missed"))?;
-    let is_own = matches.get_flag("own");
+    verdicts.judge(io.alloc(), log, matches.get_flag("missed"))?;
     for word in matches.get_strs("kept").unwrap_or(&[]) {
-        judge_snapshot(io, &mut verdicts, &log, word, is_own)?;
+        judge_snapshot(io, &mut verdicts, log, word, matches)?;
     }
-    let Verdicts {
-        text,
-        is_broken,
-        ..
-    } = verdicts;
-    io.finish(&text.whole()?)?;
-    Ok(Status::refused_if(is_broken))
+    let status = Status::refused_if(verdicts.is_broken);
+    io.finish(&verdicts.text.whole()?)?;
+    Ok(status)
+}
+
+/// Writes the verdicts on logs, one after another.
+pub(super) fn run<'a>(io: Io, matches: &ArgMatches<'a>) -> CommandResult<'a> {
+    let mut places = Vec::new(io.alloc());
+    let log = logs_of(io, matches.get_strs("LOG").unwrap_or(&[]), &mut places)?;
+    judge(io, matches, &log, &places)
 }

@@ -51,9 +51,10 @@ impl FramingNotes for Io<'_> {
 /// Writes the answer to each line of standard input.
 fn decode_all<'a>(io: Io) -> CommandResult<'a> {
     let (mut notes, mut source) = (io, io.source(None)?);
-    let outcome = decode_lines(io.alloc(), &mut source, &mut io::writer(&io), &mut notes);
-    let is_refused = outcome.map_err(|fault| stream_fault(fault, "BadHex"))?;
-    Ok(Status::refused_if(is_refused))
+    match decode_lines(io.alloc(), &mut source, &mut io::writer(&io), &mut notes) {
+        Ok(is_refused) => Ok(Status::refused_if(is_refused)),
+        Err(fault) => Err(stream_fault(fault, "BadHex")),
+    }
 }
 
 /// Prints the message of a packet.
@@ -110,8 +111,10 @@ pub(super) fn decode<'a>(io: Io, matches: &ArgMatches<'a>) -> CommandResult<'a> 
 /// Writes the answer to each text on standard input. Of one that the input's end cuts off standard error gets a line.
 pub(super) fn encode<'a>(io: Io, _matches: &ArgMatches<'a>) -> CommandResult<'a> {
     let mut source = io.source(None)?;
-    let outcome = encode_blocks(io.alloc(), &mut source, &mut io::writer(&io));
-    let blocks = outcome.map_err(|fault| stream_fault(fault, "BadText"))?;
+    let blocks = match encode_blocks(io.alloc(), &mut source, &mut io::writer(&io)) {
+        Ok(blocks) => blocks,
+        Err(fault) => return Err(stream_fault(fault, "BadText")),
+    };
     if blocks.is_cut {
         let _ = eprintln!(io.rt; "the last text is cut off: its last line has no newline");
     }

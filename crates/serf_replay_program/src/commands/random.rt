@@ -77,28 +77,25 @@ pub(super) fn ask_with<'a>(matches: &ArgMatches, seed: u64, kind: Kind) -> Resul
     })
 }
 
-/// The number of an option of rounds, or the one where it is left out. Other kinds don't take the option.
-fn rounds_number<'a>(
-    matches: &ArgMatches,
-    kind: Kind,
-    name: &'static str,
-    left_out: u64,
-) -> Result<u64, Fault<'a>> {
-    match matches.get_one::<u64>(name) {
-        None => Ok(left_out),
-        Some(number) if kind.is_rounds() => Ok(number),
-        Some(_) => Err(bad_word(name, "a number, where --kind is rounds")),
+/// Refuses an option of rounds where another kind is asked for.
+fn check_rounds<'a>(matches: &ArgMatches, kind: Kind) -> Result<(), Fault<'a>> {
+    for name in ["fanout", "loss", "rounds"] {
+        if !kind.is_rounds() && matches.contains_id(name) {
+            return Err(bad_word(name, "a number, where --kind is rounds"));
+        }
     }
+    Ok(())
 }
 
 /// What the words ask for, of this seed.
 fn ask_of<'a>(matches: &ArgMatches, seed: u64) -> Result<Ask, Fault<'a>> {
     let kind = kind_of(matches).ok_or(bad_word("kind", KINDS))?;
     let ask = ask_with(matches, seed, kind)?;
+    check_rounds(matches, kind)?;
     Ok(Ask {
-        fanout: rounds_number(matches, kind, "fanout", ask.fanout)?,
-        loss: rounds_number(matches, kind, "loss", ask.loss)?,
-        rounds: rounds_number(matches, kind, "rounds", ask.rounds)?,
+        fanout: matches.get_one::<u64>("fanout").unwrap_or(ask.fanout),
+        loss: matches.get_one::<u64>("loss").unwrap_or(ask.loss),
+        rounds: matches.get_one::<u64>("rounds").unwrap_or(ask.rounds),
         ..ask
     })
 }
@@ -113,16 +110,21 @@ pub(super) fn rules_of<'a>(matches: &ArgMatches) -> Result<Rules, Fault<'a>> {
 /// long.
 const ROOM: usize = 4096;
 
+/// The text of the random schedule that is asked for, whose turns keep to these rules.
+fn text_of<'a>(io: Io, ask: &Ask, rules: Rules) -> Result<Vec<u8>, Fault<'a>> {
+    let mut progress = Progress::of(io, progress::ACTIONS);
+    let made = match rules {
+        Rules::Own => random_schedule(io.alloc(), ask, &mut progress),
+        Rules::Serf => common_schedule(io.alloc(), ask, &mut progress),
+    };
+    Ok(made?.text)
+}
+
 /// Writes the random schedule that is asked for, whose turns keep to the rules that the words name.
 pub(super) fn run<'a>(io: Io, matches: &ArgMatches<'a>) -> CommandResult<'a> {
     let seed = matches.get_one::<u64>("SEED");
     let ask = ask_of(matches, seed.ok_or(bad_word("SEED", "a number"))?)?;
-    let mut progress = Progress::of(io, progress::ACTIONS);
-    let made = match rules_of(matches)? {
-        Rules::Own => random_schedule(io.alloc(), &ask, &mut progress),
-        Rules::Serf => common_schedule(io.alloc(), &ask, &mut progress),
-    };
-    let text = made?.text;
+    let text = text_of(io, &ask, rules_of(matches)?)?;
     if ask.kind.is_rounds() && MAX_SCHEDULE_BYTES.saturating_sub(text.len()) < ROOM {
         let _ = eprintln!(io.rt;
             "random: a schedule has at most 16777216 bytes, so the last rounds may be missing"

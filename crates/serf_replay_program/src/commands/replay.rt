@@ -152,7 +152,9 @@ pub(super) fn run<'a>(io: Io, matches: &ArgMatches<'a>) -> CommandResult<'a> {
     if !matches.get_flag("summary") {
         return write_trace(io, matches);
     }
-    let summary = summary_of(io, matches)?;
-    let text = summary_text(io.alloc(), &form, &summary)?;
-    io.finish(&text)
+    let text = {
+        let summary = summary_of(io, matches)?;
+        summary_text(io.alloc(), &form, &summary)
+    };
+    io.finish(&text?)
 }

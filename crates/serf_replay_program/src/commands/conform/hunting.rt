@@ -1,12 +1,12 @@
 //! `conform --random`: an agent, held against the reference on the random schedules of many seeds.
 
-use super::HoldOptions;
 use super::report::HeldAgent;
 use super::session::Session;
 use crate::commands::random::{ask_with, kind_of};
 use crate::fault::{CommandResult, Fault, Status};
 use crate::io::Io;
 use crate::options::{KINDS_OR_ALL, bad_word};
+use crate::parts::Part::Number;
 use crate::progress::{Progress, SEEDS, say_kind};
 use clap::ArgMatches;
 use serf_hunt::{Counts, Found, HuntFault, Hunted, RandomSchedules, case_of, hunt, sum_of};
@@ -88,24 +88,23 @@ impl KindProgress {
 impl Session<'_> {
     /// Reports what came of all seeds of a kind, and gives the status.
     fn tell_end(&self, kind: &KindProgress) -> Status {
-        let (agreed, calls, found) = (kind.agreed, kind.calls, kind.found);
+        let (agreed, calls, found) = (Number(kind.agreed), Number(kind.calls), Number(kind.found));
+        let text = match kind.found {
+            0 => "~ seeds and ~ calls agree\n",
+            _ => "~ seeds and ~ calls agree, and ~ seeds don't\n",
+        };
         let _ = say_kind(self.io, self.report.kind);
-        if found == 0 {
-            let _ = eprintln!(self.io.rt; "{agreed} seeds and {calls} calls agree");
-            return Status::Done;
-        }
-        let _ = eprintln!(self.io.rt;
-            "{agreed} seeds and {calls} calls agree, and {found} seeds don't"
-        );
-        Status::Refused
+        self.io.report(text, &[agreed, calls, found]);
+        Status::refused_if(kind.found > 0)
     }
 
     /// Reports which agent of which seed does otherwise, how many seeds of its kind agree before, and how.
     fn tell_found<'b>(&mut self, kind: &KindProgress, found: &Found) -> CommandResult<'b> {
         let (alloc, seed, other) = (self.io.alloc(), found.seed, &found.other);
-        let (agreed, calls) = (kind.agreed, kind.calls);
+        let parts = [Number(seed), Number(kind.agreed), Number(kind.calls)];
         let _ = say_kind(self.io, self.report.kind);
-        let _ = eprintln!(self.io.rt; "seed {seed}: {agreed} seeds and {calls} calls agree before");
+        self.io
+            .report("seed ~: ~ seeds and ~ calls agree before\n", &parts);
         let ask = Ask { seed, ..kind.ask };
         let Made { schedule, text } = random_schedule(alloc, &ask, &mut Unwatched)?;
         let case = case_of(alloc, schedule)?;
@@ -157,8 +156,9 @@ impl Session<'_> {
         Err(Fault::Told(Status::Refused))
     }
 
-    /// Holds an agent against all seeds, kind by kind: the greatest of their statuses. The report gets how many agree.
-    fn hold_kinds<'b>(&mut self, seeds: &Seeds) -> CommandResult<'b> {
+    /// Holds an agent against all seeds, kind by kind, up to the first that it does otherwise on, or to as many as are asked
+    /// for: the greatest of their statuses. The report gets how many agree.
+    pub(super) fn hold_kinds<'b>(&mut self, seeds: &Seeds) -> CommandResult<'b> {
         let mut status = Status::Done;
         for word in KINDS.split(' ') {
             let kind = Kind::of_name(word.as_bytes()).unwrap_or(seeds.ask.kind);
@@ -179,12 +179,4 @@ impl Session<'_> {
         }
         Ok(status)
     }
-}
-
-/// Holds an agent on standard input and output against the random schedules of all seeds, up to the first that it does
-/// otherwise on, or to as many as are asked for.
-pub(super) fn hold_seeds<'a>(io: Io, seeds: &Seeds, asked: HoldOptions<'a>) -> CommandResult<'a> {
-    let mut session = Session::new(&io, asked)?;
-    let ended = session.hold_kinds(seeds);
-    session.finish(ended)
 }

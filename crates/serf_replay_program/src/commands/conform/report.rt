@@ -2,7 +2,7 @@
 
 use crate::fault::{CommandResult, Fault, Status};
 use crate::io::Io;
-use crate::parts::Part::{Bytes, Number, Shown};
+use crate::parts::Part::{Bytes, Number, Shown, Word};
 use crate::parts::Text;
 use serf_conform::{
     End, Reply, Verdict, given_packet, look_line, look_reply, opening, put_call, put_open,
@@ -119,23 +119,23 @@ fn behind_one_word<'a, 'b>(one: &'a str, other: &'b str) -> Option<(&'a str, &'a
     (name == second).then_some((name, is, was))
 }
 
-/// Prints each pair of lines that differ. Where both begin with one word, this word is said once.
-fn say_pairs(io: Io, wanted: &[&str], got: &[&str]) {
+/// Appends each pair of lines that differ. Where both begin with one word, this word is said once.
+fn put_pairs(out: &mut Text, wanted: &[&str], got: &[&str]) {
     for (one, other) in wanted.iter().zip(got.iter()) {
-        if *one == *other {
-            continue;
+        match behind_one_word(one, other) {
+            _ if *one == *other => {}
+            Some((name, is, was)) => {
+                out.put("  ~: wanted ~, got ~\n", &[Word(name), Word(is), Word(was)]);
+            }
+            None => out.put("  wanted ~, got ~\n", &[Word(one), Word(other)]),
         }
-        let _ = match behind_one_word(one, other) {
-            Some((name, is, was)) => eprintln!(io.rt; "  {name}: wanted {is}, got {was}"),
-            None => eprintln!(io.rt; "  wanted {one}, got {other}"),
-        };
     }
 }
 
-/// Prints `lines`, each after `word`.
-fn say_all(io: Io, word: &str, lines: &[&str]) {
+/// Appends `lines`, each after `word`.
+fn put_all(out: &mut Text, word: &str, lines: &[&str]) {
     for line in lines {
-        let _ = eprintln!(io.rt; "  {word} {line}");
+        out.put("  ~ ~\n", &[Word(word), Word(line)]);
     }
 }
 
@@ -145,41 +145,39 @@ fn middle<'a, 'b>(lines: &'a [&'b str], front: usize, end: usize) -> &'a [&'b st
     &lines[front.min(stop)..stop]
 }
 
-/// Prints the lines of two messages that aren't in both: those between what they have in common at the start and at the end.
-fn say_messages(io: Io, wanted: &[&str], got: &[&str]) {
+/// Appends the lines of two messages that aren't in both: those between what they have in common at the start and at the end.
+fn put_messages(out: &mut Text, wanted: &[&str], got: &[&str]) {
     if wanted.len() == got.len() {
-        say_pairs(io, wanted, got);
-        return;
+        return put_pairs(out, wanted, got);
     }
     let pairs = wanted.iter().zip(got);
     let front = pairs.take_while(|(one, other)| **one == **other).count();
     let (wanted, got) = (middle(wanted, front, 0), middle(got, front, 0));
     let pairs = wanted.iter().rev().zip(got.iter().rev());
     let end = pairs.take_while(|(one, other)| **one == **other).count();
-    say_all(io, "wanted", middle(wanted, 0, end));
-    say_all(io, "got", middle(got, 0, end));
+    put_all(out, "wanted", middle(wanted, 0, end));
+    put_all(out, "got", middle(got, 0, end));
 }
 
-/// Prints how the messages of two packets differ, where two lines of replies have such.
-fn say_packets(io: Io, wanted: &str, got: &str) -> Result<(), AllocError> {
-    let alloc = io.alloc();
+/// Appends how the messages of two packets differ, where two lines of replies have such.
+fn put_packets(out: &mut Text, alloc: Global, wanted: &str, got: &str) -> Result<(), AllocError> {
     let (Some(wanted), Some(got)) = (message_of(alloc, wanted), message_of(alloc, got)) else {
         return Ok(());
     };
     let wanted = wanted.lines().collect::<Vec<&str>>(alloc)?;
     let got = got.lines().collect::<Vec<&str>>(alloc)?;
-    say_messages(io, &wanted, &got);
+    put_messages(out, &wanted, &got);
     Ok(())
 }
 
-/// Prints, of each packet in a reply that stands where another one is wanted, the lines of `decode` that differ.
-fn say_what_differs(io: Io, wanted: &[u8], got: &[u8]) -> Result<(), AllocError> {
+/// Appends, of each packet in a reply that stands where another one is wanted, the lines of `decode` that differ.
+fn put_changes(out: &mut Text, alloc: Global, wanted: &[u8], got: &[u8]) -> Result<(), AllocError> {
     let (Ok(wanted), Ok(got)) = (str::from_utf8(wanted), str::from_utf8(got)) else {
         return Ok(());
     };
     for (one, other) in wanted.lines().zip(got.lines()) {
         if one != other {
-            say_packets(io, one, other)?;
+            put_packets(out, alloc, one, other)?;
         }
     }
     Ok(())
@@ -188,54 +186,63 @@ fn say_what_differs(io: Io, wanted: &[u8], got: &[u8]) -> Result<(), AllocError>
 /// Appends where a call stands, and its words: its agent, and its action with the line of the schedule, or no action for the
 /// opening. A look stands after an action.
 fn put_head(out: &mut Text, held: &HeldAgent, words: &[u8]) {
-    let (number, line) = (held.verdict.action, held.line());
-    let text = if number == 0 {
-        "agent ~: ~\n"
-    } else if line == 0 {
-        "agent ~: behind its last call: ~\n"
-    } else if held.verdict.look.is_some() {
-        "agent ~: behind action ~, line ~: ~\n"
-    } else {
-        "agent ~: action ~, line ~: ~\n"
-    };
     let (agent, words) = (Number(held.agent), Shown(words));
-    if line == 0 {
-        out.put(text, &[agent, words]);
-    } else {
-        out.put(text, &[agent, Number(number), Number(line), words]);
+    match (held.verdict.action, held.line()) {
+        (0, _) => out.put("agent ~: ~\n", &[agent, words]),
+        (_, 0) => out.put("agent ~: behind its last call: ~\n", &[agent, words]),
+        (action, line) => {
+            let place = held.verdict.look.as_ref().map_or("", |_| "behind ");
+            let parts = [agent, Word(place), Number(action), Number(line), words];
+            out.put("agent ~: ~action ~, line ~: ~\n", &parts);
+        }
     }
 }
 
-/// Reports where an agent is told apart from the reference, and how, and adds it to the report. Of a carriage return it is
-/// said what it is, since it is shown as another byte.
-fn tell(io: Io, report: &mut Report, held: &HeldAgent, got: &[u8]) -> Result<(), AllocError> {
-    let mut call = Vec::new(io.alloc());
-    let reply = put_held_call(&mut call, io.alloc(), held)?;
-    let wanted = reply_text(io.alloc(), &reply)?;
-    let words = &call[..call.len().saturating_sub(1)];
-    report.add(held, words, &wanted);
-    let mut said = Text::new(io.alloc());
+/// What is said where an agent is told apart from the reference: the call, both replies, and how they differ. Of a carriage
+/// return it is said what it is, since it is shown as another byte.
+fn difference(
+    alloc: Global,
+    held: &HeldAgent,
+    words: &[u8],
+    wanted: &[u8],
+    got: &[u8],
+) -> Result<Vec<u8>, AllocError> {
+    let mut said = Text::new(alloc);
     put_head(&mut said, held, words);
-    put_lines(&mut said, b"  wanted: ", &wanted);
+    put_lines(&mut said, b"  wanted: ", wanted);
     put_lines(&mut said, b"  got: ", got);
-    if got
-        .split(|b| *b == b'\n')
-        .any(|line| line.last() == Some(&b'\r'))
-    {
+    let mut lines = got.split(|b| *b == b'\n');
+    if lines.any(|line| line.last() == Some(&b'\r')) {
         said.put("  a carriage return: lines end by a newline alone\n", &[]);
     }
-    io.say(&said.whole()?);
-    say_what_differs(io, &wanted, got)
+    put_changes(&mut said, alloc, wanted, got)?;
+    said.whole()
+}
+
+/// Appends the call at which a verdict stands, and gives the text of the reply that is wanted of it.
+fn wanted_text(call: &mut Vec<u8>, alloc: Global, held: &HeldAgent) -> Result<Vec<u8>, AllocError> {
+    let reply = put_held_call(call, alloc, held)?;
+    reply_text(alloc, &reply)
+}
+
+/// Reports where an agent is told apart from the reference, and how, and adds it to the report.
+fn tell(io: Io, report: &mut Report, held: &HeldAgent, got: &[u8]) -> Result<(), AllocError> {
+    let mut call = Vec::new(io.alloc());
+    let wanted = wanted_text(&mut call, io.alloc(), held)?;
+    let words = &call[..call.len().saturating_sub(1)];
+    report.add(held, words, &wanted);
+    io.say(&difference(io.alloc(), held, words, &wanted, got)?);
+    Ok(())
 }
 
 /// Prints how many calls agree, and where it isn't all of them, why the others aren't compared.
-fn say_agreeing(io: Io, held: &HeldAgent, why: Option<&str>) -> Status {
-    let agent = held.agent;
-    let Verdict { calls, action, .. } = held.verdict;
-    let _ = match why {
-        None => eprintln!(io.rt; "agent {agent}: {calls} calls agree"),
-        Some(why) => eprintln!(io.rt; "agent {agent}: {calls} calls agree; action {action} {why}"),
+fn say_agreeing(io: Io, held: &HeldAgent, why: &str) -> Status {
+    let (calls, action) = (Number(held.verdict.calls), Number(held.verdict.action));
+    let text = match why {
+        "" => "agent ~: ~ calls agree\n",
+        _ => "agent ~: ~ calls agree; action ~ ~\n",
     };
+    io.report(text, &[Number(held.agent), calls, action, Word(why)]);
     Status::Done
 }
 
@@ -244,9 +251,9 @@ pub(super) fn tell_verdict<'b>(io: Io, report: &mut Report, held: &HeldAgent) ->
     // The sums have this verdict already.
     let is_first = report.counts.agents <= 1 && held.verdict.calls == 0;
     let (got, status): (&[u8], Status) = match &held.verdict.end {
-        End::AllAgree => return Ok(say_agreeing(io, held, None)),
-        End::OwnRule => return Ok(say_agreeing(io, held, Some("rests on an own rule"))),
-        End::Unsupported => return Ok(say_agreeing(io, held, Some("is unsupported"))),
+        End::AllAgree => return Ok(say_agreeing(io, held, "")),
+        End::OwnRule => return Ok(say_agreeing(io, held, "rests on an own rule")),
+        End::Unsupported => return Ok(say_agreeing(io, held, "is unsupported")),
         End::Differs(got) => (got.as_slice(), Status::Refused),
         End::Ended if is_first => (b"the agent ended before its first reply", Status::Device),
         End::Ended => (b"the agent ended", Status::Device),
@@ -351,7 +358,8 @@ fn told_unsupported(io: Io, counts: Counts, status: Status) -> Status {
         let _ = eprintln!(io.rt; "{looks} looks are unsupported");
     }
     if ended > 0 {
-        let _ = eprintln!(io.rt; "of {agents} agents {ended} ended at an unsupported call");
+        let parts = [Number(agents), Number(ended)];
+        io.report("of ~ agents ~ ended at an unsupported call\n", &parts);
     }
     if ended == 0 || counts.calls > agents || status != Status::Done {
         return status;

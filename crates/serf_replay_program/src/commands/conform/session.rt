@@ -1,14 +1,16 @@
 //! An agent on standard input and output: it is held there, and the calls at which it fails are made fewer (`--shrink`).
 
 use super::HoldOptions;
+use super::hunting::Seeds;
 use super::report::{HeldAgent, Report, tell_verdict};
 use crate::fault::{CommandResult, Fault, Status};
 use crate::io::Io;
 use crate::options::agents_of;
+use crate::parts::Part::Number;
 use crate::progress::{CALLS, Progress};
 use clap::ArgMatches;
 use serf_agent::Config;
-use serf_conform::{ConformFault, End, hold};
+use serf_conform::{ConformFault, hold};
 use serf_hunt::{Case, Shrunk, alone_schedule, calls_of, case_of, shrink, with_verdict};
 use serf_schedule::{parse_schedule, put_schedule};
 use std::alloc::{AllocError, Global};
@@ -33,21 +35,6 @@ fn text_of_left(alloc: Global, config: &Config, shrunk: &Shrunk) -> Result<Vec<u
 }
 
 impl<'a> Session<'a> {
-    /// A session of which nothing was read or written yet.
-    pub(super) fn new<'b>(
-        io: &'a Io<'a>,
-        asked: HoldOptions<'a>,
-    ) -> Result<Session<'a>, Fault<'b>> {
-        let reader = BufReader::new(io.alloc(), io.rt.reader()).map_err(|_| Fault::NoMemory)?;
-        Ok(Session {
-            io: *io,
-            asked,
-            report: Report::new(io.alloc(), asked.report),
-            reader,
-            writer: io::writer(io),
-        })
-    }
-
     /// The calls of an agent up to the one at which it fails, or after which its look does, made fewer, and how many they were.
     /// The opening is none of them.
     fn shrunk_calls(
@@ -68,13 +55,13 @@ impl<'a> Session<'a> {
 
     /// Reports what is left, and writes its schedule to its place.
     fn tell_shrunk<'b>(&self, config: &Config, count: usize, shrunk: &Shrunk) -> CommandResult<'b> {
-        let left = shrunk.calls.len();
-        let end = if shrunk.is_smallest {
-            ""
+        let (left, count) = (Number(shrunk.calls.len() as u64), Number(count as u64));
+        let text = if shrunk.is_smallest {
+            "shrunk to ~ of ~ calls\n"
         } else {
-            "; then the agent ended"
+            "shrunk to ~ of ~ calls; then the agent ended\n"
         };
-        let _ = eprintln!(self.io.rt; "shrunk to {left} of {count} calls{end}");
+        self.io.report(text, &[left, count]);
         let text = text_of_left(self.io.alloc(), config, shrunk)?;
         if let Some(path) = self.asked.save {
             return self.io.save(path, &text, Status::Refused);
@@ -102,14 +89,14 @@ impl<'a> Session<'a> {
     /// Reports a verdict, and gives the status with which it goes on. An agent that ended ends all, and so does one whose
     /// calls are made fewer.
     pub(super) fn conclude<'b>(&mut self, held: &HeldAgent) -> CommandResult<'b> {
-        let status = tell_verdict(self.io, &mut self.report, held)?;
-        if self.asked.shrinks && matches!(&held.verdict.end, End::Differs(_)) {
-            return Err(Fault::Told(self.shrink_found(held)?));
+        let came = tell_verdict(self.io, &mut self.report, held);
+        match came {
+            Ok(Status::Refused) if self.asked.shrinks => {
+                Err(Fault::Told(self.shrink_found(held)?))
+            }
+            Ok(Status::Device) => Err(Fault::Told(Status::Device)),
+            _ => came,
         }
-        if status == Status::Device {
-            return Err(Fault::Told(status));
-        }
-        Ok(status)
     }
 
     /// Holds one agent.
@@ -143,6 +130,7 @@ impl<'a> Session<'a> {
         only: Option<u64>,
     ) -> CommandResult<'b> {
         let mut status = Status::Done;
+        self.report.schedules = 1;
         for (place, config) in case.configs.iter().enumerate() {
             let number = place as u64;
             if only.is_none() || only == Some(number) {
@@ -162,6 +150,41 @@ impl<'a> Session<'a> {
     }
 }
 
+/// What agents are held against.
+#[derive(Clone, Copy)]
+pub(super) enum Against<'a> {
+    /// The schedule of a text: this agent alone, or all.
+    Schedule(&'a [u8], &'a Case, Option<u64>),
+    Seeds(&'a Seeds),
+}
+
+/// Holds an agent on standard input and output, and reports what came of it.
+pub(super) fn hold_against<'b>(io: Io, asked: HoldOptions, against: Against) -> CommandResult<'b> {
+    let reader = BufReader::new(io.alloc(), io.rt.reader()).map_err(|_| Fault::NoMemory)?;
+    let mut session = Session {
+        io,
+        asked,
+        report: Report::new(io.alloc(), asked.report),
+        reader,
+        writer: io::writer(&io),
+    };
+    let ended = match against {
+        Against::Schedule(text, case, only) => session.hold_agents(text, case, only),
+        Against::Seeds(seeds) => session.hold_kinds(seeds),
+    };
+    session.finish(ended)
+}
+
+/// The case of a schedule's text.
+fn case_in<'a>(io: Io, text: &[u8]) -> Result<Case, Fault<'a>> {
+    let schedule = parse_schedule(io.alloc(), text)?;
+    let case = case_of(io.alloc(), schedule)?;
+    if case.configs.is_empty() {
+        let _ = eprintln!(io.rt; "the schedule has no agents: nothing was compared");
+    }
+    Ok(case)
+}
+
 /// Holds the agents of the schedule in a file against the reference. A bad line is refused before a call is written.
 pub(super) fn hold_file<'a>(
     io: Io,
@@ -170,14 +193,7 @@ pub(super) fn hold_file<'a>(
     asked: HoldOptions<'a>,
 ) -> CommandResult<'a> {
     let text = io.file(path)?.of_schedule().text()?;
-    let schedule = parse_schedule(io.alloc(), &text)?;
-    let case = case_of(io.alloc(), schedule)?;
-    if case.configs.is_empty() {
-        let _ = eprintln!(io.rt; "the schedule has no agents: nothing was compared");
-    }
+    let case = case_in(io, &text)?;
     let only = agents_of(io.alloc(), matches, &text)?.first().copied();
-    let mut session = Session::new(&io, asked)?;
-    session.report.schedules = 1;
-    let ended = session.hold_agents(&text, &case, only);
-    session.finish(ended)
+    hold_against(io, asked, Against::Schedule(&text, &case, only))
 }

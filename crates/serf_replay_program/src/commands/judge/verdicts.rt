@@ -141,6 +141,20 @@ impl<'a> Verdicts<'a> {
         Ok(())
     }
 
+    /// Appends that a thing was handed to a node twice. The words are the promise, and the thing's kind.
+    fn put_repeat(&mut self, words: [&str; 2], early: Handed, late: Handed) {
+        let [promise, kind] = words;
+        let (late_line, early_line) = (self.line(late.line), self.line(early.line));
+        let key = late.key;
+        let parts = [Word(promise), late_line, early_line, Bytes(key.node)];
+        self.put_broken("~: ~ repeats ~: ~", &parts);
+        match key.id {
+            Some(id) => self.put(" ~ ~\n", &[Number(key.time), Number(id)]),
+            None if kind == "query" => self.put(" ~ -\n", &[Number(key.time)]),
+            None => self.put_event(&key),
+        }
+    }
+
     /// Whether a thing was handed to a node twice, as the places of the first two such lines tell. The words are the promise,
     /// a thing, and its kind.
     fn judge_once<E: HandedOut>(
@@ -155,16 +169,7 @@ impl<'a> Verdicts<'a> {
             && let Some(first) = entries.get(earlier)
             && let Some(second) = entries.get(later)
         {
-            let (early, late) = (first.handed(), second.handed());
-            let (late_line, early_line) = (self.line(late.line), self.line(early.line));
-            let key = late.key;
-            let parts = [Word(promise), late_line, early_line, Bytes(key.node)];
-            self.put_broken("~: ~ repeats ~: ~", &parts);
-            match key.id {
-                Some(id) => self.put(" ~ ~\n", &[Number(key.time), Number(id)]),
-                None if kind == "query" => self.put(" ~ -\n", &[Number(key.time)]),
-                None => self.put_event(&key),
-            }
+            self.put_repeat([promise, kind], first.handed(), second.handed());
             return self.put_tallies(alloc, [name, kind], entries);
         }
         if entries.is_empty() {
@@ -267,15 +272,14 @@ impl<'a> Verdicts<'a> {
         self.judge_once(alloc, ["Once", "an event", "event"], events, twice)?;
         let twice = first_query_twice(alloc, queries)?;
         self.judge_once(alloc, ["QueryOnce", "a query", "query"], queries, twice)?;
-        if log.fired.is_empty() {
-            self.put_not_asked("Fired", "fired");
-            self.put_not_asked("Later", "fired");
-        } else if events.is_empty() {
-            self.put_not_asked("Fired", "event");
-            self.put_not_asked("Later", "event");
-        } else {
+        let has_fired = !log.fired.is_empty();
+        if has_fired && !events.is_empty() {
             self.judge_fired(alloc, log)?;
             self.judge_later(alloc, log)?;
+        } else {
+            let lines = if has_fired { "event" } else { "fired" };
+            self.put_not_asked("Fired", lines);
+            self.put_not_asked("Later", lines);
         }
         if tells_missed {
             self.put_missed(alloc, events)?;
