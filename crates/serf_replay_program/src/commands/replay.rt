@@ -136,12 +136,8 @@ fn write_trace<'a>(io: Io, matches: &ArgMatches<'a>) -> CommandResult<'a> {
     if matches.get_flag("stream") {
         replay_lines(io.alloc(), &mut source, &mut output)?;
     } else {
-        replay(
-            io.alloc(),
-            &mut source,
-            &mut output,
-            &mut Progress::of(io, ACTIONS),
-        )?;
+        let mut progress = Progress::of(io, ACTIONS);
+        replay(io.alloc(), &mut source, &mut output, &mut progress)?;
     }
     Ok(Status::Done)
 }

@@ -122,12 +122,14 @@ fn behind_one_word<'a, 'b>(one: &'a str, other: &'b str) -> Option<(&'a str, &'a
 /// Appends each pair of lines that differ. Where both begin with one word, this word is said once.
 fn put_pairs(out: &mut Text, wanted: &[&str], got: &[&str]) {
     for (one, other) in wanted.iter().zip(got.iter()) {
-        match behind_one_word(one, other) {
-            _ if *one == *other => {}
-            Some((name, is, was)) => {
-                out.put("  ~: wanted ~, got ~\n", &[Word(name), Word(is), Word(was)]);
-            }
-            None => out.put("  wanted ~, got ~\n", &[Word(one), Word(other)]),
+        let found = behind_one_word(one, other);
+        let text = match found {
+            Some(_) => "  ~: wanted ~, got ~\n",
+            None => "  ~wanted ~, got ~\n",
+        };
+        if *one != *other {
+            let (name, is, was) = found.unwrap_or(("", one, other));
+            out.put(text, &[Word(name), Word(is), Word(was)]);
         }
     }
 }
@@ -236,29 +238,31 @@ fn tell(io: Io, report: &mut Report, held: &HeldAgent, got: &[u8]) -> Result<(),
 }
 
 /// Prints how many calls agree, and where it isn't all of them, why the others aren't compared.
-fn say_agreeing(io: Io, held: &HeldAgent, why: &str) -> Status {
+fn say_agreeing(io: Io, held: &HeldAgent, why: &[u8]) {
     let (calls, action) = (Number(held.verdict.calls), Number(held.verdict.action));
     let text = match why {
-        "" => "agent ~: ~ calls agree\n",
+        b"" => "agent ~: ~ calls agree\n",
         _ => "agent ~: ~ calls agree; action ~ ~\n",
     };
-    io.report(text, &[Number(held.agent), calls, action, Word(why)]);
-    Status::Done
+    io.report(text, &[Number(held.agent), calls, action, Bytes(why)]);
 }
 
 /// Prints a verdict, adds it to the report where the agent did otherwise, and gives its status.
 pub(super) fn tell_verdict<'b>(io: Io, report: &mut Report, held: &HeldAgent) -> CommandResult<'b> {
     // The sums have this verdict already.
     let is_first = report.counts.agents <= 1 && held.verdict.calls == 0;
-    let (got, status): (&[u8], Status) = match &held.verdict.end {
-        End::AllAgree => return Ok(say_agreeing(io, held, "")),
-        End::OwnRule => return Ok(say_agreeing(io, held, "rests on an own rule")),
-        End::Unsupported => return Ok(say_agreeing(io, held, "is unsupported")),
+    let (told, status): (&[u8], Status) = match &held.verdict.end {
+        End::AllAgree => (b"", Status::Done),
+        End::OwnRule => (b"rests on an own rule", Status::Done),
+        End::Unsupported => (b"is unsupported", Status::Done),
         End::Differs(got) => (got.as_slice(), Status::Refused),
         End::Ended if is_first => (b"the agent ended before its first reply", Status::Device),
         End::Ended => (b"the agent ended", Status::Device),
     };
-    tell(io, report, held, got)?;
+    match status {
+        Status::Done => say_agreeing(io, held, told),
+        _ => tell(io, report, held, told)?,
+    }
     Ok(status)
 }
 
