@@ -31,7 +31,7 @@ pub(crate) fn say_kind(io: Io, kind: Option<&str>) -> io::Result<()> {
 
 /// Shows how far a run is on standard error, once a second, where that is a terminal.
 ///
-/// Where the clock can't be read or the terminal takes nothing, nothing more is shown, and the run goes on.
+/// Where the clock can't be read nothing more is shown, and the run goes on. So it does where the terminal takes nothing.
 #[derive(Drop)]
 pub(crate) struct Progress<'a> {
     io: Io<'a>,

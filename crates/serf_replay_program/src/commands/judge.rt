@@ -92,7 +92,7 @@ fn judge_snapshot<'a>(
     Ok(())
 }
 
-/// Writes the verdicts on the log that these are. It is refused where a promise is broken, or a line of the log is bad.
+/// Writes the verdicts on a log, which is `logs` in turn. It is refused where a promise is broken, or a line is bad.
 fn judge<'a>(io: Io, matches: &ArgMatches<'a>, log: &Log, logs: &[Placed]) -> CommandResult<'a> {
     let mut verdicts = Verdicts {
         text: Text::new(io.alloc()),
@@ -109,7 +109,7 @@ fn judge<'a>(io: Io, matches: &ArgMatches<'a>, log: &Log, logs: &[Placed]) -> Co
     Ok(status)
 }
 
-/// Writes the verdicts on logs, one after another.
+/// Writes the verdicts on the logs that the words name.
 pub(super) fn run<'a>(io: Io, matches: &ArgMatches<'a>) -> CommandResult<'a> {
     let mut places = Vec::new(io.alloc());
     let log = logs_of(io, matches.get_strs("LOG").unwrap_or(&[]), &mut places)?;
