@@ -66,23 +66,13 @@ fn count_at(pieces: &[Piece], place: usize) -> Result<u64, LineFault>
     or_bad(count, place, Wanted::Count)
 }
 
-/// The act `act`, of a line that ends within `count` pieces.
-pub(crate) fn ending(pieces: &[Piece], count: usize, act: Act) -> Result<Act, LineFault>
+/// What a line says, which is `said`, where it ends within `count` pieces.
+pub(crate) fn ending<T: Drop>(pieces: &[Piece], count: usize, said: T) -> Result<T, LineFault>
     requires { count < 100 }
-    ensures { Gives (λ a. a) result (and_then (ends_behind count pieces.now) (λ _. Ok act)) }
+    ensures { Gives (λ a. a) result (and_then (ends_behind count pieces.now) (λ _. Ok said)) }
 {
     end_behind(pieces, count)?;
-    Ok(act)
-}
-
-/// What a line does, which is `deed`, where it ends within `count` pieces.
-fn ending_deed(pieces: &[Piece], count: usize, deed: Deed) -> Result<Deed, LineFault>
-    requires { count < 100 }
-    ensures { Gives actions_of result
-        (and_then (ends_behind count pieces.now) (λ _. Ok (actions_of deed))) }
-{
-    end_behind(pieces, count)?;
-    Ok(deed)
+    Ok(said)
 }
 
 /// The firing of an event, by the pieces of its line.
@@ -171,7 +161,7 @@ pub(crate) fn injection(alloc: Global, pieces: &[Piece]) -> Result<Deed, LineFau
     ensures { Gives actions_of result (injection_of pieces.now) }
 {
     let bytes = bytes_at(alloc, pieces, 2)?;
-    ending_deed(pieces, 2, Deed::One(Action::Inject { bytes }))
+    ending(pieces, 2, Deed::One(Action::Inject { bytes }))
 }
 
 /// A line's bytes are injected, as packet number `sent`, and its agent gets them.
@@ -189,7 +179,7 @@ pub(crate) fn giving(
     let now = moment_at(pieces, 4)?;
     let act = Act::Deliver { packet: sent, now };
     let deed = Deed::Two(Action::Inject { bytes }, Action::Of { agent, act });
-    ending_deed(pieces, 5, deed)
+    ending(pieces, 5, deed)
 }
 
 /// A line's bytes are injected, as packet number `sent`, and its agent merges them.
@@ -207,5 +197,5 @@ pub(crate) fn taking(
     let join = mode_at(pieces, 4)?;
     let act = Act::Merge { packet: sent, join };
     let deed = Deed::Two(Action::Inject { bytes }, Action::Of { agent, act });
-    ending_deed(pieces, 4, deed)
+    ending(pieces, 4, deed)
 }
