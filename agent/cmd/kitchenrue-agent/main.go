@@ -1,5 +1,5 @@
-// Command kitchenrue-agent is an agent for a Serf cluster, whose handlers run once at most for an event. docs/AGENT.md says how
-// it is used.
+// Command kitchenrue-agent is an agent for a Serf cluster that runs its handlers at most once for each event.
+// docs/AGENT.md describes its use.
 package main
 
 import (

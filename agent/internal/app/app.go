@@ -1,4 +1,5 @@
-// Package app puts the agent together: configuration, a node of package serf, handlers and the command line's requests.
+// Package app combines the parts of the agent: configuration, a node of package serf, handlers, and requests of the
+// command line.
 package app
 
 import (
@@ -16,7 +17,7 @@ import (
 	"kitchenrue.example/serf"
 )
 
-// handlersGrace is how long handlers that wait may still run at the end.
+// handlersGrace is how long waiting handlers may still run when the agent ends.
 const handlersGrace = 10 * time.Second
 
 // App is a running agent.
@@ -27,27 +28,27 @@ type App struct {
 	node   *serf.Serf
 	server atomic.Pointer[rpc.Server]
 	tags   *tags
-	// ends has why the agent has to end: nil where it was asked to.
-	ends chan error
-	// ending is closed when the agent ends, and pumped behind the last event.
-	ending, pumped chan struct{}
-	// unlog ends what goes to syslog.
-	unlog func()
+	// endReason receives why the agent has to end. It is nil if a request asked for it.
+	endReason chan error
+	// closing is closed when the agent ends, and pumpDone after the last event was passed on.
+	closing, pumpDone chan struct{}
+	// closeSyslog ends the connection to syslog.
+	closeSyslog func()
 }
 
-// Start starts an agent. It joins nobody yet but those that its snapshot names.
+// Start starts an agent. It joins only the members that its snapshot names.
 func Start(conf config.Config, out io.Writer) (*App, error) {
 	if err := conf.Resolve(); err != nil {
 		return nil, err
 	}
 	level, _ := logs.LevelOf(conf.LogLevel)
-	a := &App{config: conf, log: logs.New(out, level), ends: make(chan error, 1), ending: make(chan struct{}), pumped: make(chan struct{}), unlog: func() {}}
+	a := &App{config: conf, log: logs.New(out, level), endReason: make(chan error, 1), closing: make(chan struct{}), pumpDone: make(chan struct{}), closeSyslog: func() {}}
 	if conf.Syslog {
-		end, err := a.log.ToSyslog("", "", conf.SyslogFacility)
+		closeSyslog, err := a.log.ToSyslog("", "", conf.SyslogFacility)
 		if err != nil {
 			return nil, fmt.Errorf("-syslog: %w", err)
 		}
-		a.unlog = end
+		a.closeSyslog = closeSyslog
 	}
 	scripts, err := handlers.ParseScripts(conf.EventHandlers)
 	if err != nil {
@@ -57,24 +58,24 @@ func Start(conf config.Config, out io.Writer) (*App, error) {
 		return nil, err
 	}
 	events := make(chan serf.Event)
-	own, finish, err := a.nodeConfig(events)
+	nodeConfig, cleanUp, err := a.nodeConfig(events)
 	if err != nil {
 		return nil, err
 	}
 	a.log.Print("[INFO] agent: Serf agent starting")
-	if a.node, err = serf.Create(own); err != nil {
-		finish()
-		var of *serf.FieldError
-		if errors.As(err, &of) && of.Field == "SnapshotPath" {
-			err = fmt.Errorf("-snapshot: %w", of.Err)
+	if a.node, err = serf.Create(nodeConfig); err != nil {
+		cleanUp()
+		var fieldErr *serf.FieldError
+		if errors.As(err, &fieldErr) && fieldErr.Field == "SnapshotPath" {
+			err = fmt.Errorf("-snapshot: %w", fieldErr.Err)
 		}
 		return nil, err
 	}
 	a.runner = handlers.New(a.log.Logger, conf.HandlerTimeout, scripts, func() handlers.Self {
 		return handlers.Self{Name: conf.NodeName, Tags: a.tags.all()}
 	})
-	go a.pump(events)
-	go a.watch()
+	go a.pumpEvents(events)
+	go a.watchNode()
 	go a.limitMemory()
 	server, err := rpc.Listen(conf.RPCAddr, conf.RPCAuth, a, a.log)
 	if err != nil {
@@ -85,14 +86,15 @@ func Start(conf config.Config, out io.Writer) (*App, error) {
 	return a, nil
 }
 
-// pump gives what the node hands out to the handlers and to the command line, in order, while there is room for it.
-func (a *App) pump(events <-chan serf.Event) {
-	defer close(a.pumped)
+// pumpEvents passes the node's events on to the handlers and to streams of the command line, in order, while the
+// handlers have room.
+func (a *App) pumpEvents(events <-chan serf.Event) {
+	defer close(a.pumpDone)
 	for {
 		select {
 		case e := <-events:
 			a.waitForRoom()
-			a.log.Often("[INFO] agent: Received event: %s", e)
+			a.log.Lazyf("[INFO] agent: Received event: %s", e)
 			a.runner.Add(e)
 			if server := a.server.Load(); server != nil {
 				server.Publish(e)
@@ -103,56 +105,59 @@ func (a *App) pump(events <-chan serf.Event) {
 	}
 }
 
-// waitForRoom waits until the handlers have room; not at the end, when all that was handed out goes to them.
+// waitForRoom waits until the handlers have room. When the agent ends, it doesn't wait, so that all events that were
+// handed out reach the handlers.
 func (a *App) waitForRoom() {
 	for !a.runner.HasRoom() {
 		select {
 		case <-a.runner.Room():
-		case <-a.ending:
+		case <-a.closing:
 			return
 		}
 	}
 }
 
-// watch has the agent end where its node ends by itself.
-func (a *App) watch() {
+// watchNode ends the agent if its node ends by itself.
+func (a *App) watchNode() {
 	<-a.node.ShutdownCh()
-	if why := a.node.Fault(); why != nil {
-		a.end(why)
+	if reason := a.node.Fault(); reason != nil {
+		a.requestEnd(reason)
 	}
 }
 
-// end lets the agent end. The first reason stands.
-func (a *App) end(why error) {
+// requestEnd ends the agent. The first reason counts.
+func (a *App) requestEnd(reason error) {
 	select {
-	case a.ends <- why:
+	case a.endReason <- reason:
 	default:
 	}
 }
 
-// Close ends the agent: the node at once, and the handlers that wait soon. Where the node has ended by itself, it says why.
+// Close ends the agent: the node at once, and the handlers within handlersGrace. If the node has ended by itself, it
+// returns why.
 func (a *App) Close() error {
 	a.log.Print("[INFO] agent: requesting serf shutdown")
-	close(a.ending)
+	close(a.closing)
 	err := a.node.Shutdown()
 	if err == nil {
 		err = a.node.Fault()
 	}
-	<-a.pumped
+	<-a.pumpDone
 	a.runner.Close(handlersGrace)
 	if server := a.server.Load(); server != nil {
 		server.Close()
 	}
 	a.log.Print("[INFO] agent: shutdown complete")
-	a.unlog()
+	a.closeSyslog()
 	return err
 }
 
-// ignoresOld says whether the joins of the start take no events from before: a node that goes on wants what it missed.
+// ignoresOld reports whether the joins at the start ignore events from before them. A node that resumes from its
+// snapshot needs the events it missed.
 func (a *App) ignoresOld() bool { return !a.config.Replay && !a.node.IsGoingOn() }
 
-// JoinAtStart joins what the configuration names, and begins to try what has to be tried again and again. A join at the start that
-// fails is an error.
+// JoinAtStart joins the agents in the configuration, and starts to retry those of RetryJoin. It is an error if a join
+// of StartJoin fails.
 func (a *App) JoinAtStart(ctx context.Context) error {
 	if len(a.config.StartJoin) > 0 {
 		count, err := a.node.Join(a.config.StartJoin, a.ignoresOld())
@@ -168,15 +173,15 @@ func (a *App) JoinAtStart(ctx context.Context) error {
 }
 
 func (a *App) retryJoin(ctx context.Context) {
-	for tried := 1; ; tried++ {
+	for attempt := 1; ; attempt++ {
 		count, err := a.node.Join(a.config.RetryJoin, a.ignoresOld())
 		if err == nil {
 			a.log.Printf("[INFO] agent: Join completed. Synced with %d initial agents", count)
 			return
 		}
-		// (the first try is no retry)
-		if a.config.RetryMax > 0 && tried > a.config.RetryMax {
-			a.end(fmt.Errorf("-retry-join: nobody was joined in %d tries: %w", tried, err))
+		// The first attempt is no retry.
+		if a.config.RetryMax > 0 && attempt > a.config.RetryMax {
+			a.requestEnd(fmt.Errorf("-retry-join: no agent was joined in %d attempts: %w", attempt, err))
 			return
 		}
 		a.log.Printf("[WARN] agent: Join failed: %v, retrying in %v", err, a.config.RetryInterval)
@@ -188,15 +193,15 @@ func (a *App) retryJoin(ctx context.Context) {
 	}
 }
 
-// Reload takes handlers, tags and the log's level from a new configuration.
+// Reload applies the handlers, the tags and the log level of a new configuration.
 func (a *App) Reload(conf config.Config) error {
 	scripts, err := handlers.ParseScripts(conf.EventHandlers)
 	if err != nil {
 		return err
 	}
-	level, is := logs.LevelOf(conf.LogLevel)
-	if !is {
-		return errors.New("-log-level: it is none")
+	level, ok := logs.LevelOf(conf.LogLevel)
+	if !ok {
+		return fmt.Errorf("-log-level: %q is not one of %v", conf.LogLevel, logs.Levels)
 	}
 	a.runner.SetScripts(scripts)
 	a.log.SetLevel(level)

@@ -23,23 +23,23 @@ import (
 	"kitchenrue.example/serfagent"
 )
 
-// conf is an agent's configuration on loopback, with what these words say.
-func conf(t *testing.T, words ...string) config.Config {
+// parseConfig returns the configuration of an agent on loopback, with these flags.
+func parseConfig(t *testing.T, words ...string) config.Config {
 	t.Helper()
-	found, err := config.Parse(append([]string{"-node", "a", "-bind", "127.0.0.1:0", "-rpc-addr", "127.0.0.1:0", "-log-level", "debug", "-profile", "local"}, words...), &testkit.Said{})
+	found, err := config.Parse(append([]string{"-node", "a", "-bind", "127.0.0.1:0", "-rpc-addr", "127.0.0.1:0", "-log-level", "debug", "-profile", "local"}, words...), &testkit.Output{})
 	testkit.Must(t, err)
 	return found
 }
 
-func start(t *testing.T, words ...string) (*App, *testkit.Said) {
+func start(t *testing.T, words ...string) (*App, *testkit.Output) {
 	t.Helper()
-	out := &testkit.Said{}
-	a, err := Start(conf(t, words...), out)
+	out := &testkit.Output{}
+	a, err := Start(parseConfig(t, words...), out)
 	testkit.Must(t, err)
 	return a, out
 }
 
-func TestALife(t *testing.T) {
+func TestLife(t *testing.T) {
 	folder := t.TempDir()
 	handled, tags := filepath.Join(folder, "handled"), filepath.Join(folder, "tags")
 	words := []string{"-snapshot", filepath.Join(folder, "snapshot"), "-tags-file", tags, "-event-handler", "user=(echo $SERF_TAG_SIZE $SERF_USER_LTIME; cat) >> " + handled}
@@ -53,14 +53,14 @@ func TestALife(t *testing.T) {
 	if stats := a.Stats(); stats["serf"]["event_time"] != "3" || stats["tags"]["size"] != "big" || stats["event_handlers"]["user:"] == "" {
 		t.Error(stats)
 	}
-	// (what waits to be coalesced goes on at the end)
+	// Events that wait to be coalesced are handled when the agent ends.
 	testkit.Check(t, a.Close())
 	if text := testkit.Read(t, handled); text != "big 1\nv1\nbig 2\nv2\n" {
 		t.Errorf("%q", text)
 	}
-	var kept map[string]string
-	if err := json.Unmarshal([]byte(testkit.Read(t, tags)), &kept); err != nil || !reflect.DeepEqual(kept, map[string]string{"size": "big"}) {
-		t.Error(kept, err)
+	var written map[string]string
+	if err := json.Unmarshal([]byte(testkit.Read(t, tags)), &written); err != nil || !reflect.DeepEqual(written, map[string]string{"size": "big"}) {
+		t.Error(written, err)
 	}
 	again, _ := start(t, words...)
 	testkit.Must(t, again.Fire("deploy", []byte("v3"), false))
@@ -74,58 +74,58 @@ func TestStartsThatFail(t *testing.T) {
 	folder := t.TempDir()
 	file := filepath.Join(folder, "file")
 	testkit.Write(t, file, "no JSON")
-	taken, err := net.Listen("tcp", "127.0.0.1:0")
+	listener, err := net.Listen("tcp", "127.0.0.1:0")
 	testkit.Must(t, err)
-	defer taken.Close()
+	defer listener.Close()
 	in := func(name string) string { return filepath.Join(folder, name) }
 	first, _ := start(t, "-snapshot", in("locked"), "-record", in("recorded"))
 	defer first.Close()
 	testkit.Must(t, syscall.Mkfifo(in("pipe"), 0o600))
 	missing := in("none/none")
-	for _, one := range []struct{ words, says string }{
-		{"-event-handler foo=bar", "no event"},
+	for _, test := range []struct{ words, says string }{
+		{"-event-handler foo=bar", "is not an event"},
 		{"-tag a=" + strings.Repeat("x", 600), "exceeds limit of 512"},
-		{"-rpc-addr " + taken.Addr().String(), "address already in use"},
+		{"-rpc-addr " + listener.Addr().String(), "address already in use"},
 		{"-bind 192.0.2.1:7946", "assign requested address"},
 		{"-snapshot " + in("locked"), "-snapshot: " + in("locked") + ": another agent has"},
-		{"-snapshot " + folder, "names no plain file"},
-		{"-snapshot " + in("pipe"), "names no plain file"},
+		{"-snapshot " + folder, "is not a regular file"},
+		{"-snapshot " + in("pipe"), "is not a regular file"},
 		{"-snapshot " + missing, "folder of the file"},
-		{"-snapshot /sys/none", "may not be written"},
+		{"-snapshot /sys/none", "is not writable"},
 		{"-snapshot " + in("both") + " -record " + in("both"), "-snapshot: " + in("both") + ": another agent has"},
 		{"-record " + in("recorded"), "-record: another program has"},
 		{"-record " + in("locked"), "-record: another program has"},
 		{"-record " + folder, "is a directory"},
-		{"-record " + in("pipe"), "is no plain file"},
-		{"-record " + file, "is no record"},
+		{"-record " + in("pipe"), "is not a regular file"},
+		{"-record " + file, "is not a record"},
 		{"-record " + missing, "no such file"},
 		{"-record /sys/none", "permission denied"},
 		{"-tags-file " + file, "-tags-file: invalid character"},
-		{"-tags-file " + folder, "-tags-file: " + folder + " is no plain file"},
-		{"-tags-file " + in("pipe"), "is no plain file"},
-		{"-tags-file /dev/full", "is no plain file"},
-		{"-keyring-file " + file, "is no list of keys"},
-		{"-keyring-file " + folder, "is no plain file"},
-		{"-keyring-file " + in("pipe"), "is no plain file"},
+		{"-tags-file " + folder, "-tags-file: " + folder + " is not a regular file"},
+		{"-tags-file " + in("pipe"), "is not a regular file"},
+		{"-tags-file /dev/full", "is not a regular file"},
+		{"-keyring-file " + file, "is not a list of keys"},
+		{"-keyring-file " + folder, "is not a regular file"},
+		{"-keyring-file " + in("pipe"), "is not a regular file"},
 		{"-keyring-file " + missing, "no such file"},
 		{"-keyring-file /sys/none -encrypt cg8StVXbQJ0gPvMd9o7yrg==", "permission denied"},
 	} {
-		out := &testkit.Said{}
-		a, err := Start(conf(t, strings.Fields(one.words)...), out)
+		out := &testkit.Output{}
+		a, err := Start(parseConfig(t, strings.Fields(test.words)...), out)
 		if err == nil {
 			a.Close()
 		}
-		if err == nil || !strings.Contains(err.Error(), one.says) || strings.Contains(err.Error(), "\n") {
-			t.Errorf("%s: %v", one.words, err)
+		if err == nil || !strings.Contains(err.Error(), test.says) || strings.Contains(err.Error(), "\n") {
+			t.Errorf("%s: %v", test.words, err)
 		}
 	}
-	if _, err := Start(conf(t, "-snapshot", filepath.Join(folder, "locked")), &testkit.Said{}); !errors.Is(err, serfagent.ErrLocked) {
+	if _, err := Start(parseConfig(t, "-snapshot", filepath.Join(folder, "locked")), &testkit.Output{}); !errors.Is(err, serfagent.ErrLocked) {
 		t.Error(err)
 	}
 }
 
-// What can't be kept isn't taken.
-func TestTagsThatCannotBeKept(t *testing.T) {
+// Tags that can't be written to their file are refused.
+func TestTagsThatCannotBeWritten(t *testing.T) {
 	folder := filepath.Join(t.TempDir(), "folder")
 	testkit.Must(t, os.Mkdir(folder, 0o700))
 	a, _ := start(t, "-tags-file", filepath.Join(folder, "tags"))
@@ -140,16 +140,16 @@ func TestTagsThatCannotBeKept(t *testing.T) {
 	}
 }
 
-func TestReloading(t *testing.T) {
+func TestReload(t *testing.T) {
 	handled := filepath.Join(t.TempDir(), "handled")
 	a, out := start(t, "-event-handler", "user=echo one >> "+handled)
-	testkit.Must(t, a.Reload(conf(t, "-event-handler", "user=echo two >> "+handled, "-tag", "k=v", "-log-level", "err")))
+	testkit.Must(t, a.Reload(parseConfig(t, "-event-handler", "user=echo two >> "+handled, "-tag", "k=v", "-log-level", "err")))
 	if !reflect.DeepEqual(a.tags.all(), map[string]string{"k": "v"}) {
 		t.Error(a.tags.all())
 	}
 	before := out.String()
-	if err := a.Reload(conf(t, "-event-handler", "foo=bar")); err == nil {
-		t.Error("it has no such event")
+	if err := a.Reload(parseConfig(t, "-event-handler", "foo=bar")); err == nil {
+		t.Error("an unknown event is accepted")
 	}
 	testkit.Must(t, a.Fire("x", nil, false))
 	testkit.Check(t, a.Close())
@@ -161,23 +161,23 @@ func TestReloading(t *testing.T) {
 func TestJoining(t *testing.T) {
 	a, _ := start(t)
 	defer a.Close()
-	where := a.node.Memberlist().LocalNode().Address()
-	b, out := start(t, "-node", "b", "-retry-join", where, "-retry-interval", "10ms")
+	address := a.node.Memberlist().LocalNode().Address()
+	b, out := start(t, "-node", "b", "-retry-join", address, "-retry-interval", "10ms")
 	testkit.Must(t, b.JoinAtStart(context.Background()))
-	testkit.Eventually(t, "both are there", func() bool { return len(a.Members()) == 2 && len(b.Members()) == 2 })
-	testkit.Eventually(t, "it says so", func() bool { return strings.Contains(out.String(), "Join completed") })
-	if count, err := b.Join([]string{where}, true); count != 1 || err != nil {
+	testkit.Eventually(t, "both are members", func() bool { return len(a.Members()) == 2 && len(b.Members()) == 2 })
+	testkit.Eventually(t, "the join is logged", func() bool { return strings.Contains(out.String(), "Join completed") })
+	if count, err := b.Join([]string{address}, true); count != 1 || err != nil {
 		t.Error(count, err)
 	}
 	testkit.Check(t, b.Leave())
-	if _, err := b.Join([]string{where}, true); err == nil {
-		t.Error("it left")
+	if _, err := b.Join([]string{address}, true); err == nil {
+		t.Error("a node that left joins")
 	}
 	testkit.Check(t, b.Close())
 	c, _ := start(t, "-node", "c", "-retry-join", "127.0.0.1:1", "-retry-interval", "10ms", "-retry-max", "2")
 	defer c.Close()
 	testkit.Must(t, c.JoinAtStart(context.Background()))
-	if err := <-c.ends; err == nil || !strings.Contains(err.Error(), "in 3 tries") {
+	if err := <-c.endReason; err == nil || !strings.Contains(err.Error(), "in 3 attempts") {
 		t.Error(err)
 	}
 	d, _ := start(t, "-node", "d", "-join", "127.0.0.1:1")
@@ -193,7 +193,7 @@ func TestJoining(t *testing.T) {
 	}
 }
 
-// A name is looked up once, at the start, and nothing listens at all of the machine's addresses: another one has its port left.
+// A name is resolved once at the start, and the agent listens only at its address: the port stays free at another one.
 func TestNamedAddresses(t *testing.T) {
 	free, err := net.Listen("tcp4", "127.0.0.1:0")
 	testkit.Must(t, err)
@@ -201,35 +201,36 @@ func TestNamedAddresses(t *testing.T) {
 	free.Close()
 	a, _ := start(t, "-bind", fmt.Sprint("localhost:", port), "-rpc-addr", "localhost:0", "-advertise", "localhost:7999")
 	defer a.Close()
-	own := a.node.Memberlist().LocalNode()
-	if !own.Addr.IsLoopback() || own.Port != 7999 || !a.server.Load().Addr().(*net.TCPAddr).IP.IsLoopback() {
-		t.Error(own.Addr, own.Port, a.server.Load().Addr())
+	node := a.node.Memberlist().LocalNode()
+	if !node.Addr.IsLoopback() || node.Port != 7999 || !a.server.Load().Addr().(*net.TCPAddr).IP.IsLoopback() {
+		t.Error(node.Addr, node.Port, a.server.Load().Addr())
 	}
-	other, err := net.ListenPacket("udp4", fmt.Sprint("127.0.0.2:", port))
+	listener, err := net.ListenPacket("udp4", fmt.Sprint("127.0.0.2:", port))
 	testkit.Must(t, err)
-	other.Close()
+	listener.Close()
 }
 
-// Files whose clocks are far are told at the start. (The first clock is what a flood may leave.)
-func TestFarClocksAreTold(t *testing.T) {
+// The log reports implausible clocks in a snapshot at the start. The first clock is below the bound, as a flood may
+// leave it.
+func TestFarClocksAreLogged(t *testing.T) {
 	path := filepath.Join(t.TempDir(), "snapshot")
 	testkit.Write(t, path, "clock: 4611686018427387904\nevent-clock: 18446744073709551614\nquery-clock: 9223372036854775807\n")
 	a, out := start(t, "-snapshot", path)
 	defer a.Close()
-	for _, says := range []string{"event-clock stands at 18446744073709551615", "query-clock stands at 9223372036854775808"} {
+	for _, says := range []string{"event-clock is at 18446744073709551615", "query-clock is at 9223372036854775808"} {
 		if !strings.Contains(out.String(), says) {
 			t.Errorf("%s: without %q", out, says)
 		}
 	}
-	if strings.Contains(out.String(), "file's clock stands") {
+	if strings.Contains(out.String(), "snapshot's clock is at") {
 		t.Error(out)
 	}
 }
 
-func TestMainsStatuses(t *testing.T) {
+func TestMainStatuses(t *testing.T) {
 	faulty := filepath.Join(t.TempDir(), "faulty.json")
 	testkit.Write(t, faulty, `{"enable_syslog": true, "syslog_facility": "local9"}`)
-	for _, one := range []struct {
+	for _, test := range []struct {
 		words  string
 		status int
 		out    string
@@ -241,28 +242,28 @@ func TestMainsStatuses(t *testing.T) {
 		{"-node a -bind 127.0.0.1:0 -rpc-addr 127.0.0.1:0 -config-file " + faulty, 1, "", "kitchenrue-agent: -syslog: syslog has no facility \"local9\"\n"},
 		{"-node a -bind 127.0.0.1:0 -rpc-addr 127.0.0.1:0 -join 127.0.0.1:1", 1, "", "connection refused"},
 	} {
-		var out, errs testkit.Said
-		if status := Main(strings.Fields(one.words), &out, &errs); status != one.status {
-			t.Errorf("%s: %d", one.words, status)
+		var out, errs testkit.Output
+		if status := Main(strings.Fields(test.words), &out, &errs); status != test.status {
+			t.Errorf("%s: %d", test.words, status)
 		}
-		if !strings.Contains(out.String(), one.out) || !strings.Contains(errs.String(), one.errs) || strings.Count(errs.String(), "\n") > 1 {
-			t.Errorf("%s: %q %q", one.words, out.String(), errs.String())
+		if !strings.Contains(out.String(), test.out) || !strings.Contains(errs.String(), test.errs) || strings.Count(errs.String(), "\n") > 1 {
+			t.Errorf("%s: %q %q", test.words, out.String(), errs.String())
 		}
 	}
 }
 
-// The page for Prometheus has the agent's own figures, and what the node counts.
-func TestMainsMetrics(t *testing.T) {
+// The page for Prometheus has the agent's own figures and the node's metrics.
+func TestMainMetrics(t *testing.T) {
 	free, err := net.Listen("tcp", "127.0.0.1:0")
 	testkit.Must(t, err)
 	at := free.Addr().String()
 	free.Close()
-	var out, errs testkit.Said
+	var out, errs testkit.Output
 	ended := make(chan int, 1)
 	go func() {
 		ended <- Main([]string{"-node", "a", "-bind", "127.0.0.1:0", "-rpc-addr", "127.0.0.1:0", "-prometheus-addr", at}, &out, &errs)
 	}()
-	testkit.Eventually(t, "it runs", func() bool { return strings.Contains(out.String(), "Log data will now stream") })
+	testkit.Eventually(t, "the agent runs", func() bool { return strings.Contains(out.String(), "Log data will now stream") })
 	for _, what := range []string{"\nserf_members 1\n", "\nagent_handlers_waiting 0\n", "\nserf_member_join 1\n", "\nserf_dropped_far 0\n"} {
 		testkit.Eventually(t, what, func() bool {
 			answer, err := http.Get("http://" + at + "/metrics")
@@ -280,8 +281,8 @@ func TestMainsMetrics(t *testing.T) {
 	}
 }
 
-func TestMainsSignals(t *testing.T) {
-	for _, one := range []struct {
+func TestMainSignals(t *testing.T) {
+	for _, test := range []struct {
 		signal syscall.Signal
 		words  []string
 		status int
@@ -293,43 +294,46 @@ func TestMainsSignals(t *testing.T) {
 		{syscall.SIGTERM, []string{"-snapshot"}, 3, "Shutdown without a Leave", "kitchenrue-agent: the snapshot was changed from outside: "},
 		{syscall.SIGINT, []string{"-snapshot"}, 3, "graceful leave", "isn't there any more\n"},
 	} {
-		var out, errs testkit.Said
+		var out, errs testkit.Output
 		ended := make(chan int, 1)
 		path := filepath.Join(t.TempDir(), "snapshot")
-		words := append([]string{"-node", "a", "-bind", "127.0.0.1:0", "-rpc-addr", "127.0.0.1:0"}, one.words...)
-		if one.words != nil {
+		words := append([]string{"-node", "a", "-bind", "127.0.0.1:0", "-rpc-addr", "127.0.0.1:0"}, test.words...)
+		if test.words != nil {
 			words = append(words, path)
 		}
 		go func() {
 			ended <- Main(words, &out, &errs)
 		}()
-		testkit.Eventually(t, "it runs", func() bool { return strings.Contains(out.String(), "Log data will now stream") })
-		if one.words != nil {
+		testkit.Eventually(t, "the agent runs", func() bool { return strings.Contains(out.String(), "Log data will now stream") })
+		if test.words != nil {
+			// Before each write of members, the node checks whether the snapshot was changed. If it saw the missing file in its first
+			// such write, it would end before the signals.
+			testkit.Eventually(t, "the node is in its snapshot", func() bool { return strings.Contains(testkit.Read(t, path), "alive: a ") })
 			testkit.Must(t, os.Remove(path))
 		}
-		for _, signal := range []syscall.Signal{syscall.SIGHUP, one.signal} {
+		for _, signal := range []syscall.Signal{syscall.SIGHUP, test.signal} {
 			testkit.Must(t, syscall.Kill(os.Getpid(), signal))
 			name := fmt.Sprint("==> Caught signal: ", signal)
 			testkit.Eventually(t, name, func() bool { return strings.Contains(out.String(), name) })
 		}
 		select {
 		case status := <-ended:
-			if status != one.status || !strings.Contains(out.String(), one.says) || !strings.Contains(errs.String(), one.fault) || (one.fault == "") != (errs.String() == "") {
-				t.Errorf("%v: %d %s %s", one.signal, status, &out, &errs)
+			if status != test.status || !strings.Contains(out.String(), test.says) || !strings.Contains(errs.String(), test.fault) || (test.fault == "") != (errs.String() == "") {
+				t.Errorf("%v: %d %s %s", test.signal, status, &out, &errs)
 			}
 		case <-time.After(30 * time.Second):
-			t.Fatal("it doesn't end")
+			t.Fatal("the agent doesn't end")
 		}
 	}
 }
 
-// What the configuration says of limits, the protocol and what is off goes to the node.
+// The configuration's limits, protocol version and switches reach the node.
 func TestLimitsOfTheNode(t *testing.T) {
-	conf := conf(t)
+	conf := parseConfig(t)
 	conf.UserEventSizeLimit, conf.QuerySizeLimit, conf.QueryResponseSizeLimit = 700, 2000, 3000
 	conf.Protocol, conf.DisableCoordinates, conf.DisableNameResolution, conf.KeepEventsSize = 4, true, true, 1<<20
 	conf.MaxMembers = 77
-	a := &App{config: conf, tags: &tags{}, log: logs.New(&testkit.Said{}, logs.Trace)}
+	a := &App{config: conf, tags: &tags{}, log: logs.New(&testkit.Output{}, logs.Trace)}
 	found, _, err := a.nodeConfig(nil)
 	if err != nil || found.UserEventSizeLimit != 700 || found.QuerySizeLimit != 2000 || found.QueryResponseSizeLimit != 3000 || found.KeepEvents {
 		t.Errorf("%+v %v", found, err)

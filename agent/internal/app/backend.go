@@ -11,20 +11,20 @@ import (
 	"kitchenrue.example/serf"
 )
 
-// What the command line asks for.
+// App is the backend of the command line's requests.
 
 var _ rpc.Backend = &App{}
 
 // Fire fires an event.
 func (a *App) Fire(name string, payload []byte, coalesce bool) error {
-	a.log.Often("[DEBUG] agent: Requesting user event send: %s. Coalesced: %t. Payload: %q", name, coalesce, payload)
+	a.log.Lazyf("[DEBUG] agent: Requesting user event send: %s. Coalesced: %t. Payload: %q", name, coalesce, payload)
 	return a.node.UserEvent(name, payload, coalesce)
 }
 
-// Members are all that are known.
+// Members returns all known members.
 func (a *App) Members() []serf.Member { return a.node.Members() }
 
-// Join joins. memberlist has its own limit of time.
+// Join joins other agents. memberlist limits the time it takes.
 func (a *App) Join(existing []string, replay bool) (int, error) {
 	a.log.Printf("[INFO] agent: joining: %v replay: %t", existing, replay)
 	count, err := a.node.Join(existing, !replay)
@@ -34,16 +34,16 @@ func (a *App) Join(existing []string, replay bool) (int, error) {
 	return count, err
 }
 
-// Leave leaves.
+// Leave leaves the cluster.
 func (a *App) Leave() error {
 	a.log.Print("[INFO] agent: requesting graceful leave from Serf")
 	return a.node.Leave()
 }
 
-// Shutdown lets the agent end.
-func (a *App) Shutdown() { a.end(nil) }
+// Shutdown ends the agent.
+func (a *App) Shutdown() { a.requestEnd(nil) }
 
-// ForceLeave says that a member has left.
+// ForceLeave declares that a failed member has left.
 func (a *App) ForceLeave(name string, prune bool) error {
 	if prune {
 		a.log.Printf("[INFO] agent: Force leaving node (prune): %s", name)
@@ -55,26 +55,26 @@ func (a *App) ForceLeave(name string, prune bool) error {
 
 // UpdateTags changes this node's tags.
 func (a *App) UpdateTags(set map[string]string, remove []string) error {
-	return a.tags.change(func(now map[string]string) map[string]string { return merged(now, set, remove) }, a.node.SetTags)
+	return a.tags.change(func(now map[string]string) map[string]string { return mergeTags(now, set, remove) }, a.node.SetTags)
 }
 
-// Query asks the cluster.
+// Query fires a query.
 func (a *App) Query(name string, payload []byte, params *serf.QueryParam) (*serf.QueryResponse, error) {
 	a.log.Printf("[DEBUG] agent: Requesting query send: %s. Payload: %q", name, payload)
 	return a.node.Query(name, payload, params)
 }
 
-// KeyManager changes the keys of all nodes.
+// KeyManager returns the manager for the keys of all nodes.
 func (a *App) KeyManager() *serf.KeyManager { return a.node.KeyManager() }
 
-// Coordinate is the last one that is known of a node.
+// Coordinate returns the last known coordinate of a node.
 func (a *App) Coordinate(node string) (*coordinate.Coordinate, bool) {
 	return a.node.GetCachedCoordinate(node)
 }
 
-// Stats are what `serf info` shows.
+// Stats returns what `serf info` shows.
 func (a *App) Stats() map[string]map[string]string {
-	number := func(is int) string { return fmt.Sprint(is) }
+	number := func(n int) string { return fmt.Sprint(n) }
 	handlers := map[string]string{}
 	for _, script := range a.runner.Scripts() {
 		for _, filter := range script.Filters {

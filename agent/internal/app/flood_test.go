@@ -15,21 +15,21 @@ import (
 	"kitchenrue.example/agent/internal/testkit"
 )
 
-// The types of memberlist's message of a user, and of Serf's within it.
+// The types of memberlist's user message, and of Serf's messages within it.
 const (
 	userMessage  = 8
 	eventMessage = 3
 	queryMessage = 4
 )
 
-type strangersEvent struct {
+type strangerEvent struct {
 	LTime   uint64
 	Name    string
 	Payload []byte
 	CC      bool
 }
 
-type strangersQuery struct {
+type strangerQuery struct {
 	LTime   uint64
 	ID      uint32
 	Timeout time.Duration
@@ -59,14 +59,15 @@ func (s *stranger) send(kind byte, message interface{}) {
 	if _, err := s.to.Write(out.Bytes()); err != nil {
 		s.Fatal(err)
 	}
-	// (a socket that is full loses packets)
+	// A full socket loses packets.
 	if s.sent++; s.sent%50 == 0 {
 		time.Sleep(5 * time.Millisecond)
 	}
 }
 
-// Where an agent keeps its events, a flood of events within one time costs that time's later events, and those of no other.
-func TestAFloodWithinOneTime(t *testing.T) {
+// If an agent keeps events, a flood of events with the same Lamport time displaces later events of that time, and of no
+// other.
+func TestFloodWithinOneTime(t *testing.T) {
 	folder := t.TempDir()
 	handled := filepath.Join(folder, "handled")
 	a, _ := start(t, "-snapshot", filepath.Join(folder, "snapshot"), "-keep-events", "-keep-events-size", fmt.Sprint(1<<20),
@@ -74,15 +75,15 @@ func TestAFloodWithinOneTime(t *testing.T) {
 	defer a.Close()
 	s, payload := strangerTo(t, a), bytes.Repeat([]byte("x"), 480)
 	testkit.Eventually(t, "the time has no room", func() bool {
-		s.send(eventMessage, strangersEvent{LTime: 5, Name: fmt.Sprint("flood", s.sent), Payload: payload})
+		s.send(eventMessage, strangerEvent{LTime: 5, Name: fmt.Sprint("flood", s.sent), Payload: payload})
 		return s.sent > 600 && a.Stats()["serf"]["dropped_kept"] > "0"
 	})
-	// (a little room may be left, for an event that is shorter than those of the flood)
+	// A little room may be left for an event that is shorter than those of the flood.
 	for n := 0; n < 10; n++ {
-		s.send(eventMessage, strangersEvent{LTime: 5, Name: "honest", Payload: bytes.Repeat([]byte("y"), 500)})
+		s.send(eventMessage, strangerEvent{LTime: 5, Name: "honest", Payload: bytes.Repeat([]byte("y"), 500)})
 	}
 	testkit.Eventually(t, "one of the next time is handled", func() bool {
-		s.send(eventMessage, strangersEvent{LTime: 6, Name: "honest", Payload: []byte("next")})
+		s.send(eventMessage, strangerEvent{LTime: 6, Name: "honest", Payload: []byte("next")})
 		text, _ := os.ReadFile(handled)
 		return string(text) == "next\n"
 	})
@@ -90,19 +91,19 @@ func TestAFloodWithinOneTime(t *testing.T) {
 	testkit.Eventually(t, "its own is handled", func() bool { return testkit.Read(t, handled) == "next\nown\n" })
 }
 
-// Of queries 1,024 of each time are kept, in lines of 39 bytes at most, whatever -keep-events-size says.
-func TestAFloodOfQueries(t *testing.T) {
+// At most 1,024 queries of each Lamport time are kept, in lines of at most 39 bytes, whatever -keep-events-size is.
+func TestFloodOfQueries(t *testing.T) {
 	path := filepath.Join(t.TempDir(), "snapshot")
 	words := []string{"-snapshot", path, "-keep-events"}
 	a, _ := start(t, words...)
 	s := strangerTo(t, a)
-	for at := uint64(1); at < 4; at++ {
+	for time := uint64(1); time < 4; time++ {
 		for id := uint32(0); id < 2000; id++ {
-			s.send(queryMessage, strangersQuery{LTime: at, ID: 1<<32 - 1 - id, Name: strings.Repeat("x", 500)})
+			s.send(queryMessage, strangerQuery{LTime: time, ID: 1<<32 - 1 - id, Name: strings.Repeat("x", 500)})
 		}
 	}
 	testkit.Eventually(t, "the last time is heard of", func() bool {
-		s.send(queryMessage, strangersQuery{LTime: 4, Name: "last"})
+		s.send(queryMessage, strangerQuery{LTime: 4, Name: "last"})
 		return a.Stats()["serf"]["query_time"] == "5"
 	})
 	testkit.Must(t, a.Close())
@@ -115,9 +116,9 @@ func TestAFloodOfQueries(t *testing.T) {
 			}
 		}
 	}
-	for at := 1; at < 4; at++ {
-		if count := kept[fmt.Sprint(at)]; count < 500 || count > 1024 {
-			t.Errorf("%d queries of time %d", count, at)
+	for time := 1; time < 4; time++ {
+		if count := kept[fmt.Sprint(time)]; count < 500 || count > 1024 {
+			t.Errorf("%d queries of time %d", count, time)
 		}
 	}
 	b, _ := start(t, words...)
@@ -127,14 +128,14 @@ func TestAFloodOfQueries(t *testing.T) {
 	}
 }
 
-// Above the limit the collector runs at less growth.
-func TestGrowthOfTheHeap(t *testing.T) {
-	for has, wanted := range map[int64]int{1000: growth, 1001: growthAbove} {
-		if at := growthAt(has, 1000); at != wanted {
-			t.Errorf("%d in a hundred where Go has %d bytes of 1,000", at, has)
+// Above the limit the collector runs with a lower percentage.
+func TestGCPercent(t *testing.T) {
+	for used, want := range map[int64]int{1000: gcPercent, 1001: gcPercentAboveLimit} {
+		if at := gcPercentFor(used, 1000); at != want {
+			t.Errorf("%d in a hundred where Go has %d bytes of 1,000", at, used)
 		}
 	}
-	if has := memory(); has < 1<<20 || has > 1<<40 {
-		t.Errorf("Go has %d bytes", has)
+	if used := memoryInUse(); used < 1<<20 || used > 1<<40 {
+		t.Errorf("Go has %d bytes", used)
 	}
 }

@@ -10,40 +10,40 @@ import (
 	"kitchenrue.example/agent/internal/testkit"
 )
 
-// restarted is a node b that handles events into a file, on one snapshot and at one address over all its lives.
-type restarted struct {
+// restartedNode is a node b that writes handled events to a file. All its lives have the same snapshot and address.
+type restartedNode struct {
 	*App
-	t              *testing.T
-	words          []string
-	handled, where string
+	t                *testing.T
+	args             []string
+	handled, address string
 }
 
-// startRestarted starts b, which joins the node at this address, if any, and whatever these words say.
-func startRestarted(t *testing.T, where string, words ...string) *restarted {
+// startRestarted starts b with these flags. It joins the node at this address, if there is one.
+func startRestarted(t *testing.T, address string, words ...string) *restartedNode {
 	folder := t.TempDir()
-	b := &restarted{t: t, handled: filepath.Join(folder, "handled")}
-	b.words = append([]string{"-node", "b", "-snapshot", filepath.Join(folder, "snapshot"), "-event-handler", "user=(cat; echo) >> " + b.handled}, words...)
-	b.start(where)
+	b := &restartedNode{t: t, handled: filepath.Join(folder, "handled")}
+	b.args = append([]string{"-node", "b", "-snapshot", filepath.Join(folder, "snapshot"), "-event-handler", "user=(cat; echo) >> " + b.handled}, words...)
+	b.start(address)
 	t.Cleanup(func() { b.Close() })
 	return b
 }
 
-func (b *restarted) start(where string) {
+func (b *restartedNode) start(address string) {
 	b.t.Helper()
-	words := append([]string(nil), b.words...)
-	if where != "" {
-		words = append(words, "-join", where)
+	words := append([]string(nil), b.args...)
+	if address != "" {
+		words = append(words, "-join", address)
 	}
-	if b.where != "" {
-		words = append(words, "-bind", b.where)
+	if b.address != "" {
+		words = append(words, "-bind", b.address)
 	}
 	b.App, _ = start(b.t, words...)
-	b.where = b.node.Memberlist().LocalNode().Address()
+	b.address = b.node.Memberlist().LocalNode().Address()
 	testkit.Must(b.t, b.JoinAtStart(context.Background()))
 }
 
-// has waits until the last event that was handled is this one, and gives all of them.
-func (b *restarted) has(last string) string {
+// has waits until this event was handled last, and returns all events that were handled.
+func (b *restartedNode) has(last string) string {
 	b.t.Helper()
 	found := ""
 	testkit.Eventually(b.t, last, func() bool {
@@ -59,59 +59,60 @@ func fire(t *testing.T, a *App, payload string) {
 	testkit.Must(t, a.Fire("x", []byte(payload), false))
 }
 
-// What came to the others while the agent was down is handled after its restart, where it keeps its events. The first join of its
-// first life ignores what is old.
-func TestEventsOfAnAbsence(t *testing.T) {
-	for _, one := range []struct {
+// With -keep-events, events that were fired while the agent was down are handled after its restart. The first join of
+// its first life ignores old events.
+func TestEventsMissedWhileDown(t *testing.T) {
+	for _, test := range []struct {
 		words []string
 		want  string
 	}{{[]string{"-keep-events"}, "present missed back"}, {nil, "present back"}} {
 		a, _ := start(t)
-		where := a.node.Memberlist().LocalNode().Address()
+		address := a.node.Memberlist().LocalNode().Address()
 		fire(t, a, "old")
-		b := startRestarted(t, where, one.words...)
+		b := startRestarted(t, address, test.words...)
 		fire(t, a, "present")
 		b.has("present")
 		testkit.Check(t, b.Close())
 		fire(t, a, "missed")
-		b.start(where)
+		b.start(address)
 		fire(t, a, "back")
-		// (without the flag the rejoin by the file, which ignores nothing, may be faster than the join that ignores what is old)
-		if found := b.has("back"); found != one.want && (one.words != nil || found != "present missed back") {
-			t.Errorf("%v: %q", one.words, found)
+		// Without the flag, the snapshot's rejoin, which ignores nothing, may be faster than the join that ignores old
+		// events.
+		if found := b.has("back"); found != test.want && (test.words != nil || found != "present missed back") {
+			t.Errorf("%v: %q", test.words, found)
 		}
 		a.Close()
 	}
 }
 
-// An event of a time below the last line of the file is handled after a restart, where the agent keeps its events and was never
-// handed it; and nothing twice.
-func TestAnEventBelowTheLastLine(t *testing.T) {
-	for _, one := range []struct {
+// With -keep-events, an event with a time below the snapshot's last line is handled after a restart if it was not
+// handed out before, and no event is handled twice.
+func TestEventBelowLastLine(t *testing.T) {
+	for _, test := range []struct {
 		word, want string
 	}{{"-keep-events", "own1 own2 early late"}, {"-replay", "own1 own2 late"}} {
 		a, _ := start(t)
-		where := a.node.Memberlist().LocalNode().Address()
+		address := a.node.Memberlist().LocalNode().Address()
 		fire(t, a, "early")
-		b := startRestarted(t, "", one.word)
+		b := startRestarted(t, "", test.word)
 		fire(t, b.App, "own1")
 		fire(t, b.App, "own2")
 		b.has("own2")
 		for i := 0; i < 2; i++ {
 			testkit.Check(t, b.Close())
-			b.start(where)
+			b.start(address)
 		}
-		testkit.Eventually(t, "a has heard of b", func() bool { return a.Stats()["serf"]["event_time"] != "2" })
+		testkit.Eventually(t, "a received b's clock", func() bool { return a.Stats()["serf"]["event_time"] != "2" })
 		fire(t, a, "late")
-		if found := b.has("late"); found != one.want {
-			t.Errorf("%s: %q", one.word, found)
+		if found := b.has("late"); found != test.want {
+			t.Errorf("%s: %q", test.word, found)
 		}
 		a.Close()
 	}
 }
 
-// Whether a life goes on is read off its file: it took an event, or joined others.
-func TestALifeThatGoesOn(t *testing.T) {
+// The snapshot decides whether a life resumes: it has the line of an event, or of another member.
+func TestResumedLife(t *testing.T) {
 	for text, want := range map[string]bool{
 		"": false, "clock: 3\n": false, "alive: b 127.0.0.1:1\n": false, "alive: c 127.0.0.1:1\n": true, "event-clock: 3\n": true,
 		"event-clock: 03\n#event 3 61 \n": true, "#least event-clock: 1\n": true, "#event-clock: 3\n": false,

@@ -15,34 +15,34 @@ import (
 	"kitchenrue.example/serf"
 )
 
-// Main runs an agent until it ends: the program's status. Faults are a sentence on errs.
-func Main(words []string, out, errs io.Writer) int {
-	conf, err := config.Parse(words, out)
+// Main runs an agent until it ends, and returns the exit status. Errors are written to errs, one on each line.
+func Main(args []string, out, errs io.Writer) int {
+	conf, err := config.Parse(args, out)
 	switch {
 	case errors.Is(err, config.ErrHelp):
 		return 0
 	case err != nil:
-		return failed(errs, err)
+		return fail(errs, err)
 	case conf.ShowVersion:
 		fmt.Fprintf(out, "kitchenrue-agent %s\nAgent Protocol: 5 (Understands back to: 2)\n", config.Version)
 		return 0
 	}
-	// (from here on no signal ends the process by itself)
+	// From here on, signals don't end the process by themselves.
 	signals := make(chan os.Signal, 8)
 	signal.Notify(signals, syscall.SIGINT, syscall.SIGTERM, syscall.SIGHUP)
 	defer signal.Stop(signals)
 	fmt.Fprintln(out, "==> Starting the agent...")
 	if err := conf.Resolve(); err != nil {
-		return failed(errs, err)
+		return fail(errs, err)
 	}
 	measures, err := measure.Start(conf.StatsiteAddr, conf.StatsdAddr, conf.PrometheusAddr, errs)
 	if err != nil {
-		return failed(errs, err)
+		return fail(errs, err)
 	}
 	defer measures.Close()
 	a, err := Start(conf, out)
 	if err != nil {
-		return failed(errs, err)
+		return fail(errs, err)
 	}
 	measures.Watch(a.Stats)
 	a.banner(out)
@@ -50,29 +50,30 @@ func Main(words []string, out, errs io.Writer) int {
 	defer cancel()
 	if err := a.JoinAtStart(ctx); err != nil {
 		cancel()
-		return both(errs, err, a.Close())
+		return failAll(errs, err, a.Close())
 	}
-	return a.run(words, signals, out, errs)
+	return a.run(args, signals, out, errs)
 }
 
-// changedStatus is the status behind a snapshot that was changed from outside. A start behind it may run events again, so somebody has to
-// look first: the unit doesn't start the agent again.
-const changedStatus = 3
+// statusSnapshotChanged is the exit status if somebody changed the snapshot while the agent ran. A start from it may
+// run handlers again for events that they handled, so an operator has to look first, and systemd doesn't restart the
+// agent.
+const statusSnapshotChanged = 3
 
-// failed says what failed, in one line.
-func failed(errs io.Writer, err error) int {
+// fail writes an error in one line, and returns the exit status.
+func fail(errs io.Writer, err error) int {
 	fmt.Fprintf(errs, "kitchenrue-agent: %s\n", strings.Join(strings.Fields(err.Error()), " "))
 	if errors.Is(err, serf.ErrSnapshotChanged) {
-		return changedStatus
+		return statusSnapshotChanged
 	}
 	return 1
 }
 
-func both(errs io.Writer, all ...error) int {
+func failAll(errs io.Writer, errors ...error) int {
 	status := 0
-	for _, err := range all {
+	for _, err := range errors {
 		if err != nil {
-			status = failed(errs, err)
+			status = fail(errs, err)
 		}
 	}
 	return status
@@ -81,9 +82,9 @@ func both(errs io.Writer, all ...error) int {
 func (a *App) banner(out io.Writer) {
 	snapshot := a.config.Snapshot
 	if snapshot == "" {
-		snapshot = "none: it forgets at its end which events it handled"
+		snapshot = "none: after a restart it doesn't know which events it handled"
 	}
-	fmt.Fprintf(out, "==> The agent runs!\n")
+	fmt.Fprintf(out, "==> The agent is running!\n")
 	for _, line := range [][2]string{
 		{"Node name", fmt.Sprintf("'%s'", a.config.NodeName)}, {"Bind addr", fmt.Sprintf("'%s'", a.node.Memberlist().LocalNode().Address())},
 		{"RPC addr", fmt.Sprintf("'%s'", a.server.Load().Addr())}, {"Encrypted", fmt.Sprint(a.node.EncryptionEnabled())},
@@ -94,26 +95,26 @@ func (a *App) banner(out io.Writer) {
 	fmt.Fprint(out, "\n==> Log data will now stream in as it occurs:\n\n")
 }
 
-// run waits for the end.
-func (a *App) run(words []string, signals <-chan os.Signal, out, errs io.Writer) int {
+// run waits for the agent's end, and handles signals.
+func (a *App) run(args []string, signals <-chan os.Signal, out, errs io.Writer) int {
 	for {
 		select {
-		case err := <-a.ends:
-			closed := a.Close()
-			if closed == err {
-				closed = nil
+		case err := <-a.endReason:
+			closeErr := a.Close()
+			if closeErr == err {
+				closeErr = nil
 			}
-			return both(errs, err, closed)
-		case one := <-signals:
-			fmt.Fprintf(out, "==> Caught signal: %v\n", one)
-			if one == syscall.SIGHUP {
-				a.reread(words, out)
+			return failAll(errs, err, closeErr)
+		case sig := <-signals:
+			fmt.Fprintf(out, "==> Caught signal: %v\n", sig)
+			if sig == syscall.SIGHUP {
+				a.reloadFiles(args, out)
 				continue
 			}
-			if one == syscall.SIGINT && a.config.SkipLeaveOnInterrupt || one == syscall.SIGTERM && !a.config.LeaveOnTerminate {
-				// (Serf's own status of an agent that ends without a leave)
-				if both(errs, a.Close()) == changedStatus {
-					return changedStatus
+			if sig == syscall.SIGINT && a.config.SkipLeaveOnInterrupt || sig == syscall.SIGTERM && !a.config.LeaveOnTerminate {
+				// Serf's status for an agent that ends without a leave.
+				if failAll(errs, a.Close()) == statusSnapshotChanged {
+					return statusSnapshotChanged
 				}
 				return 1
 			}
@@ -122,31 +123,32 @@ func (a *App) run(words []string, signals <-chan os.Signal, out, errs io.Writer)
 	}
 }
 
-// reread takes handlers, tags and the log's level anew. What can't be read changes nothing.
-func (a *App) reread(words []string, out io.Writer) {
-	conf, err := config.Parse(words, io.Discard)
+// reloadFiles reads the configuration again, and applies its handlers, tags and log level. If it can't be read, nothing
+// changes.
+func (a *App) reloadFiles(args []string, out io.Writer) {
+	conf, err := config.Parse(args, io.Discard)
 	if err == nil {
 		err = a.Reload(conf)
 	}
 	if err != nil {
-		a.log.Printf("[ERR] agent: the configuration was not read again: %v", err)
+		a.log.Printf("[ERR] agent: the configuration was not reloaded: %v", err)
 		return
 	}
-	fmt.Fprintln(out, "==> Read the configuration again.")
+	fmt.Fprintln(out, "==> Reloaded the configuration.")
 }
 
-// leave leaves, and ends at once where another signal comes meanwhile.
+// leave leaves the cluster, and ends at once if another signal arrives meanwhile.
 func (a *App) leave(signals <-chan os.Signal, out, errs io.Writer) int {
 	fmt.Fprintln(out, "==> Gracefully shutting down agent...")
-	left := make(chan error, 1)
-	go func() { left <- a.Leave() }()
+	leaveErr := make(chan error, 1)
+	go func() { leaveErr <- a.Leave() }()
 	for {
 		select {
-		case err := <-left:
-			return both(errs, err, a.Close())
-		case one := <-signals:
-			if one != syscall.SIGHUP {
-				fmt.Fprintf(out, "==> Caught signal: %v\n", one)
+		case err := <-leaveErr:
+			return failAll(errs, err, a.Close())
+		case sig := <-signals:
+			if sig != syscall.SIGHUP {
+				fmt.Fprintf(out, "==> Caught signal: %v\n", sig)
 				_ = a.Close()
 				return 1
 			}

@@ -7,45 +7,45 @@ import (
 	"time"
 )
 
-// How many bytes the process may have before Go's collector works harder: so many, so many for each member, and so many times those of
-// the events that the snapshot keeps. Without a limit a flood lets the heap grow to several times of what is in use. It is set anew each
-// so often, and GOMEMLIMIT stands in its place where it is there.
+// The limit of the process's memory, in bytes, above which Go's garbage collector works harder: a base, a share for
+// each member, and a multiple of the bytes of kept events. Without a limit, a flood lets the heap grow to several times
+// of what is in use. The limit is set again every memoryInterval. GOMEMLIMIT overrides it.
 const (
-	memoryBase   = 24 << 20
-	memoryMember = 2 << 10
-	memoryKept   = 3
-	memoryTime   = time.Second
+	memoryBase        = 24 << 20
+	memoryPerMember   = 2 << 10
+	memoryPerKeptByte = 3
+	memoryInterval    = time.Second
 )
 
 func (a *App) memoryLimit() int64 {
-	limit := int64(memoryBase) + memoryMember*int64(a.node.NumNodes())
+	limit := int64(memoryBase) + memoryPerMember*int64(a.node.NumNodes())
 	if a.config.KeepEvents {
-		limit += memoryKept * int64(a.config.KeepEventsSize)
+		limit += memoryPerKeptByte * int64(a.config.KeepEventsSize)
 	}
 	return limit
 }
 
-// By how many parts in a hundred the heap may grow before the collector runs: as Go has it, and where the process has more than the limit. By
-// the limit alone the collector takes half of the processor at most, and a flood that goes on would grow the heap meanwhile. GOGC stands in
-// its place where it is there.
-const growth, growthAbove = 100, 20
+// The percentage by which the heap may grow before the collector runs: Go's default, and the value above the limit.
+// With only the limit, the collector would use at most half of the processor, and a flood could still make the heap
+// grow. GOGC overrides it.
+const gcPercent, gcPercentAboveLimit = 100, 20
 
-// growthAt is that number for a process of so many bytes.
-func growthAt(has, limit int64) int {
-	if has > limit {
-		return growthAbove
+// gcPercentFor returns the percentage for a process that uses this many bytes.
+func gcPercentFor(used, limit int64) int {
+	if used > limit {
+		return gcPercentAboveLimit
 	}
-	return growth
+	return gcPercent
 }
 
-// memory is how many bytes Go has of the system.
-func memory() int64 {
-	has := []metrics.Sample{{Name: "/memory/classes/total:bytes"}, {Name: "/memory/classes/heap/released:bytes"}}
-	metrics.Read(has)
-	return int64(has[0].Value.Uint64() - has[1].Value.Uint64())
+// memoryInUse returns how many bytes of memory Go has from the system.
+func memoryInUse() int64 {
+	samples := []metrics.Sample{{Name: "/memory/classes/total:bytes"}, {Name: "/memory/classes/heap/released:bytes"}}
+	metrics.Read(samples)
+	return int64(samples[0].Value.Uint64() - samples[1].Value.Uint64())
 }
 
-// limitMemory sets the collector's limit until the agent ends.
+// limitMemory sets the collector's limits until the agent ends.
 func (a *App) limitMemory() {
 	if os.Getenv("GOMEMLIMIT") != "" {
 		return
@@ -54,12 +54,12 @@ func (a *App) limitMemory() {
 		limit := a.memoryLimit()
 		debug.SetMemoryLimit(limit)
 		if os.Getenv("GOGC") == "" {
-			debug.SetGCPercent(growthAt(memory(), limit))
+			debug.SetGCPercent(gcPercentFor(memoryInUse(), limit))
 		}
 		select {
-		case <-a.ending:
+		case <-a.closing:
 			return
-		case <-time.After(memoryTime):
+		case <-time.After(memoryInterval):
 		}
 	}
 }

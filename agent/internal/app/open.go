@@ -13,36 +13,37 @@ import (
 	"kitchenrue.example/serfagent"
 )
 
-// How long events that may be coalesced wait at most, and for how long nothing has to come so that they wait no more: Serf's own times.
+// Events that may be coalesced wait for at most coalescePeriod, or until none arrived for quietPeriod. These are the
+// times of Serf's agent.
 const (
 	coalescePeriod = 3 * time.Second
 	quietPeriod    = time.Second
 )
 
-// nodeConfig is that of the node, and what gives back its files where no node is made of it.
+// nodeConfig returns the node's configuration, and a function that closes its files if no node is created.
 func (a *App) nodeConfig(events chan<- serf.Event) (*serf.Config, func(), error) {
 	c := &a.config
-	own := serf.DefaultConfig()
-	own.NodeName, own.Tags, own.EventCh, own.ProtocolVersion = c.NodeName, a.tags.all(), events, uint8(c.Protocol)
-	own.DisableCoordinates, own.EnableNameConflictResolution = c.DisableCoordinates, !c.DisableNameResolution
-	own.Logger, own.LogOutput = a.log.Logger, nil
-	own.CoalescePeriod, own.QuiescentPeriod = coalescePeriod, quietPeriod
-	own.UserCoalescePeriod, own.UserQuiescentPeriod = coalescePeriod, quietPeriod
-	own.ReconnectInterval, own.ReconnectTimeout, own.TombstoneTimeout = c.ReconnectInterval, c.ReconnectTimeout, c.TombstoneTimeout
-	own.BroadcastTimeout, own.UserEventSizeLimit = c.BroadcastTimeout, c.UserEventSizeLimit
-	own.QuerySizeLimit, own.QueryResponseSizeLimit = c.QuerySizeLimit, c.QueryResponseSizeLimit
-	own.SnapshotPath, own.RejoinAfterLeave, own.KeepEvents, own.KeyringFile = c.Snapshot, c.Rejoin, c.KeepEvents, c.KeyringFile
-	own.KeepEventsSize, own.Guard.Members = c.KeepEventsSize, c.MaxMembers
+	conf := serf.DefaultConfig()
+	conf.NodeName, conf.Tags, conf.EventCh, conf.ProtocolVersion = c.NodeName, a.tags.all(), events, uint8(c.Protocol)
+	conf.DisableCoordinates, conf.EnableNameConflictResolution = c.DisableCoordinates, !c.DisableNameResolution
+	conf.Logger, conf.LogOutput = a.log.Logger, nil
+	conf.CoalescePeriod, conf.QuiescentPeriod = coalescePeriod, quietPeriod
+	conf.UserCoalescePeriod, conf.UserQuiescentPeriod = coalescePeriod, quietPeriod
+	conf.ReconnectInterval, conf.ReconnectTimeout, conf.TombstoneTimeout = c.ReconnectInterval, c.ReconnectTimeout, c.TombstoneTimeout
+	conf.BroadcastTimeout, conf.UserEventSizeLimit = c.BroadcastTimeout, c.UserEventSizeLimit
+	conf.QuerySizeLimit, conf.QueryResponseSizeLimit = c.QuerySizeLimit, c.QueryResponseSizeLimit
+	conf.SnapshotPath, conf.RejoinAfterLeave, conf.KeepEvents, conf.KeyringFile = c.Snapshot, c.Rejoin, c.KeepEvents, c.KeyringFile
+	conf.KeepEventsSize, conf.Guard.Members = c.KeepEventsSize, c.MaxMembers
 	list, err := listConfig(c)
 	if err != nil {
 		return nil, nil, err
 	}
-	own.MemberlistConfig = list
-	finish, err := a.recorded(own)
-	return own, finish, err
+	conf.MemberlistConfig = list
+	cleanUp, err := a.wrapRecorder(conf)
+	return conf, cleanUp, err
 }
 
-// listConfig is memberlist's.
+// listConfig returns memberlist's configuration.
 func listConfig(c *config.Config) (*memberlist.Config, error) {
 	list := memberlist.DefaultLANConfig()
 	switch c.Profile {
@@ -72,8 +73,8 @@ func listConfig(c *config.Config) (*memberlist.Config, error) {
 	return list, err
 }
 
-// recorded has the calls of the proved agent recorded, where that is asked for.
-func (a *App) recorded(own *serf.Config) (finish func(), err error) {
+// wrapRecorder makes the node record the calls to the proved agent, if the configuration asks for it.
+func (a *App) wrapRecorder(conf *serf.Config) (cleanUp func(), err error) {
 	if a.config.Record == "" {
 		return func() {}, nil
 	}
@@ -81,7 +82,7 @@ func (a *App) recorded(own *serf.Config) (finish func(), err error) {
 	if err != nil {
 		return nil, fmt.Errorf("-record: %w", err)
 	}
-	own.Wrap = func(agent serf.Agent, settings serfagent.Settings) (serf.Agent, error) {
+	conf.Wrap = func(agent serf.Agent, settings serfagent.Settings) (serf.Agent, error) {
 		recorded, err := record.Start(agent, file, a.config.NodeName, settings, a.log.Logger)
 		if err != nil {
 			return nil, fmt.Errorf("-record: %w", err)

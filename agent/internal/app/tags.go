@@ -11,22 +11,22 @@ import (
 	"kitchenrue.example/serfagent"
 )
 
-// maxTagsFile is how many bytes a file of tags may have.
+// maxTagsFile is the maximum size in bytes of a file of tags.
 const maxTagsFile = 64 << 10
 
-// tags are this node's, and the file that keeps them.
+// tags are this node's tags, and the file that keeps them.
 type tags struct {
 	path string
 
-	// changing is held over a change, its file and its telling; mu for a moment.
+	// changing is held during a change until the file is written and the tags are announced. mu protects current.
 	changing sync.Mutex
 	mu       sync.Mutex
-	now      map[string]string
+	current  map[string]string
 }
 
-// openTags reads the tags of a file, where there is one, or takes these.
-func openTags(path string, said map[string]string) (*tags, error) {
-	t := &tags{path: path, now: said}
+// openTags reads the tags of the file, or uses the configured ones if path is empty or the file doesn't exist.
+func openTags(path string, configured map[string]string) (*tags, error) {
+	t := &tags{path: path, current: configured}
 	if path == "" {
 		return t, nil
 	}
@@ -35,26 +35,26 @@ func openTags(path string, said map[string]string) (*tags, error) {
 		return t, nil
 	}
 	if err == nil {
-		err = json.Unmarshal(data, &t.now)
+		err = json.Unmarshal(data, &t.current)
 	}
 	if err != nil {
 		return nil, fmt.Errorf("-tags-file: %w", err)
 	}
-	return t, serf.ValidateTags(t.now)
+	return t, serf.ValidateTags(t.current)
 }
 
-// all are the tags. Nobody changes what this gives.
+// all returns the tags. The caller must not change them.
 func (t *tags) all() map[string]string {
 	t.mu.Lock()
 	defer t.mu.Unlock()
-	return t.now
+	return t.current
 }
 
-// change changes the tags, keeps them in the file, and tells them.
-func (t *tags) change(made func(map[string]string) map[string]string, tell func(map[string]string) error) error {
+// change changes the tags, writes them to the file, and announces them.
+func (t *tags) change(update func(map[string]string) map[string]string, announce func(map[string]string) error) error {
 	t.changing.Lock()
 	defer t.changing.Unlock()
-	next := made(t.all())
+	next := update(t.all())
 	if err := serf.ValidateTags(next); err != nil {
 		return err
 	}
@@ -68,15 +68,15 @@ func (t *tags) change(made func(map[string]string) map[string]string, tell func(
 		}
 	}
 	t.mu.Lock()
-	t.now = next
+	t.current = next
 	t.mu.Unlock()
-	return tell(next)
+	return announce(next)
 }
 
-// merged are tags with these set and those removed.
-func merged(now, set map[string]string, remove []string) map[string]string {
-	next := make(map[string]string, len(now)+len(set))
-	for key, value := range now {
+// mergeTags returns the tags with some set and others removed.
+func mergeTags(current, set map[string]string, remove []string) map[string]string {
+	next := make(map[string]string, len(current)+len(set))
+	for key, value := range current {
 		next[key] = value
 	}
 	for key, value := range set {

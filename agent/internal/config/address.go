@@ -17,7 +17,7 @@ type Address struct {
 
 func (a Address) String() string { return net.JoinHostPort(a.Host, strconv.Itoa(a.Port)) }
 
-// ParseAddress reads HOST, HOST:PORT, [IPV6] or [IPV6]:PORT. It looks up no name.
+// ParseAddress reads HOST, HOST:PORT, [IPV6] or [IPV6]:PORT. port is the default. It doesn't resolve names.
 func ParseAddress(text string, port int) (Address, error) {
 	host := text
 	if strings.HasPrefix(text, "[") && strings.HasSuffix(text, "]") {
@@ -27,98 +27,99 @@ func ParseAddress(text string, port int) (Address, error) {
 		var digits string
 		var err error
 		if host, digits, err = net.SplitHostPort(text); err != nil {
-			return Address{}, fmt.Errorf("%q is no address: %w", text, err)
+			return Address{}, fmt.Errorf("%q is not an address: %w", text, err)
 		}
 		if port, err = strconv.Atoi(digits); err != nil || port < 0 || port > 65535 {
-			return Address{}, fmt.Errorf("%q is no address: %q is no port", text, digits)
+			return Address{}, fmt.Errorf("%q is not an address: %q is not a port", text, digits)
 		}
 	}
 	return Address{host, port}, nil
 }
 
-// ParseIP is ParseAddress of an address whose name was looked up. memberlist takes a host that it can't read for all addresses, so it
-// gets none.
+// ParseIP is ParseAddress for an address that Resolve has resolved. A host that is not an IP address is an error,
+// because memberlist would take it for all addresses of the machine.
 func ParseIP(text string) (Address, error) {
-	found, err := ParseAddress(text, BindPort)
-	if err == nil && net.ParseIP(found.Host) == nil {
-		return Address{}, fmt.Errorf("%q has no IP address", text)
+	address, err := ParseAddress(text, BindPort)
+	if err == nil && net.ParseIP(address.Host) == nil {
+		return Address{}, fmt.Errorf("%q is not an IP address", text)
 	}
-	return found, err
+	return address, err
 }
 
-// parseNamed is ParseAddress for an address that has to name its host: without one, gossip or requests would come from every
+// parseWithHost is ParseAddress for an address that must name its host. Without a host the agent would listen on every
 // network.
-func parseNamed(text string, port int) (Address, error) {
-	found, err := ParseAddress(text, port)
-	if err == nil && found.Host == "" {
-		every := Address{net.IPv4zero.String(), found.Port}
-		return Address{}, fmt.Errorf("%q names no host; %s would be all of this machine's addresses", text, every)
+func parseWithHost(text string, port int) (Address, error) {
+	address, err := ParseAddress(text, port)
+	if err == nil && address.Host == "" {
+		anyHost := Address{net.IPv4zero.String(), address.Port}
+		return Address{}, fmt.Errorf("%q names no host; %s would be all of this machine's addresses", text, anyHost)
 	}
-	return found, err
+	return address, err
 }
 
-// lookupTime is how long a name is looked up.
-const lookupTime = 10 * time.Second
+// lookupTimeout is the maximum time for resolving a name.
+const lookupTimeout = 10 * time.Second
 
-// resolver looks names up: a test's own in tests.
-var resolver = net.DefaultResolver.LookupIPAddr
+// lookupIP resolves names. Tests replace it.
+var lookupIP = net.DefaultResolver.LookupIPAddr
 
-// Resolved is the address with an IP for its host. Of a name it is the first address of version 4 or, where it has none, the first
-// one, as Go's own look-up has it. A name that stands for all of the machine's addresses is refused: who wants these writes 0.0.0.0.
+// Resolved returns the address with an IP address as its host. A name is resolved to its first IPv4 address, or, if it
+// has none, to its first address, as Go's net.Dial does. A name that resolves to all addresses of the machine is an
+// error, since whoever wants that can write 0.0.0.0.
 func (a Address) Resolved() (Address, error) {
 	if ip := net.ParseIP(a.Host); ip != nil {
 		return Address{ip.String(), a.Port}, nil
 	}
-	ctx, cancel := context.WithTimeout(context.Background(), lookupTime)
+	ctx, cancel := context.WithTimeout(context.Background(), lookupTimeout)
 	defer cancel()
-	all, err := resolver(ctx, a.Host)
+	addrs, err := lookupIP(ctx, a.Host)
 	if err != nil {
 		return Address{}, err
 	}
-	if len(all) == 0 {
+	if len(addrs) == 0 {
 		return Address{}, fmt.Errorf("%q has no address", a.Host)
 	}
-	first := all[0]
-	for _, one := range all {
-		if one.IP.To4() != nil {
-			first = one
+	first := addrs[0]
+	for _, addr := range addrs {
+		if addr.IP.To4() != nil {
+			first = addr
 			break
 		}
 	}
 	switch {
 	case first.IP.IsUnspecified():
-		return Address{}, fmt.Errorf("%q stands for all of this machine's addresses; write %s where that is meant", a.Host, first.IP)
+		return Address{}, fmt.Errorf("%q resolves to all of this machine's addresses; write %s if that is what you want", a.Host, first.IP)
 	case first.Zone != "":
-		return Address{}, fmt.Errorf("%q is an address of one link, %s, and gossip can't name the link", a.Host, first.String())
+		return Address{}, fmt.Errorf("%q resolves to the link-local address %s, whose zone gossip can't send", a.Host, first.String())
 	}
 	return Address{first.IP.String(), a.Port}, nil
 }
 
-// onInterface is the address on an interface of the machine: the host has to be an address of it. Where it is all addresses, it is
-// the interface's first one of version 4 or, where it has none, the first one that other links know.
+// onInterface checks that the host is an address of an interface of this machine. If the host is 0.0.0.0 or ::, it is
+// replaced by the interface's first IPv4 address, or, if it has none, by its first address that is not link-local.
 func (a Address) onInterface(name string) (Address, error) {
 	device, err := net.InterfaceByName(name)
 	if err != nil {
-		return Address{}, fmt.Errorf("%q is no interface of this machine", name)
+		return Address{}, fmt.Errorf("%q is not an interface of this machine", name)
 	}
-	all, err := device.Addrs()
+	addrs, err := device.Addrs()
 	if err != nil {
 		return Address{}, fmt.Errorf("%s: %w", name, err)
 	}
-	wanted := net.ParseIP(a.Host)
+	host := net.ParseIP(a.Host)
 	var first net.IP
-	for _, one := range all {
-		network, is := one.(*net.IPNet)
+	for _, addr := range addrs {
+		network, ok := addr.(*net.IPNet)
 		switch {
-		case !is:
-		case network.IP.Equal(wanted):
+		case !ok:
+		case network.IP.Equal(host):
 			return a, nil
 		case network.IP.To4() != nil && (first == nil || first.To4() == nil), first == nil && !network.IP.IsLinkLocalUnicast():
 			first = network.IP
 		}
 	}
 	switch {
-	case !wanted.IsUnspecified():
+	case !host.IsUnspecified():
 		return Address{}, fmt.Errorf("the interface %s doesn't have the address %s", name, a.Host)
 	case first == nil:
 		return Address{}, fmt.Errorf("the interface %s has no address", name)
@@ -126,37 +127,38 @@ func (a Address) onInterface(name string) (Address, error) {
 	return Address{first.String(), a.Port}, nil
 }
 
-// Resolve looks up the names in the addresses, once, at a start: from then on each is an IP with a port.
+// Resolve resolves the names in the addresses once, when the agent starts. After that each address is an IP address and
+// a port.
 func (c *Config) Resolve() error {
-	for _, one := range []struct {
+	for _, address := range []struct {
 		flag string
 		text *string
 		port int
 	}{{"-bind", &c.Bind, BindPort}, {"-advertise", &c.Advertise, BindPort}, {"-rpc-addr", &c.RPCAddr, RPCPort}, {"-prometheus-addr", &c.PrometheusAddr, PrometheusPort}} {
-		if *one.text == "" && (one.text == &c.Advertise || one.text == &c.PrometheusAddr) {
+		if *address.text == "" && (address.text == &c.Advertise || address.text == &c.PrometheusAddr) {
 			continue
 		}
-		found, err := resolved(*one.text, one.port)
-		if err == nil && one.text == &c.Advertise && net.ParseIP(found.Host).IsUnspecified() {
-			err = fmt.Errorf("%s is no address at which others find this node", found.Host)
+		resolved, err := resolveText(*address.text, address.port)
+		if err == nil && address.text == &c.Advertise && net.ParseIP(resolved.Host).IsUnspecified() {
+			err = fmt.Errorf("%s is not an address at which other nodes reach this one", resolved.Host)
 		}
 		if err != nil {
-			return fmt.Errorf("%s: %w", one.flag, err)
+			return fmt.Errorf("%s: %w", address.flag, err)
 		}
-		if one.text == &c.Bind && c.Interface != "" {
-			if found, err = found.onInterface(c.Interface); err != nil {
+		if address.text == &c.Bind && c.Interface != "" {
+			if resolved, err = resolved.onInterface(c.Interface); err != nil {
 				return fmt.Errorf("-iface: %w", err)
 			}
 		}
-		*one.text = found.String()
+		*address.text = resolved.String()
 	}
 	return nil
 }
 
-func resolved(text string, port int) (Address, error) {
-	found, err := parseNamed(text, port)
+func resolveText(text string, port int) (Address, error) {
+	address, err := parseWithHost(text, port)
 	if err != nil {
 		return Address{}, err
 	}
-	return found.Resolved()
+	return address.Resolved()
 }

@@ -1,4 +1,4 @@
-// Package config reads what the agent is started with: flags, and files of Serf's own JSON keys.
+// Package config reads the agent's configuration: flags, and files with Serf's JSON keys.
 package config
 
 import (
@@ -9,134 +9,130 @@ import (
 	"time"
 
 	"kitchenrue.example/agent/internal/logs"
+	"kitchenrue.example/serf"
 )
 
-// Version is what the agent calls itself.
-const Version = "0.1.0"
+// Version is the agent's version.
+const Version = "0.2.0"
 
-// Default ports, as Serf has them, and that of the page for Prometheus.
+// The default ports of gossip and RPC, as in Serf, and of the page for Prometheus.
 const (
 	BindPort       = 7946
 	RPCPort        = 7373
 	PrometheusPort = 7374
 )
 
-// Config is what the agent is started with.
+// Config is the agent's configuration.
 type Config struct {
-	// NodeName is the node's own name; the host's name where nothing is said.
+	// NodeName is the node's name, by default the host's name.
 	NodeName string
-	// Bind is where gossip listens, and Advertise what the others are told, where it isn't Bind. A name in them, or in RPCAddr, is
-	// looked up by Resolve.
+	// Bind is the address at which gossip listens, and Advertise the address that other nodes use, if it isn't Bind.
+	// Resolve resolves names in them and in RPCAddr.
 	Bind, Advertise string
-	// Interface is the interface of the machine whose address Bind has to be, or becomes where it is all addresses.
+	// Interface is the machine's interface that Bind has to be an address of. If Bind is all addresses, it becomes the
+	// interface's address.
 	Interface string
-	// Tags are the node's tags. TagsFile keeps them between starts, and excludes Tags.
+	// Tags are the node's tags. TagsFile keeps them between starts. Only one of the two can be set.
 	Tags     map[string]string
 	TagsFile string
 	// EncryptKey is a key in base64. KeyringFile keeps all keys between starts.
 	EncryptKey, KeyringFile string
 	// LogLevel is TRACE, DEBUG, INFO, WARN or ERR.
 	LogLevel string
-	// Syslog sends the log to the machine's syslog too, under SyslogFacility.
+	// Syslog sends the log to the machine's syslog too, with the facility SyslogFacility.
 	Syslog         bool
 	SyslogFacility string
-	// StatsiteAddr and StatsdAddr are told what is counted, and at PrometheusAddr it can be read, where they aren't empty.
+	// StatsiteAddr and StatsdAddr are where metrics are sent, and PrometheusAddr is where they can be read. Each is off
+	// if it is empty.
 	StatsiteAddr, StatsdAddr, PrometheusAddr string
-	// Protocol is the version of Serf's protocol that is spoken.
+	// Protocol is the version of Serf's protocol that the node speaks.
 	Protocol int
-	// RPCAddr is where the command line's requests are taken, and RPCAuth what they have to know, where it isn't empty.
+	// RPCAddr is the address that accepts requests of Serf's command line. RPCAuth is the token that they need, if it
+	// isn't empty.
 	RPCAddr, RPCAuth string
-	// EventHandlers are texts of the form FILTERS=SCRIPT, or SCRIPT.
+	// EventHandlers are handlers of the form FILTERS=SCRIPT, or SCRIPT.
 	EventHandlers []string
-	// StartJoin are joined once at the start, RetryJoin until one is joined.
+	// The agent joins StartJoin once when it starts. It tries RetryJoin until it has joined one of them.
 	StartJoin, RetryJoin []string
 	RetryInterval        time.Duration
-	// RetryMax is how often RetryJoin is tried behind the first time; 0 is without end.
+	// RetryMax is the maximum number of times that RetryJoin is retried. 0 is no limit.
 	RetryMax int
-	// Replay takes the events from before a join, too.
+	// Replay makes joins hand out the events from before the join.
 	Replay bool
-	// Rejoin joins again by the snapshot, also after a leave.
+	// Rejoin joins the snapshot's members again, even after a leave.
 	Rejoin bool
-	// Snapshot is the file of clocks and members.
+	// Snapshot is the file that keeps clocks and members.
 	Snapshot string
-	// KeepEvents keeps events and queries in the snapshot too, so that a restart goes on with them.
+	// KeepEvents makes the snapshot keep events and queries too, so that a restart resumes with them.
 	KeepEvents bool
-	// KeepEventsSize is how many bytes of the snapshot these may have.
+	// KeepEventsSize is the maximum size in bytes of the kept events in the snapshot.
 	KeepEventsSize int
-	// MaxMembers is how many members are known at most: new ones stay out above.
+	// MaxMembers is the maximum number of known members. When it is reached, new ones are not admitted.
 	MaxMembers int
-	// Record is the file of what comes and goes, and RecordSize how many bytes it may have before it turns over.
+	// Record is the file that records the proved agent's calls and replies. RecordSize is the size in bytes at which it
+	// is rotated.
 	Record     string
 	RecordSize int
-	// Profile is lan, wan or local: how fast gossip goes.
+	// Profile is lan, wan or local, and sets memberlist's intervals and timeouts.
 	Profile string
-	// LeaveOnTerminate leaves at SIGTERM; SkipLeaveOnInterrupt doesn't at SIGINT.
+	// LeaveOnTerminate makes the agent leave at SIGTERM. SkipLeaveOnInterrupt makes it not leave at SIGINT.
 	LeaveOnTerminate, SkipLeaveOnInterrupt bool
-	// How often a failed member is tried, for how long, and for how long one that left is remembered.
+	// ReconnectInterval is the time between attempts to reconnect to a failed member, and ReconnectTimeout the time
+	// after which it is reaped. TombstoneTimeout is the time after which a member that left is reaped.
 	ReconnectInterval, ReconnectTimeout, TombstoneTimeout time.Duration
-	// BroadcastTimeout is how long a leave waits until it is sent.
+	// BroadcastTimeout is the maximum time for which a leave waits until it is sent.
 	BroadcastTimeout time.Duration
-	// DisableCoordinates keeps no coordinates, and DisableNameResolution asks nobody about a name that two nodes have.
+	// DisableCoordinates turns network coordinates off. DisableNameResolution turns off the query that decides which of
+	// two nodes with the same name stays.
 	DisableCoordinates, DisableNameResolution bool
-	// Compression packs gossip.
+	// Compression compresses gossip.
 	Compression bool
-	// UserEventSizeLimit is the greatest size of an event that is fired here, in bytes.
+	// UserEventSizeLimit is the maximum size in bytes of an event that this node fires.
 	UserEventSizeLimit int
-	// QuerySizeLimit is the greatest size of the packet of a query that is fired here, and QueryResponseSizeLimit of that of an
-	// answer, in bytes.
+	// QuerySizeLimit is the maximum size in bytes of the packet of a query that this node fires, and
+	// QueryResponseSizeLimit that of a response.
 	QuerySizeLimit, QueryResponseSizeLimit int
-	// HandlerTimeout ends a handler that lasts longer; 0 never does.
+	// HandlerTimeout is the maximum time for which a handler runs. 0 is no limit.
 	HandlerTimeout time.Duration
-	// ShowVersion prints the version and does nothing else.
+	// ShowVersion prints the version and ends.
 	ShowVersion bool
 }
 
-// Sizes in bytes: what Serf has for queries and answers, and the greatest of any limit.
-const (
-	querySize   = 1024
-	greatestAny = 9216
-)
+// defaultQuerySize is Serf's limit for queries and responses, in bytes.
+const defaultQuerySize = 1024
 
-// Default is what stands where nothing is said.
+// defaultRecordSize is the size in bytes at which a record is rotated.
+const defaultRecordSize = 64 << 20
+
+// Default returns the default configuration.
 func Default() Config {
 	return Config{
 		Bind: "0.0.0.0", RPCAddr: "127.0.0.1:7373", LogLevel: "INFO", Profile: "lan", Tags: map[string]string{},
 		RetryInterval: 30 * time.Second, ReconnectInterval: 30 * time.Second, ReconnectTimeout: 24 * time.Hour,
 		TombstoneTimeout: 24 * time.Hour, BroadcastTimeout: 5 * time.Second, Compression: true, UserEventSizeLimit: 512,
-		HandlerTimeout: 10 * time.Minute, RecordSize: 64 << 20, QuerySizeLimit: querySize, QueryResponseSizeLimit: querySize,
-		KeepEventsSize: 32 << 20, MaxMembers: 4096, SyslogFacility: "LOCAL0", Protocol: maxProtocol,
+		HandlerTimeout: 10 * time.Minute, RecordSize: defaultRecordSize, QuerySizeLimit: defaultQuerySize,
+		QueryResponseSizeLimit: defaultQuerySize, KeepEventsSize: serf.DefaultKeepEventsSize, MaxMembers: serf.DefaultMaxMembers,
+		SyslogFacility: "LOCAL0", Protocol: int(serf.ProtocolVersionMax),
 	}
 }
 
-// The versions of Serf's protocol, as Serf has them.
-const (
-	minProtocol = 2
-	maxProtocol = 5
-)
+// maxName is the maximum length in bytes of a node's name, as in package serf.
+const maxName = 128
 
-// MaxName is how many bytes a node's name may have.
-const MaxName = 128
-
-// How many bytes of a snapshot kept events may have, at least and at most.
-const (
-	minKeepEvents = 1 << 20
-	maxKeepEvents = 1 << 30
-)
-
-// MinRecord is the least number of bytes at which a record turns over.
+// MinRecord is the minimum for RecordSize in bytes.
 const MinRecord = 1 << 12
 
-// validate says what can't be, and fills in the host's name.
+// validate checks the configuration, and sets NodeName to the host's name if it is empty.
 func (c *Config) validate() error {
 	if c.NodeName == "" {
 		name, err := os.Hostname()
 		if err != nil {
-			return fmt.Errorf("-node is needed, since the host has no name: %w", err)
+			return fmt.Errorf("-node is required, since the host has no name: %w", err)
 		}
 		c.NodeName = name
 	}
-	if len(c.NodeName) > MaxName {
-		return fmt.Errorf("-node: a name has at most %d bytes, and this one has %d", MaxName, len(c.NodeName))
+	if len(c.NodeName) > maxName {
+		return fmt.Errorf("-node: the name has %d bytes, and must have at most %d", len(c.NodeName), maxName)
 	}
 	checks := []func() error{c.validateAddresses, c.validateKey, c.validateTags, c.validateNumbers, c.validateFiles}
 	for _, check := range checks {
@@ -144,44 +140,44 @@ func (c *Config) validate() error {
 			return err
 		}
 	}
-	if _, is := logs.LevelOf(c.LogLevel); !is {
-		return fmt.Errorf("-log-level: %q is none of %v", c.LogLevel, logs.Levels)
+	if _, ok := logs.LevelOf(c.LogLevel); !ok {
+		return fmt.Errorf("-log-level: %q is not one of %v", c.LogLevel, logs.Levels)
 	}
 	switch c.Profile {
 	case "lan", "wan", "local":
 		return nil
 	}
-	return fmt.Errorf("-profile: %q is none of lan, wan, local", c.Profile)
+	return fmt.Errorf("-profile: %q is not one of lan, wan, local", c.Profile)
 }
 
 func (c *Config) validateAddresses() error {
-	for _, one := range []struct{ flag, text string }{
+	for _, address := range []struct{ flag, text string }{
 		{"-bind", c.Bind}, {"-advertise", c.Advertise}, {"-rpc-addr", c.RPCAddr}, {"-prometheus-addr", c.PrometheusAddr},
 	} {
-		if one.text == "" && (one.flag == "-advertise" || one.flag == "-prometheus-addr") {
+		if address.text == "" && (address.flag == "-advertise" || address.flag == "-prometheus-addr") {
 			continue
 		}
-		if _, err := parseNamed(one.text, BindPort); err != nil {
-			return fmt.Errorf("%s: %w", one.flag, err)
+		if _, err := parseWithHost(address.text, BindPort); err != nil {
+			return fmt.Errorf("%s: %w", address.flag, err)
 		}
 	}
 	return nil
 }
 
-// Key is the key of EncryptKey, or nil.
+// Key returns the decoded EncryptKey, or nil if it is empty.
 func (c *Config) Key() ([]byte, error) {
 	if c.EncryptKey == "" {
 		return nil, nil
 	}
 	key, err := base64.StdEncoding.DecodeString(c.EncryptKey)
 	if err != nil {
-		return nil, fmt.Errorf("-encrypt: no base64: %w", err)
+		return nil, fmt.Errorf("-encrypt: the key is not base64: %w", err)
 	}
 	switch len(key) {
 	case 16, 24, 32:
 		return key, nil
 	}
-	return nil, fmt.Errorf("-encrypt: a key has 16, 24 or 32 bytes, and this one has %d", len(key))
+	return nil, fmt.Errorf("-encrypt: the key has %d bytes, and must have 16, 24 or 32", len(key))
 }
 
 func (c *Config) validateKey() error {
@@ -199,29 +195,31 @@ func (c *Config) validateKey() error {
 
 func (c *Config) validateTags() error {
 	if c.TagsFile != "" && len(c.Tags) > 0 {
-		return fmt.Errorf("-tag and -tags-file: the file has the tags, so one of them has to go")
+		return fmt.Errorf("-tag and -tags-file exclude each other: the file has the tags")
 	}
 	return nil
 }
 
-// validateNumbers says which number or time is out of its bounds.
+// validateNumbers checks the bounds of numbers and times.
 func (c *Config) validateNumbers() error {
-	const most = math.MaxInt
-	for _, one := range []struct {
-		key             string
-		is, least, most int
+	const noMax = math.MaxInt
+	for _, number := range []struct {
+		name            string
+		value, min, max int
 	}{
-		{"user_event_size_limit", c.UserEventSizeLimit, 1, greatestAny}, {"query_size_limit", c.QuerySizeLimit, 1, greatestAny},
-		{"query_response_size_limit", c.QueryResponseSizeLimit, 1, greatestAny}, {"-protocol", c.Protocol, minProtocol, maxProtocol},
-		{"-keep-events-size", c.KeepEventsSize, minKeepEvents, maxKeepEvents}, {"-max-members", c.MaxMembers, 1, most},
-		{"-retry-max", c.RetryMax, 0, most}, {"-record-size", c.RecordSize, MinRecord, most},
+		{"user_event_size_limit", c.UserEventSizeLimit, 1, serf.UserEventSizeLimit},
+		{"query_size_limit", c.QuerySizeLimit, 1, serf.UserEventSizeLimit},
+		{"query_response_size_limit", c.QueryResponseSizeLimit, 1, serf.UserEventSizeLimit},
+		{"-protocol", c.Protocol, int(serf.ProtocolVersionMin), int(serf.ProtocolVersionMax)},
+		{"-keep-events-size", c.KeepEventsSize, serf.MinKeepEventsSize, serf.MaxKeepEventsSize}, {"-max-members", c.MaxMembers, 1, noMax},
+		{"-retry-max", c.RetryMax, 0, noMax}, {"-record-size", c.RecordSize, MinRecord, noMax},
 	} {
 		switch {
-		case one.is >= one.least && one.is <= one.most:
-		case one.most == most:
-			return fmt.Errorf("%s: %d is below %d", one.key, one.is, one.least)
+		case number.value >= number.min && number.value <= number.max:
+		case number.max == noMax:
+			return fmt.Errorf("%s: %d is below %d", number.name, number.value, number.min)
 		default:
-			return fmt.Errorf("%s: %d is not between %d and %d", one.key, one.is, one.least, one.most)
+			return fmt.Errorf("%s: %d is not between %d and %d", number.name, number.value, number.min, number.max)
 		}
 	}
 	for name, length := range map[string]time.Duration{
@@ -238,16 +236,16 @@ func (c *Config) validateNumbers() error {
 	return nil
 }
 
-// validateFiles says which files are needed, and which don't go together.
+// validateFiles checks that required files are set, and that no settings exclude each other.
 func (c *Config) validateFiles() error {
 	if c.Rejoin && c.Snapshot == "" {
-		return fmt.Errorf("-rejoin: it needs -snapshot")
+		return fmt.Errorf("-rejoin needs -snapshot")
 	}
 	if c.KeepEvents && c.Snapshot == "" {
-		return fmt.Errorf("-keep-events: it needs -snapshot")
+		return fmt.Errorf("-keep-events needs -snapshot")
 	}
 	if c.KeepEvents && c.Record != "" {
-		return fmt.Errorf("-keep-events and -record: a record doesn't say what a restart goes on with, so one of them has to go")
+		return fmt.Errorf("-keep-events and -record exclude each other: a record can't describe a restart that resumes with kept events")
 	}
 	return nil
 }

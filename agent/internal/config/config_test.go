@@ -29,7 +29,7 @@ func TestFlags(t *testing.T) {
 	}
 }
 
-func TestFilesComeBeforeFlags(t *testing.T) {
+func TestFlagsOverrideFiles(t *testing.T) {
 	folder := t.TempDir()
 	one := testkit.Write(t, filepath.Join(folder, "one"), `{"node_name": "one", "start_join": ["x"], "tags": {"a": "1"}, "rejoin_after_leave": true,
 		"interface": "eth0", "bind": "", "advertise": "", "rpc_addr": "", "snapshot_path": "s", "retry_max_attempts": 7, "reconnect_timeout": "1h", "leave_on_terminate": true, "keep_events": true}`)
@@ -59,36 +59,36 @@ func TestRefusals(t *testing.T) {
 		files++
 		return "-config-file " + testkit.Write(t, filepath.Join(folder, fmt.Sprint(files)), text)
 	}
-	for _, one := range []struct{ words, says string }{
+	for _, test := range []struct{ words, says string }{
 		{"-foo", "-foo"},
-		{"word", `"word" stands alone`},
-		{"-rejoin true -snapshot s", `"true" stands alone`},
-		{"-node " + strings.Repeat("x", 129), "at most 128 bytes"},
+		{"word", `unexpected argument "word"`},
+		{"-rejoin true -snapshot s", `unexpected argument "true"`},
+		{"-node " + strings.Repeat("x", 129), "must have at most 128"},
 		{"-bind a:b", "-bind"},
-		{"-bind 1.2.3.4:70000", "no port"},
+		{"-bind 1.2.3.4:70000", "is not a port"},
 		{"-rpc-addr ::::", "-rpc-addr"},
 		{"-advertise a:b", "-advertise"},
 		{"-log-level loud", `"LOUD"`},
 		{"-profile fast", "-profile"},
 		{"-protocol 6", "-protocol: 6 is not between 2 and 5"},
 		{"-protocol 1", "-protocol: 1 is not between 2 and 5"},
-		{"-protocol x", "no number"},
+		{"-protocol x", "is not a number"},
 		{"-tag k", "key=value"},
 		{"-tag =v", "key=value"},
 		{"-tag k=v -tags-file f", "-tags-file"},
 		{"-encrypt %", "-encrypt"},
 		{"-encrypt QUJD", "3"},
 		{"-encrypt cg8StVXbQJ0gPvMd9o7yrg== -keyring-file /dev/null", "leave -encrypt out"},
-		{"-rejoin", "needs -snapshot"},
-		{"-keep-events", "-keep-events: it needs -snapshot"},
-		{"-keep-events -snapshot s -record r", "-keep-events and -record: "},
+		{"-rejoin", "-rejoin needs -snapshot"},
+		{"-keep-events", "-keep-events needs -snapshot"},
+		{"-keep-events -snapshot s -record r", "-keep-events and -record exclude each other: "},
 		{"-keep-events=maybe -snapshot s", "neither true nor false"},
 		{"-keep-events-size 1048575", "-keep-events-size: 1048575 is not between 1048576 and 1073741824"},
 		{"-record-size 4095", "-record-size: 4095 is below 4096"},
-		{"-record-size much", "no number"},
-		{"-retry-max x", "no number"},
+		{"-record-size much", "is not a number"},
+		{"-retry-max x", "is not a number"},
 		{"-retry-max -1", "below 0"},
-		{"-retry-interval 3", "no time"},
+		{"-retry-interval 3", "is not a duration"},
 		{"-retry-interval 0s", "not above 0"},
 		{"-handler-timeout -1s", "below 0"},
 		{"-replay=maybe", "neither true nor false"},
@@ -101,29 +101,29 @@ func TestRefusals(t *testing.T) {
 		{"-config-file /nowhere", "no such file"},
 		{"-config-file /", "is a directory"},
 		{"-config-dir /nowhere", "no such file"},
-		{file(`[]`), "no JSON object"},
+		{file(`[]`), "not a JSON object"},
 		{file(`{"foo": 1}`), `"foo"`},
-		{file(`{"discover": "x"}`), `"discover": it isn't taken: peers aren't`},
-		{file(`{"mdns": {}}`), `"mdns" isn't taken: peers aren't`},
-		{file(`{"retry_max_attempts": "x"}`), "no number"},
-		{file(`{"tags": {"k": {}}}`), "neither a text"},
-		{file(`{"start_join": [[]]}`), "neither a text"},
+		{file(`{"discover": "x"}`), `"discover": not supported: agents aren't`},
+		{file(`{"mdns": {}}`), `"mdns" is not supported: agents aren't`},
+		{file(`{"retry_max_attempts": "x"}`), "is not a number"},
+		{file(`{"tags": {"k": {}}}`), "neither a string"},
+		{file(`{"start_join": [[]]}`), "neither a string"},
 		{file(`{"user_event_size_limit": 9217}`), "9216"},
 		{file(`{"query_size_limit": 9217}`), "query_size_limit: 9217 is not between 1 and 9216"},
 		{file(`{"query_size_limit": 0}`), "query_size_limit: 0"},
 		{file(`{"query_response_size_limit": 9217}`), "query_response_size_limit: 9217 is not between 1 and 9216"},
 		{file(`{"query_response_size_limit": -1}`), "query_response_size_limit: -1"},
-		{file(`{"query_response_size_limit": "x"}`), "no number"},
+		{file(`{"query_response_size_limit": "x"}`), "is not a number"},
 	} {
-		_, err := Parse(strings.Fields(one.words), io.Discard)
-		if err == nil || !strings.Contains(err.Error(), one.says) {
-			t.Errorf("%s: %v", one.words, err)
+		_, err := Parse(strings.Fields(test.words), io.Discard)
+		if err == nil || !strings.Contains(err.Error(), test.says) {
+			t.Errorf("%s: %v", test.words, err)
 		}
 	}
 }
 
-// What asks for nothing is taken, and so is what Serf takes.
-func TestNothingIsNotRefused(t *testing.T) {
+// Settings of Serf that are empty or false are accepted, and so are those that the agent supports.
+func TestEmptySettings(t *testing.T) {
 	path := filepath.Join(t.TempDir(), "file")
 	for text, holds := range map[string]func(c Config) bool{
 		`{"disable_coordinates": true}`:      func(c Config) bool { return c.DisableCoordinates },
@@ -154,13 +154,13 @@ func TestNothingIsNotRefused(t *testing.T) {
 }
 
 func TestHelp(t *testing.T) {
-	var said strings.Builder
-	if _, err := Parse([]string{"-help"}, &said); !errors.Is(err, ErrHelp) {
+	var help strings.Builder
+	if _, err := Parse([]string{"-help"}, &help); !errors.Is(err, ErrHelp) {
 		t.Fatal(err)
 	}
-	for _, one := range settings {
-		if one.flag != "" && !strings.Contains(said.String(), "-"+one.flag+" ") {
-			t.Errorf("-%s is not in the help", one.flag)
+	for _, setting := range settings {
+		if setting.flag != "" && !strings.Contains(help.String(), "-"+setting.flag+" ") {
+			t.Errorf("-%s is not in the help", setting.flag)
 		}
 	}
 }

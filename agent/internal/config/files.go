@@ -12,10 +12,10 @@ import (
 	"strings"
 )
 
-// maxFile is how many bytes a file of settings may have.
+// maxFile is the maximum size in bytes of a configuration file.
 const maxFile = 1 << 20
 
-// filesIn are the files of a folder that end in .json, in the order of their names.
+// filesIn returns the files of a folder that end in .json, sorted by name.
 func filesIn(folder string) ([]string, error) {
 	entries, err := os.ReadDir(folder)
 	if err != nil {
@@ -31,7 +31,7 @@ func filesIn(folder string) ([]string, error) {
 	return found, nil
 }
 
-// readFile takes what a file says.
+// readFile applies the settings of a file.
 func (c *Config) readFile(path string) error {
 	file, err := os.Open(path)
 	if err != nil {
@@ -43,7 +43,7 @@ func (c *Config) readFile(path string) error {
 		return errors.Unwrap(err)
 	}
 	if len(data) > maxFile {
-		return fmt.Errorf("it has more than %d bytes", maxFile)
+		return fmt.Errorf("the file has more than %d bytes", maxFile)
 	}
 	return c.readJSON(data)
 }
@@ -51,7 +51,7 @@ func (c *Config) readFile(path string) error {
 func (c *Config) readJSON(data []byte) error {
 	keys := map[string]json.RawMessage{}
 	if err := json.Unmarshal(data, &keys); err != nil {
-		return fmt.Errorf("no JSON object: %w", err)
+		return fmt.Errorf("not a JSON object: %w", err)
 	}
 	names := make([]string, 0, len(keys))
 	for name := range keys {
@@ -59,19 +59,19 @@ func (c *Config) readJSON(data []byte) error {
 	}
 	sort.Strings(names)
 	for _, name := range names {
-		one := byKey(name)
-		if one == nil {
-			if why, is := refused[name]; is {
-				return fmt.Errorf("%q isn't taken: %s", name, why)
+		setting := byKey(name)
+		if setting == nil {
+			if reason, ok := refused[name]; ok {
+				return fmt.Errorf("%q is not supported: %s", name, reason)
 			}
-			return fmt.Errorf("no setting is called %q", name)
+			return fmt.Errorf("unknown setting %q", name)
 		}
-		values, err := texts(keys[name])
+		values, err := valuesOf(keys[name])
 		if err != nil {
 			return fmt.Errorf("%q: %w", name, err)
 		}
 		for _, value := range values {
-			if err := one.set(c, value); err != nil {
+			if err := setting.set(c, value); err != nil {
 				return fmt.Errorf("%q: %w", name, err)
 			}
 		}
@@ -88,8 +88,9 @@ func byKey(name string) *setting {
 	return nil
 }
 
-// texts are what a value of JSON says, as flags would: a list says each of its values, an object each of its pairs.
-func texts(raw json.RawMessage) ([]string, error) {
+// valuesOf returns the values in JSON as flags would have them: one for each element of a list, and one for each pair
+// of an object, as key=value.
+func valuesOf(raw json.RawMessage) ([]string, error) {
 	decoder := json.NewDecoder(bytes.NewReader(raw))
 	decoder.UseNumber()
 	var value interface{}
@@ -100,32 +101,32 @@ func texts(raw json.RawMessage) ([]string, error) {
 	case nil:
 		return nil, nil
 	case []interface{}:
-		found := make([]string, 0, len(value))
-		for _, one := range value {
-			text, err := plain(one)
+		values := make([]string, 0, len(value))
+		for _, element := range value {
+			text, err := plainText(element)
 			if err != nil {
 				return nil, err
 			}
-			found = append(found, text)
+			values = append(values, text)
 		}
-		return found, nil
+		return values, nil
 	case map[string]interface{}:
-		found := make([]string, 0, len(value))
-		for key, one := range value {
-			text, err := plain(one)
+		values := make([]string, 0, len(value))
+		for key, element := range value {
+			text, err := plainText(element)
 			if err != nil {
 				return nil, err
 			}
-			found = append(found, key+"="+text)
+			values = append(values, key+"="+text)
 		}
-		sort.Strings(found)
-		return found, nil
+		sort.Strings(values)
+		return values, nil
 	}
-	text, err := plain(value)
+	text, err := plainText(value)
 	return []string{text}, err
 }
 
-func plain(value interface{}) (string, error) {
+func plainText(value interface{}) (string, error) {
 	switch value := value.(type) {
 	case string:
 		return value, nil
@@ -134,5 +135,5 @@ func plain(value interface{}) (string, error) {
 	case bool:
 		return fmt.Sprint(value), nil
 	}
-	return "", errors.New("it is neither a text, a number nor a truth")
+	return "", errors.New("the value is neither a string, a number nor a boolean")
 }

@@ -7,46 +7,47 @@ import (
 	"io"
 )
 
-// ErrHelp: the flags asked for help, which was printed.
+// ErrHelp is returned after the help text was printed.
 var ErrHelp = errors.New("help was asked for")
 
-// said is one thing that the command line said.
-type said struct {
+// assignment is a flag with its value.
+type assignment struct {
 	setting *setting
 	value   string
 }
 
-// Parse reads the flags, and the files that they name; flags count more than files, and a later file more than an earlier one.
-// Lists and tags of all of them come together. Help goes to out.
-func Parse(words []string, out io.Writer) (Config, error) {
-	var all []said
+// Parse reads flags, and the files that they name. Flags override files, and later files override earlier ones. Lists
+// and tags are merged. The help text is written to out.
+func Parse(args []string, out io.Writer) (Config, error) {
+	var assignments []assignment
 	var files []string
 	flags := flag.NewFlagSet("kitchenrue-agent", flag.ContinueOnError)
 	flags.SetOutput(io.Discard)
 	flags.Usage = func() {}
 	for i := range settings {
-		one := &settings[i]
-		if one.flag != "" {
-			flags.Var(&value{one, &all}, one.flag, one.help)
+		setting := &settings[i]
+		if setting.flag != "" {
+			flags.Var(&flagVar{setting, &assignments}, setting.flag, setting.help)
 		}
 	}
-	take := func(read func(string) ([]string, error)) func(string) error {
+	addFiles := func(read func(string) ([]string, error)) func(string) error {
 		return func(path string) error {
 			found, err := read(path)
 			files = append(files, found...)
 			return err
 		}
 	}
-	flags.Func("config-file", "JSON file of settings (repeatable)", take(func(path string) ([]string, error) { return []string{path}, nil }))
-	flags.Func("config-dir", "folder whose files *.json are read in the order of their names", take(filesIn))
-	if err := flags.Parse(words); errors.Is(err, flag.ErrHelp) {
+	flags.Func("config-file", "JSON file of settings (repeatable)", addFiles(func(path string) ([]string, error) { return []string{path}, nil }))
+	flags.Func("config-dir", "folder whose *.json files are read in the order of their names", addFiles(filesIn))
+	if err := flags.Parse(args); errors.Is(err, flag.ErrHelp) {
 		usage(out)
 		return Config{}, ErrHelp
 	} else if err != nil {
 		return Config{}, err
 	}
 	if flags.NArg() > 0 {
-		return Config{}, fmt.Errorf("%q stands alone, and nothing behind it would be read: a flag is -FLAG VALUE, and one without a value -FLAG or -FLAG=false", flags.Arg(0))
+		return Config{}, fmt.Errorf(
+			"unexpected argument %q, after which no flag would be read: write -FLAG VALUE, or for a switch -FLAG or -FLAG=false", flags.Arg(0))
 	}
 	config := Default()
 	for _, path := range files {
@@ -54,34 +55,34 @@ func Parse(words []string, out io.Writer) (Config, error) {
 			return Config{}, fmt.Errorf("%s: %w", path, err)
 		}
 	}
-	for _, one := range all {
-		if err := one.setting.set(&config, one.value); err != nil {
-			return Config{}, fmt.Errorf("-%s: %w", one.setting.flag, err)
+	for _, assigned := range assignments {
+		if err := assigned.setting.set(&config, assigned.value); err != nil {
+			return Config{}, fmt.Errorf("-%s: %w", assigned.setting.flag, err)
 		}
 	}
 	return config, config.validate()
 }
 
 func usage(out io.Writer) {
-	fmt.Fprint(out, "usage: kitchenrue-agent [flags]\n\nAn agent for a Serf cluster, whose handlers run once at most for an event.\n\n")
-	for _, one := range settings {
-		if one.flag != "" {
-			fmt.Fprintf(out, "  -%-20s %s\n", one.flag, one.help)
+	fmt.Fprint(out, "usage: kitchenrue-agent [flags]\n\nAn agent for a Serf cluster that runs its handlers at most once for each event.\n\n")
+	for _, setting := range settings {
+		if setting.flag != "" {
+			fmt.Fprintf(out, "  -%-20s %s\n", setting.flag, setting.help)
 		}
 	}
 	fmt.Fprintf(out, "  -%-20s %s\n", "config-file", "JSON file of settings, with Serf's keys (repeatable)")
-	fmt.Fprintf(out, "  -%-20s %s\n", "config-dir", "folder whose files *.json are read by name (repeatable)")
+	fmt.Fprintf(out, "  -%-20s %s\n", "config-dir", "folder whose *.json files are read in the order of their names (repeatable)")
 }
 
-// value is a flag's value, noted until the files are read.
-type value struct {
-	setting *setting
-	all     *[]said
+// flagVar collects a flag's values. They are set after the files are read.
+type flagVar struct {
+	setting     *setting
+	assignments *[]assignment
 }
 
-func (v *value) String() string   { return "" }
-func (v *value) IsBoolFlag() bool { return v.setting != nil && v.setting.isSwitch }
-func (v *value) Set(text string) error {
-	*v.all = append(*v.all, said{v.setting, text})
+func (v *flagVar) String() string   { return "" }
+func (v *flagVar) IsBoolFlag() bool { return v.setting != nil && v.setting.isSwitch }
+func (v *flagVar) Set(value string) error {
+	*v.assignments = append(*v.assignments, assignment{v.setting, value})
 	return nil
 }

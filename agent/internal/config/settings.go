@@ -5,24 +5,26 @@ import (
 	"strconv"
 	"strings"
 	"time"
+
+	"kitchenrue.example/serf"
 )
 
-// setting is one thing that can be said: by a flag, by a key of a file, or by both.
+// setting is a setting of the configuration: a flag, a key of a file, or both.
 type setting struct {
 	flag, key, help string
-	// isSwitch: the flag needs no value.
+	// isSwitch is true if the flag needs no value.
 	isSwitch bool
 	set      func(c *Config, value string) error
 }
 
-func text(at func(*Config) *string) func(*Config, string) error {
+func text(field func(*Config) *string) func(*Config, string) error {
 	return func(c *Config, value string) error {
-		*at(c) = value
+		*field(c) = value
 		return nil
 	}
 }
 
-// unlessEmpty leaves what stands where the text is empty, as Serf does.
+// unlessEmpty makes an empty value keep the default, as Serf does.
 func unlessEmpty(set func(*Config, string) error) func(*Config, string) error {
 	return func(c *Config, value string) error {
 		if value == "" {
@@ -32,49 +34,49 @@ func unlessEmpty(set func(*Config, string) error) func(*Config, string) error {
 	}
 }
 
-func list(at func(*Config) *[]string) func(*Config, string) error {
+func list(field func(*Config) *[]string) func(*Config, string) error {
 	return func(c *Config, value string) error {
-		*at(c) = append(*at(c), value)
+		*field(c) = append(*field(c), value)
 		return nil
 	}
 }
 
-func truth(at func(*Config) *bool) func(*Config, string) error {
+func boolean(field func(*Config) *bool) func(*Config, string) error {
 	return func(c *Config, value string) error {
-		is, err := strconv.ParseBool(value)
+		parsed, err := strconv.ParseBool(value)
 		if err != nil {
 			return fmt.Errorf("%q is neither true nor false", value)
 		}
-		*at(c) = is
+		*field(c) = parsed
 		return nil
 	}
 }
 
-func length(at func(*Config) *time.Duration) func(*Config, string) error {
+func duration(field func(*Config) *time.Duration) func(*Config, string) error {
 	return func(c *Config, value string) error {
-		is, err := time.ParseDuration(value)
+		parsed, err := time.ParseDuration(value)
 		if err != nil {
-			return fmt.Errorf("%q is no time, such as 30s", value)
+			return fmt.Errorf("%q is not a duration such as 30s", value)
 		}
-		*at(c) = is
+		*field(c) = parsed
 		return nil
 	}
 }
 
-func number(at func(*Config) *int) func(*Config, string) error {
+func number(field func(*Config) *int) func(*Config, string) error {
 	return func(c *Config, value string) error {
-		is, err := strconv.Atoi(value)
+		parsed, err := strconv.Atoi(value)
 		if err != nil {
-			return fmt.Errorf("%q is no number", value)
+			return fmt.Errorf("%q is not a number", value)
 		}
-		*at(c) = is
+		*field(c) = parsed
 		return nil
 	}
 }
 
 func tag(c *Config, value string) error {
-	key, rest, has := strings.Cut(value, "=")
-	if !has || key == "" {
+	key, rest, ok := strings.Cut(value, "=")
+	if !ok || key == "" {
 		return fmt.Errorf("%q is not of the form key=value", value)
 	}
 	c.Tags[key] = rest
@@ -91,81 +93,101 @@ func level(c *Config, value string) error {
 	return nil
 }
 
-// nothing is a setting that may be there where it asks for nothing: a text where it is empty, a truth where it is false.
-func nothing(why string) func(*Config, string) error {
+// onlyEmpty is a setting that is accepted only if it is empty or false. reason says why.
+func onlyEmpty(reason string) func(*Config, string) error {
 	return func(_ *Config, value string) error {
 		if value == "" || value == "false" {
 			return nil
 		}
-		return fmt.Errorf("it isn't taken: %s", why)
+		return fmt.Errorf("not supported: %s", reason)
 	}
 }
 
-func noCompression(c *Config, value string) error {
-	is, err := strconv.ParseBool(value)
+func disableCompression(c *Config, value string) error {
+	parsed, err := strconv.ParseBool(value)
 	if err != nil {
 		return fmt.Errorf("%q is neither true nor false", value)
 	}
-	c.Compression = !is
+	c.Compression = !parsed
 	return nil
 }
 
-// settings are all that is taken.
+// settings are all settings, in the order of the help text.
 var settings = []setting{
-	{"node", "node_name", "name of this node, its own in the cluster", false, text(func(c *Config) *string { return &c.NodeName })},
-	{"bind", "bind", "address or name at which gossip listens, 0.0.0.0:7946", false, unlessEmpty(text(func(c *Config) *string { return &c.Bind }))},
-	{"iface", "interface", "interface whose address that has to be, or is", false, text(func(c *Config) *string { return &c.Interface })},
-	{"advertise", "advertise", "address or name that the others are told", false, text(func(c *Config) *string { return &c.Advertise })},
-	{"join", "start_join", "agent to join at the start (repeatable)", false, list(func(c *Config) *[]string { return &c.StartJoin })},
-	{"retry-join", "retry_join", "agent to join, tried until it works (repeatable)", false, list(func(c *Config) *[]string { return &c.RetryJoin })},
-	{"retry-interval", "retry_interval", "time between two tries, 30s", false, length(func(c *Config) *time.Duration { return &c.RetryInterval })},
-	{"retry-max", "retry_max_attempts", "greatest number of tries behind the first, 0 for no end", false, number(func(c *Config) *int { return &c.RetryMax })},
-	{"replay", "replay_on_join", "take the events from before a join, too", true, truth(func(c *Config) *bool { return &c.Replay })},
-	{"rejoin", "rejoin_after_leave", "join again by the snapshot after a leave", true, truth(func(c *Config) *bool { return &c.Rejoin })},
-	{"snapshot", "snapshot_path", "file that keeps clocks and members", false, text(func(c *Config) *string { return &c.Snapshot })},
-	{"keep-events", "keep_events", "keep events in that file too: a restart goes on with them", true, truth(func(c *Config) *bool { return &c.KeepEvents })},
-	{"keep-events-size", "keep_events_size", "bytes of that file that these may have, 33554432", false, number(func(c *Config) *int { return &c.KeepEventsSize })},
-	{"max-members", "max_members", "greatest number of members, above which new ones stay out, 4096", false, number(func(c *Config) *int { return &c.MaxMembers })},
-	{"record", "record", "file of what comes and goes, as calls and replies", false, text(func(c *Config) *string { return &c.Record })},
-	{"record-size", "record_size", "bytes of that file before it turns over, 67108864", false, number(func(c *Config) *int { return &c.RecordSize })},
-	{"event-handler", "event_handlers", "SCRIPT, or FILTERS=SCRIPT (repeatable)", false, list(func(c *Config) *[]string { return &c.EventHandlers })},
-	{"handler-timeout", "handler_timeout", "time after which a handler is ended, 10m; 0 for never", false, length(func(c *Config) *time.Duration { return &c.HandlerTimeout })},
-	{"tag", "tags", "key=value (repeatable)", false, tag},
-	{"role", "role", "the tag role", false, role},
-	{"tags-file", "tags_file", "file that keeps the tags", false, text(func(c *Config) *string { return &c.TagsFile })},
-	{"encrypt", "encrypt_key", "key of 16, 24 or 32 bytes in base64", false, text(func(c *Config) *string { return &c.EncryptKey })},
-	{"keyring-file", "keyring_file", "file that keeps the keys", false, text(func(c *Config) *string { return &c.KeyringFile })},
-	{"rpc-addr", "rpc_addr", "address or name of the command line's requests, 127.0.0.1:7373", false, unlessEmpty(text(func(c *Config) *string { return &c.RPCAddr }))},
-	{"rpc-auth", "rpc_auth", "token that the command line has to know", false, text(func(c *Config) *string { return &c.RPCAuth })},
-	{"log-level", "log_level", "trace, debug, info, warn or err", false, level},
-	{"syslog", "enable_syslog", "send the log to the machine's syslog too", true, truth(func(c *Config) *bool { return &c.Syslog })},
+	{"node", "node_name", "name of this node, unique in the cluster", false, text(func(c *Config) *string { return &c.NodeName })},
+	{"bind", "bind", "address or name at which gossip listens, default 0.0.0.0:7946", false,
+		unlessEmpty(text(func(c *Config) *string { return &c.Bind }))},
+	{"iface", "interface", "interface that has the address of -bind; with -bind 0.0.0.0 its address is used", false,
+		text(func(c *Config) *string { return &c.Interface })},
+	{"advertise", "advertise", "address or name at which other nodes reach this one", false,
+		text(func(c *Config) *string { return &c.Advertise })},
+	{"join", "start_join", "address of an agent to join once at the start (repeatable)", false,
+		list(func(c *Config) *[]string { return &c.StartJoin })},
+	{"retry-join", "retry_join", "address of an agent to join, retried until one is joined (repeatable)", false,
+		list(func(c *Config) *[]string { return &c.RetryJoin })},
+	{"retry-interval", "retry_interval", "time between two attempts of -retry-join, default 30s", false,
+		duration(func(c *Config) *time.Duration { return &c.RetryInterval })},
+	{"retry-max", "retry_max_attempts", "maximum number of retries, default 0 for no limit", false,
+		number(func(c *Config) *int { return &c.RetryMax })},
+	{"replay", "replay_on_join", "hand out the events from before a join too", true, boolean(func(c *Config) *bool { return &c.Replay })},
+	{"rejoin", "rejoin_after_leave", "join the members of the snapshot again even after a leave", true,
+		boolean(func(c *Config) *bool { return &c.Rejoin })},
+	{"snapshot", "snapshot_path", "file that keeps the clocks and the members", false,
+		text(func(c *Config) *string { return &c.Snapshot })},
+	{"keep-events", "keep_events", "keep events in the snapshot too, so that a restart resumes with them", true,
+		boolean(func(c *Config) *bool { return &c.KeepEvents })},
+	{"keep-events-size", "keep_events_size", "maximum size of the kept events in bytes, default " + fmt.Sprint(serf.DefaultKeepEventsSize), false,
+		number(func(c *Config) *int { return &c.KeepEventsSize })},
+	{"max-members", "max_members", "maximum number of members, above which new ones are not admitted, default " + fmt.Sprint(serf.DefaultMaxMembers), false,
+		number(func(c *Config) *int { return &c.MaxMembers })},
+	{"record", "record", "file that records the calls to the proved agent and its replies", false,
+		text(func(c *Config) *string { return &c.Record })},
+	{"record-size", "record_size", "size in bytes at which the record is rotated, default " + fmt.Sprint(defaultRecordSize), false,
+		number(func(c *Config) *int { return &c.RecordSize })},
+	{"event-handler", "event_handlers", "SCRIPT, or FILTERS=SCRIPT (repeatable)", false,
+		list(func(c *Config) *[]string { return &c.EventHandlers })},
+	{"handler-timeout", "handler_timeout", "time after which a handler is ended, default 10m; 0 for never", false,
+		duration(func(c *Config) *time.Duration { return &c.HandlerTimeout })},
+	{"tag", "tags", "tag of this node, as key=value (repeatable)", false, tag},
+	{"role", "role", "value of the tag role", false, role},
+	{"tags-file", "tags_file", "file that keeps the tags between starts", false, text(func(c *Config) *string { return &c.TagsFile })},
+	{"encrypt", "encrypt_key", "encryption key of 16, 24 or 32 bytes in base64", false,
+		text(func(c *Config) *string { return &c.EncryptKey })},
+	{"keyring-file", "keyring_file", "file that keeps the encryption keys", false, text(func(c *Config) *string { return &c.KeyringFile })},
+	{"rpc-addr", "rpc_addr", "address or name that accepts requests of Serf's command line, default 127.0.0.1:7373", false,
+		unlessEmpty(text(func(c *Config) *string { return &c.RPCAddr }))},
+	{"rpc-auth", "rpc_auth", "token that the command line has to send", false, text(func(c *Config) *string { return &c.RPCAuth })},
+	{"log-level", "log_level", "trace, debug, info, warn or err; default info", false, level},
+	{"syslog", "enable_syslog", "send the log to the machine's syslog too", true, boolean(func(c *Config) *bool { return &c.Syslog })},
 	{"", "syslog_facility", "", false, unlessEmpty(text(func(c *Config) *string { return &c.SyslogFacility }))},
-	{"profile", "profile", "lan, wan or local", false, text(func(c *Config) *string { return &c.Profile })},
-	{"protocol", "protocol", "version of Serf's protocol, 2 to 5", false, number(func(c *Config) *int { return &c.Protocol })},
-	{"broadcast-timeout", "broadcast_timeout", "how long a leave waits until it is sent, 5s", false, length(func(c *Config) *time.Duration { return &c.BroadcastTimeout })},
-	{"disable-compression", "", "don't pack gossip", true, noCompression},
-	{"prometheus-addr", "prometheus_addr", "address of a page for Prometheus, none; its port is 7374", false, text(func(c *Config) *string { return &c.PrometheusAddr })},
+	{"profile", "profile", "timing of gossip: lan, wan or local; default lan", false, text(func(c *Config) *string { return &c.Profile })},
+	{"protocol", "protocol", "version of Serf's protocol, 2 to 5; default 5", false, number(func(c *Config) *int { return &c.Protocol })},
+	{"broadcast-timeout", "broadcast_timeout", "how long a leave may wait until it is sent, default 5s", false,
+		duration(func(c *Config) *time.Duration { return &c.BroadcastTimeout })},
+	{"disable-compression", "", "don't compress gossip", true, disableCompression},
+	{"prometheus-addr", "prometheus_addr", "address of a metrics page for Prometheus, default port 7374; off by default", false,
+		text(func(c *Config) *string { return &c.PrometheusAddr })},
 	{"", "statsite_addr", "", false, text(func(c *Config) *string { return &c.StatsiteAddr })},
 	{"", "statsd_addr", "", false, text(func(c *Config) *string { return &c.StatsdAddr })},
-	{"version", "", "print the version", true, truth(func(c *Config) *bool { return &c.ShowVersion })},
-	{"", "enable_compression", "", false, truth(func(c *Config) *bool { return &c.Compression })},
-	{"", "disable_coordinates", "", false, truth(func(c *Config) *bool { return &c.DisableCoordinates })},
-	{"", "disable_name_resolution", "", false, truth(func(c *Config) *bool { return &c.DisableNameResolution })},
-	{"discover", "discover", "taken where it is empty", false, nothing(noMulticast)},
-	{"", "leave_on_terminate", "", false, truth(func(c *Config) *bool { return &c.LeaveOnTerminate })},
-	{"", "skip_leave_on_interrupt", "", false, truth(func(c *Config) *bool { return &c.SkipLeaveOnInterrupt })},
-	{"", "reconnect_interval", "", false, length(func(c *Config) *time.Duration { return &c.ReconnectInterval })},
-	{"", "reconnect_timeout", "", false, length(func(c *Config) *time.Duration { return &c.ReconnectTimeout })},
-	{"", "tombstone_timeout", "", false, length(func(c *Config) *time.Duration { return &c.TombstoneTimeout })},
+	{"version", "", "print the version", true, boolean(func(c *Config) *bool { return &c.ShowVersion })},
+	{"", "enable_compression", "", false, boolean(func(c *Config) *bool { return &c.Compression })},
+	{"", "disable_coordinates", "", false, boolean(func(c *Config) *bool { return &c.DisableCoordinates })},
+	{"", "disable_name_resolution", "", false, boolean(func(c *Config) *bool { return &c.DisableNameResolution })},
+	{"discover", "discover", "accepted only if it is empty", false, onlyEmpty(noMulticast)},
+	{"", "leave_on_terminate", "", false, boolean(func(c *Config) *bool { return &c.LeaveOnTerminate })},
+	{"", "skip_leave_on_interrupt", "", false, boolean(func(c *Config) *bool { return &c.SkipLeaveOnInterrupt })},
+	{"", "reconnect_interval", "", false, duration(func(c *Config) *time.Duration { return &c.ReconnectInterval })},
+	{"", "reconnect_timeout", "", false, duration(func(c *Config) *time.Duration { return &c.ReconnectTimeout })},
+	{"", "tombstone_timeout", "", false, duration(func(c *Config) *time.Duration { return &c.TombstoneTimeout })},
 	{"", "user_event_size_limit", "", false, number(func(c *Config) *int { return &c.UserEventSizeLimit })},
 	{"", "query_size_limit", "", false, number(func(c *Config) *int { return &c.QuerySizeLimit })},
 	{"", "query_response_size_limit", "", false, number(func(c *Config) *int { return &c.QueryResponseSizeLimit })},
 }
 
-const noMulticast = "peers aren't looked for by multicast; name some by -join or -retry-join"
+const noMulticast = "agents aren't discovered by multicast; name some with -join or -retry-join"
 
-// refused are keys that aren't taken, whatever they say, with the reason.
+// refused are keys of Serf that are never accepted, with the reason.
 var refused = map[string]string{
 	"mdns":         noMulticast,
-	"keyring_pass": "keys are kept in plain",
+	"keyring_pass": "keys are stored unencrypted",
 }

@@ -8,18 +8,18 @@ import (
 	"kitchenrue.example/serf"
 )
 
-// Filter says which events are wanted: of a kind, and of a name where it has one. The kind "*" is all.
+// Filter matches the events of a kind, and, if Name isn't empty, with this name. The kind "*" matches all.
 type Filter struct {
 	Kind string
 	Name string
 }
 
-// Takes says whether the event is wanted.
-func (f Filter) Takes(e serf.Event) bool {
+// Matches reports whether the filter matches an event.
+func (f Filter) Matches(e serf.Event) bool {
 	return f.Kind == "*" || f.Kind == e.EventType().String() && (f.Name == "" || f.Name == nameOf(e))
 }
 
-// nameOf is the name of a user event or a query.
+// nameOf returns the name of a user event or a query.
 func nameOf(e serf.Event) string {
 	switch e := e.(type) {
 	case serf.UserEvent:
@@ -30,45 +30,45 @@ func nameOf(e serf.Event) string {
 	return ""
 }
 
-// Filters are wanted events.
+// Filters match the events that any of them matches.
 type Filters []Filter
 
-// Takes says whether one of them takes the event.
-func (all Filters) Takes(e serf.Event) bool {
-	for _, one := range all {
-		if one.Takes(e) {
+// Matches reports whether a filter matches the event.
+func (filters Filters) Matches(e serf.Event) bool {
+	for _, filter := range filters {
+		if filter.Matches(e) {
 			return true
 		}
 	}
 	return false
 }
 
-// ParseFilters reads filters between commas: *, a kind, user:NAME or query:NAME. An empty text is all.
+// ParseFilters reads filters separated by commas: *, a kind, user:NAME or query:NAME. An empty text is *.
 func ParseFilters(text string) (Filters, error) {
 	if text == "" {
 		return Filters{{Kind: "*"}}, nil
 	}
-	var all Filters
+	var filters Filters
 	for _, word := range strings.Split(text, ",") {
-		kind, name, has := strings.Cut(word, ":")
+		kind, name, hasName := strings.Cut(word, ":")
 		switch kind {
 		case "user", "query":
-			if has && name == "" {
-				return nil, fmt.Errorf("the filter %q has no name behind the colon", word)
+			if hasName && name == "" {
+				return nil, fmt.Errorf("the filter %q has no name after the colon", word)
 			}
 		case "*", "member-join", "member-leave", "member-failed", "member-update", "member-reap":
-			if has {
-				return nil, fmt.Errorf("the filter %q takes no name", word)
+			if hasName {
+				return nil, fmt.Errorf("the filter %q doesn't accept a name", word)
 			}
 		default:
-			return nil, fmt.Errorf("%q is no event: *, member-join, member-leave, member-failed, member-update, member-reap, user, user:NAME, query or query:NAME", word)
+			return nil, fmt.Errorf("%q is not an event: use *, member-join, member-leave, member-failed, member-update, member-reap, user, user:NAME, query or query:NAME", word)
 		}
-		all = append(all, Filter{kind, name})
+		filters = append(filters, Filter{kind, name})
 	}
-	return all, nil
+	return filters, nil
 }
 
-// Script is a handler: what is run by /bin/sh -c for the events that its filters take.
+// Script is a handler. /bin/sh -c runs Command for each event that Filters match.
 type Script struct {
 	Filters Filters
 	Command string
@@ -76,29 +76,29 @@ type Script struct {
 
 // ParseScript reads SCRIPT, or FILTERS=SCRIPT.
 func ParseScript(text string) (Script, error) {
-	filters, command, has := strings.Cut(text, "=")
-	if !has {
+	filters, command, ok := strings.Cut(text, "=")
+	if !ok {
 		filters, command = "*", text
 	}
 	if strings.TrimSpace(command) == "" {
 		return Script{}, fmt.Errorf("the handler %q has no script", text)
 	}
-	all, err := ParseFilters(filters)
+	parsed, err := ParseFilters(filters)
 	if err != nil {
 		return Script{}, fmt.Errorf("the handler %q: %w", text, err)
 	}
-	return Script{all, command}, nil
+	return Script{parsed, command}, nil
 }
 
-// ParseScripts reads several.
+// ParseScripts reads several scripts.
 func ParseScripts(texts []string) ([]Script, error) {
 	scripts := make([]Script, 0, len(texts))
 	for _, text := range texts {
-		one, err := ParseScript(text)
+		script, err := ParseScript(text)
 		if err != nil {
 			return nil, err
 		}
-		scripts = append(scripts, one)
+		scripts = append(scripts, script)
 	}
 	return scripts, nil
 }

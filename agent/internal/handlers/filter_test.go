@@ -11,7 +11,7 @@ func TestFilters(t *testing.T) {
 	join := serf.MemberEvent{Type: serf.EventMemberJoin}
 	deploy := serf.UserEvent{Name: "deploy"}
 	load := &serf.Query{Name: "load"}
-	for _, one := range []struct {
+	for _, test := range []struct {
 		text               string
 		join, deploy, load bool
 	}{
@@ -28,18 +28,18 @@ func TestFilters(t *testing.T) {
 		{"query:deploy", false, false, false},
 		{"user:a:b", false, false, false},
 	} {
-		all, err := ParseFilters(one.text)
+		filters, err := ParseFilters(test.text)
 		if err != nil {
-			t.Errorf("%q: %v", one.text, err)
+			t.Errorf("%q: %v", test.text, err)
 			continue
 		}
-		if all.Takes(join) != one.join || all.Takes(deploy) != one.deploy || all.Takes(load) != one.load {
-			t.Errorf("%q", one.text)
+		if filters.Matches(join) != test.join || filters.Matches(deploy) != test.deploy || filters.Matches(load) != test.load {
+			t.Errorf("%q", test.text)
 		}
 	}
 	for _, text := range []string{"foo", "user:", "query:", "member-join:x", "*:x", "user,", " user", "member"} {
 		if _, err := ParseFilters(text); err == nil {
-			t.Errorf("%q is taken", text)
+			t.Errorf("%q is accepted", text)
 		}
 	}
 }
@@ -61,7 +61,7 @@ func TestScripts(t *testing.T) {
 			}
 		}
 	}
-	for text, says := range map[string]string{"": "no script", "user=": "no script", "A=b run": `"A" is no event`} {
+	for text, says := range map[string]string{"": "no script", "user=": "no script", "A=b run": `"A" is not an event`} {
 		if _, err := ParseScript(text); err == nil || !strings.Contains(err.Error(), says) {
 			t.Errorf("%q: %v", text, err)
 		}

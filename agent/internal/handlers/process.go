@@ -11,19 +11,20 @@ import (
 	"time"
 )
 
-// MaxOutput is how many bytes are kept of what a script writes: the last ones.
+// MaxOutput is how many bytes of a script's output are kept: the last ones.
 const MaxOutput = 8 << 10
 
-// How long a script that is ended has until it is killed, and how long the output of what it left behind is still read.
+// killDelay is the time between a script's SIGTERM and its SIGKILL. outputDelay is how long the output of processes
+// that a script left behind is still read.
 const (
-	killAfter = 5 * time.Second
-	restAfter = time.Second
+	killDelay   = 5 * time.Second
+	outputDelay = time.Second
 )
 
-// ErrTime: the script lasted too long, and was ended with all that it began.
-var ErrTime = errors.New("it lasted too long, and was ended")
+// ErrTimeout says that a script ran too long, and was ended together with the processes it started.
+var ErrTimeout = errors.New("it ran too long and was ended")
 
-// tail keeps the last bytes of what is written to it.
+// tail keeps the last MaxOutput bytes that are written to it.
 type tail struct {
 	bytes []byte
 	total int64
@@ -42,83 +43,83 @@ func (t *tail) Write(data []byte) (int, error) {
 	return len(data), nil
 }
 
-// outcome is what came of a script.
-type outcome struct {
+// scriptResult is the result of running a script.
+type scriptResult struct {
 	output []byte
-	// wrote is how many bytes it wrote, also those that weren't kept.
-	wrote int64
-	// err is why it didn't end with 0.
+	// written is how many bytes the script wrote, including those that were not kept.
+	written int64
+	// err is set if the exit status wasn't 0.
 	err error
 }
 
-// runScript runs a command by the shell, in a group of processes of its own, until it ends or the context does.
-func runScript(ctx context.Context, command string, env []string, stdin []byte) outcome {
+// runScript runs a command by the shell in its own process group, until it ends or ctx does.
+func runScript(ctx context.Context, command string, env []string, stdin []byte) scriptResult {
 	cmd := exec.Command("/bin/sh", "-c", command)
 	cmd.Env = append(os.Environ(), env...)
 	cmd.SysProcAttr = &syscall.SysProcAttr{Setpgid: true}
 	pipes, err := openPipes(cmd)
 	if err != nil {
-		return outcome{err: err}
+		return scriptResult{err: err}
 	}
 	defer pipes.close()
-	isFed := pipes.feedFirst(stdin)
+	isWritten := pipes.writeFirst(stdin)
 	if err := cmd.Start(); err != nil {
-		return outcome{err: err}
+		return scriptResult{err: err}
 	}
 	pipes.closeChild()
-	if !isFed {
-		go pipes.feed(stdin)
+	if !isWritten {
+		go pipes.writeInput(stdin)
 	}
-	read := make(chan *tail, 1)
+	outputRead := make(chan *tail, 1)
 	go func() {
 		var kept tail
-		// (its end is the script's, or the deadline's)
+		// Reading ends with the script, or at the deadline below.
 		_, _ = io.Copy(&kept, pipes.outRead)
-		read <- &kept
+		outputRead <- &kept
 	}()
-	err = waited(ctx, cmd)
-	// what the script left running in the background may hold its output open
-	_ = pipes.outRead.SetReadDeadline(time.Now().Add(restAfter))
-	kept := <-read
-	return outcome{kept.bytes, kept.total, err}
+	err = waitFor(ctx, cmd)
+	// A process that the script left in the background may hold its output open.
+	_ = pipes.outRead.SetReadDeadline(time.Now().Add(outputDelay))
+	kept := <-outputRead
+	return scriptResult{kept.bytes, kept.total, err}
 }
 
-// waited waits for the end, and brings it about where the context ends first.
-func waited(ctx context.Context, cmd *exec.Cmd) error {
-	over := make(chan error, 1)
-	go func() { over <- cmd.Wait() }()
+// waitFor waits for the command's end. If ctx ends first, it ends the command's process group.
+func waitFor(ctx context.Context, cmd *exec.Cmd) error {
+	ended := make(chan error, 1)
+	go func() { ended <- cmd.Wait() }()
 	select {
-	case err := <-over:
+	case err := <-ended:
 		return err
 	case <-ctx.Done():
 	}
 	group := -cmd.Process.Pid
 	_ = syscall.Kill(group, syscall.SIGTERM)
-	isOver := within(over, killAfter)
-	// (what of the group has outlived it, too)
+	hasEnded := endsWithin(ended, killDelay)
+	// This kills the processes of the group that ignored SIGTERM.
 	_ = syscall.Kill(group, syscall.SIGKILL)
-	if !isOver {
-		within(over, killAfter)
+	if !hasEnded {
+		endsWithin(ended, killDelay)
 	}
 	if errors.Is(ctx.Err(), context.DeadlineExceeded) {
-		return ErrTime
+		return ErrTimeout
 	}
 	return fmt.Errorf("it was ended: %w", ctx.Err())
 }
 
-// within waits for the end for so long, and says whether it came.
-func within(over <-chan error, length time.Duration) bool {
-	late := time.NewTimer(length)
+// endsWithin waits for the end for at most timeout, and reports whether it came.
+func endsWithin(ended <-chan error, timeout time.Duration) bool {
+	late := time.NewTimer(timeout)
 	defer late.Stop()
 	select {
-	case <-over:
+	case <-ended:
 		return true
 	case <-late.C:
 		return false
 	}
 }
 
-// pipes are a script's input and output. Reads and writes of our ends keep to deadlines.
+// pipes are a script's input and output. Deadlines apply to our ends.
 type pipes struct {
 	inRead, inWrite, outRead, outWrite *os.File
 }
@@ -138,21 +139,21 @@ func openPipes(cmd *exec.Cmd) (*pipes, error) {
 	return p, nil
 }
 
-// page is how many bytes each pipe takes while nobody reads it.
-const page = 4096
+// pipeCapacity is how many bytes a pipe holds at least before anybody reads them.
+const pipeCapacity = 4096
 
-// feedFirst writes an input that has room in the pipe before the script begins, so that a script whose agent is killed then has
-// all of it. It says whether it did.
-func (p *pipes) feedFirst(stdin []byte) bool {
-	if len(stdin) > page {
+// writeFirst writes an input that fits into the pipe, before the script starts. So the script has its whole input even
+// if the agent is killed then. It reports whether the input fits.
+func (p *pipes) writeFirst(stdin []byte) bool {
+	if len(stdin) > pipeCapacity {
 		return false
 	}
-	p.feed(stdin)
+	p.writeInput(stdin)
 	return true
 }
 
-// feed writes the input. A script that doesn't read it holds nobody up: close ends it.
-func (p *pipes) feed(stdin []byte) {
+// writeInput writes the input. If the script doesn't read it, close ends the write.
+func (p *pipes) writeInput(stdin []byte) {
 	_, _ = p.inWrite.Write(stdin)
 	p.inWrite.Close()
 }

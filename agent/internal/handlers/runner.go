@@ -13,26 +13,26 @@ import (
 	"kitchenrue.example/serf"
 )
 
-// Waiting is how many events may wait for their handlers, and WaitingQueries how many queries.
+// MaxEvents is how many events wait for their handlers, and MaxQueries how many queries.
 const (
-	Waiting        = 4096
-	WaitingQueries = 256
+	MaxEvents  = 4096
+	MaxQueries = 256
 )
 
-// slow is from when on the log tells how long a handler lasted.
-const slow = time.Second
+// slowHandler is the run time above which a handler is logged.
+const slowHandler = time.Second
 
-// Runner runs scripts: those of user events and of members one after another in the order in which they came, and those of
-// queries one after another beside them.
+// Runner runs scripts. Those for user events and member events run one after another, in the order of the events. Those
+// for queries also run one after another, at the same time as the others.
 type Runner struct {
 	log     *log.Logger
 	timeout time.Duration
-	events  *lane
-	queries *lane
+	events  *queue
+	queries *queue
 	stop    context.CancelFunc
-	over    sync.WaitGroup
+	running sync.WaitGroup
 
-	// respond answers a query: a test's own in tests.
+	// respond answers a query. Tests replace it.
 	respond func(*serf.Query, []byte) error
 
 	mu      sync.Mutex
@@ -40,100 +40,101 @@ type Runner struct {
 	scripts []Script
 }
 
-// New makes a runner. A timeout of 0 never ends a script. self says what scripts are told of this node.
+// New starts a runner. If timeout is 0, scripts have no limit. self returns what scripts learn about this node.
 func New(logger *log.Logger, timeout time.Duration, scripts []Script, self func() Self) *Runner {
 	ctx, stop := context.WithCancel(context.Background())
 	r := &Runner{
 		log: logger, timeout: timeout, scripts: scripts, self: self, stop: stop,
-		events: newLane(Waiting), queries: newLane(WaitingQueries), respond: (*serf.Query).Respond,
+		events: newQueue(MaxEvents), queries: newQueue(MaxQueries), respond: (*serf.Query).Respond,
 	}
-	for _, one := range []*lane{r.events, r.queries} {
-		r.over.Add(1)
-		go func(one *lane) {
-			defer r.over.Done()
-			for e := one.next(); e != nil; e = one.next() {
+	for _, q := range []*queue{r.events, r.queries} {
+		r.running.Add(1)
+		go func(q *queue) {
+			defer r.running.Done()
+			for e := q.next(); e != nil; e = q.next() {
 				r.handle(ctx, e)
 			}
-		}(one)
+		}(q)
 	}
 	return r
 }
 
-// SetScripts changes what is run, from the next event on.
+// SetScripts changes the scripts from the next event on.
 func (r *Runner) SetScripts(scripts []Script) {
 	r.mu.Lock()
 	defer r.mu.Unlock()
 	r.scripts = scripts
 }
 
-// Scripts are what is run.
+// Scripts returns the scripts.
 func (r *Runner) Scripts() []Script {
 	r.mu.Lock()
 	defer r.mu.Unlock()
 	return r.scripts
 }
 
-// HasRoom says whether another event may be taken from the network.
+// HasRoom reports whether the runner accepts another event without exceeding MaxEvents.
 func (r *Runner) HasRoom() bool { return r.events.hasRoom() }
 
-// Room has something where there may be room again.
-func (r *Runner) Room() <-chan struct{} { return r.events.room }
+// Room receives a value when there may be room again.
+func (r *Runner) Room() <-chan struct{} { return r.events.freed }
 
-// Waiting is how many events, and how many queries, wait for their handlers.
+// Waiting returns how many events and how many queries wait for their handlers.
 func (r *Runner) Waiting() (events, queries int) { return r.events.size(), r.queries.size() }
 
-// Add queues an event for the scripts that take it, and never drops one: who adds looks first whether there is room. A query without
-// room is dropped.
+// Add queues an event if a script matches it. It never drops an event: the caller checks HasRoom first. If MaxQueries
+// queries wait, it drops a query.
 func (r *Runner) Add(e serf.Event) {
-	if !r.takes(e) {
+	if !r.hasScriptFor(e) {
 		return
 	}
 	if e.EventType() != serf.EventQuery {
 		r.events.add(e)
 	} else if !r.queries.hasRoom() || !r.queries.add(e) {
-		r.log.Printf("[WARN] agent: %s was dropped, since %d queries wait for their handlers", e, WaitingQueries)
+		r.log.Printf("[WARN] agent: %s was dropped: %d queries are waiting for their handlers", e, MaxQueries)
 	}
 }
 
-// takes says whether some script takes an event.
-func (r *Runner) takes(e serf.Event) bool {
+// hasScriptFor reports whether a script matches the event.
+func (r *Runner) hasScriptFor(e serf.Event) bool {
 	for _, script := range r.Scripts() {
-		if script.Filters.Takes(e) {
+		if script.Filters.Matches(e) {
 			return true
 		}
 	}
 	return false
 }
 
-// Close lets the scripts that wait run for so long. Then it ends the one that runs, and the others never run.
+// Close lets waiting scripts run for the time of grace. After that it ends the script that runs, and drops the events
+// that still wait.
 func (r *Runner) Close(grace time.Duration) {
-	r.events.end()
-	r.queries.end()
-	over := make(chan struct{})
+	r.events.close()
+	r.queries.close()
+	done := make(chan struct{})
 	go func() {
-		r.over.Wait()
-		close(over)
+		r.running.Wait()
+		close(done)
 	}()
 	late := time.NewTimer(grace)
 	defer late.Stop()
 	select {
-	case <-over:
+	case <-done:
 		r.stop()
 		return
 	case <-late.C:
 	}
-	if left := r.events.drop() + r.queries.drop(); left > 0 {
-		r.log.Printf("[WARN] agent: %d events never reach their handlers, since the agent ends", left)
+	if dropped := r.events.drop() + r.queries.drop(); dropped > 0 {
+		r.log.Printf("[WARN] agent: %d events will not reach their handlers, since the agent is shutting down", dropped)
 	}
 	r.stop()
-	<-over
+	<-done
 }
 
 func (r *Runner) handle(ctx context.Context, e serf.Event) {
 	for _, script := range r.Scripts() {
-		if script.Filters.Takes(e) {
+		if script.Filters.Matches(e) {
 			if ctx.Err() != nil {
-				r.log.Printf("[WARN] agent: the handler of %s was not run, since the agent ends", e)
+				r.log.Printf("[WARN] agent: the handler of %s was not run, since the agent is shutting down", e)
 				return
 			}
 			r.run(ctx, script, e)
@@ -149,108 +150,108 @@ func (r *Runner) run(ctx context.Context, script Script, e serf.Event) {
 	}
 	began := time.Now()
 	defer metrics.MeasureSince([]string{"agent", "invoke", script.Command}, began)
-	done := runScript(ctx, script.Command, environment(r.self(), e), input(e))
-	if length := time.Since(began); length > slow {
-		r.log.Printf("[WARN] agent: the handler %q of %s lasted %v", script.Command, e, length.Round(time.Millisecond))
+	result := runScript(ctx, script.Command, environment(r.self(), e), input(e))
+	if duration := time.Since(began); duration > slowHandler {
+		r.log.Printf("[WARN] agent: the handler %q of %s took %v", script.Command, e, duration.Round(time.Millisecond))
 	}
-	if done.wrote > MaxOutput {
-		r.log.Printf("[WARN] agent: the handler %q of %s wrote %d bytes, of which the last %d are kept", script.Command, e, done.wrote, MaxOutput)
+	if result.written > MaxOutput {
+		r.log.Printf("[WARN] agent: the handler %q of %s wrote %d bytes, of which the last %d are kept", script.Command, e, result.written, MaxOutput)
 	}
-	r.log.Printf("[DEBUG] agent: Event '%s' script output: %s", e.EventType(), done.output)
-	if done.err != nil {
-		r.log.Printf("[ERR] agent: the handler %q of %s failed: %v", script.Command, e, reason(done.err))
+	r.log.Printf("[DEBUG] agent: Event '%s' script output: %s", e.EventType(), result.output)
+	if result.err != nil {
+		r.log.Printf("[ERR] agent: the handler %q of %s failed: %v", script.Command, e, exitReason(result.err))
 		return
 	}
-	if query, is := e.(*serf.Query); is && done.wrote > 0 {
-		if err := r.answer(query, done); err != nil {
+	if query, ok := e.(*serf.Query); ok && result.written > 0 {
+		if err := r.answer(query, result); err != nil {
 			r.log.Printf("[WARN] agent: Failed to respond to %s: %v", e, err)
 		}
 	}
 }
 
-func (r *Runner) answer(query *serf.Query, done outcome) error {
-	if done.wrote > MaxOutput {
-		return fmt.Errorf("an answer of %d bytes is too long", done.wrote)
+func (r *Runner) answer(query *serf.Query, result scriptResult) error {
+	if result.written > MaxOutput {
+		return fmt.Errorf("the output of %d bytes is too long for a response", result.written)
 	}
-	return r.respond(query, done.output)
+	return r.respond(query, result.output)
 }
 
-func reason(err error) error {
-	if exit, is := err.(*exec.ExitError); is {
+func exitReason(err error) error {
+	if exit, ok := err.(*exec.ExitError); ok {
 		return fmt.Errorf("it ended with %s", exit.ProcessState)
 	}
 	return err
 }
 
-// lane is a queue of events. Nobody holds its lock for long.
-type lane struct {
-	mu      sync.Mutex
-	changed *sync.Cond
-	waiting []serf.Event
-	bound   int
-	isOver  bool
-	// room has something where one was taken out.
-	room chan struct{}
+// queue is a queue of events.
+type queue struct {
+	mu       sync.Mutex
+	changed  *sync.Cond
+	events   []serf.Event
+	max      int
+	isClosed bool
+	// freed receives a value when an event was removed.
+	freed chan struct{}
 }
 
-func newLane(bound int) *lane {
-	l := &lane{bound: bound, room: make(chan struct{}, 1)}
-	l.changed = sync.NewCond(&l.mu)
-	return l
+func newQueue(max int) *queue {
+	q := &queue{max: max, freed: make(chan struct{}, 1)}
+	q.changed = sync.NewCond(&q.mu)
+	return q
 }
 
-func (l *lane) hasRoom() bool { return l.size() < l.bound }
+func (q *queue) hasRoom() bool { return q.size() < q.max }
 
-func (l *lane) size() int {
-	l.mu.Lock()
-	defer l.mu.Unlock()
-	return len(l.waiting)
+func (q *queue) size() int {
+	q.mu.Lock()
+	defer q.mu.Unlock()
+	return len(q.events)
 }
 
-// add queues an event; false after the end.
-func (l *lane) add(e serf.Event) bool {
-	l.mu.Lock()
-	defer l.mu.Unlock()
-	if l.isOver {
+// add queues an event. It returns false if the queue is closed.
+func (q *queue) add(e serf.Event) bool {
+	q.mu.Lock()
+	defer q.mu.Unlock()
+	if q.isClosed {
 		return false
 	}
-	l.waiting = append(l.waiting, e)
-	l.changed.Signal()
+	q.events = append(q.events, e)
+	q.changed.Signal()
 	return true
 }
 
-// next waits for an event; nil where none waits at the end.
-func (l *lane) next() serf.Event {
-	l.mu.Lock()
-	defer l.mu.Unlock()
-	for len(l.waiting) == 0 && !l.isOver {
-		l.changed.Wait()
+// next waits for an event. It returns nil if the queue is closed and empty.
+func (q *queue) next() serf.Event {
+	q.mu.Lock()
+	defer q.mu.Unlock()
+	for len(q.events) == 0 && !q.isClosed {
+		q.changed.Wait()
 	}
-	if len(l.waiting) == 0 {
+	if len(q.events) == 0 {
 		return nil
 	}
-	first := l.waiting[0]
-	l.waiting[0] = nil
-	l.waiting = l.waiting[1:]
+	first := q.events[0]
+	q.events[0] = nil
+	q.events = q.events[1:]
 	select {
-	case l.room <- struct{}{}:
+	case q.freed <- struct{}{}:
 	default:
 	}
 	return first
 }
 
-func (l *lane) end() {
-	l.mu.Lock()
-	defer l.mu.Unlock()
-	l.isOver = true
-	l.changed.Broadcast()
+func (q *queue) close() {
+	q.mu.Lock()
+	defer q.mu.Unlock()
+	q.isClosed = true
+	q.changed.Broadcast()
 }
 
-// drop forgets what waits: how many.
-func (l *lane) drop() int {
-	l.mu.Lock()
-	defer l.mu.Unlock()
-	count := len(l.waiting)
-	l.waiting = nil
+// drop removes all events, and returns how many there were.
+func (q *queue) drop() int {
+	q.mu.Lock()
+	defer q.mu.Unlock()
+	count := len(q.events)
+	q.events = nil
 	return count
 }

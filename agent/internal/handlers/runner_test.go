@@ -16,19 +16,19 @@ import (
 	"kitchenrue.example/serf"
 )
 
-func newRunner(t *testing.T, timeout time.Duration, scripts ...string) (*Runner, *testkit.Said) {
+func newRunner(t *testing.T, timeout time.Duration, scripts ...string) (*Runner, *testkit.Output) {
 	t.Helper()
-	all, err := ParseScripts(scripts)
+	parsed, err := ParseScripts(scripts)
 	testkit.Must(t, err)
-	said := &testkit.Said{}
-	return New(log.New(said, "", 0), timeout, all, func() Self { return self }), said
+	output := &testkit.Output{}
+	return New(log.New(output, "", 0), timeout, parsed, func() Self { return self }), output
 }
 
 func user(name, payload string) serf.Event {
 	return serf.UserEvent{Name: name, Payload: []byte(payload)}
 }
 
-func TestInOrder(t *testing.T) {
+func TestHandlersRunInOrder(t *testing.T) {
 	t.Parallel()
 	file := filepath.Join(t.TempDir(), "file")
 	r, _ := newRunner(t, 0, "user:deploy=(cat; sleep 0.0$((RANDOM % 5)) 2>/dev/null) >> "+file, "query=echo never >> "+file)
@@ -46,7 +46,7 @@ func TestInOrder(t *testing.T) {
 
 func TestAnswers(t *testing.T) {
 	t.Parallel()
-	for _, one := range []struct{ script, want, says string }{
+	for _, test := range []struct{ script, want, says string }{
 		{"cat; echo err >&2", "pay\nerr\n", ""},
 		{"true", "", ""},
 		{"echo no; exit 3", "", "exit status 3"},
@@ -55,7 +55,7 @@ func TestAnswers(t *testing.T) {
 		{"env | grep SERF_QUERY", "SERF_QUERY_NAME=load\nSERF_QUERY_LTIME=5\n", ""},
 	} {
 		var answered string
-		r, said := newRunner(t, 0, "query:load="+one.script)
+		r, output := newRunner(t, 0, "query:load="+test.script)
 		r.respond = func(_ *serf.Query, payload []byte) error {
 			answered += string(payload)
 			return nil
@@ -63,8 +63,8 @@ func TestAnswers(t *testing.T) {
 		r.Add(&serf.Query{Name: "load", LTime: 5, Payload: []byte("pay")})
 		r.Close(time.Minute)
 		lines := func(text string) int { return strings.Count(text, "\n") }
-		if lines(answered) != lines(one.want) || len(answered) != len(one.want) || !strings.Contains(said.String(), one.says) {
-			t.Errorf("%s: %q %s", one.script, answered, said)
+		if lines(answered) != lines(test.want) || len(answered) != len(test.want) || !strings.Contains(output.String(), test.says) {
+			t.Errorf("%s: %q %s", test.script, answered, output)
 		}
 	}
 }
@@ -76,26 +76,26 @@ func TestScriptsThatDoNotEnd(t *testing.T) {
 		t.Run(script, func(t *testing.T) {
 			t.Parallel()
 			began := time.Now()
-			r, said := newRunner(t, 300*time.Millisecond, script, "echo second")
+			r, output := newRunner(t, 300*time.Millisecond, script, "echo second")
 			r.Add(user("deploy", strings.Repeat("x", 1<<20)))
 			r.Close(time.Minute)
-			if length := time.Since(began); length > 20*time.Second {
-				t.Errorf("it lasted %v", length)
+			if duration := time.Since(began); duration > 20*time.Second {
+				t.Errorf("Close took %v", duration)
 			}
-			if !strings.Contains(said.String(), "lasted too long") || !strings.Contains(said.String(), "output: second") {
-				t.Error(said)
+			if !strings.Contains(output.String(), "ran too long") || !strings.Contains(output.String(), "output: second") {
+				t.Error(output)
 			}
 		})
 	}
 }
 
-// A script whose agent is killed as it begins has all of its input.
-func TestTheInputIsThereFirst(t *testing.T) {
-	for length, isFirst := range map[int]bool{0: true, 2: true, page: true, page + 1: false} {
+// A short input is in the pipe before the script starts, so a script whose agent is killed then has all of it.
+func TestShortInputIsWrittenFirst(t *testing.T) {
+	for length, isFirst := range map[int]bool{0: true, 2: true, pipeCapacity: true, pipeCapacity + 1: false} {
 		p, err := openPipes(exec.Command("true"))
 		testkit.Must(t, err)
 		defer p.close()
-		if p.feedFirst(make([]byte, length)) != isFirst {
+		if p.writeFirst(make([]byte, length)) != isFirst {
 			t.Error(length)
 		}
 		if isFirst {
@@ -106,8 +106,8 @@ func TestTheInputIsThereFirst(t *testing.T) {
 	}
 }
 
-// What a script that is ended has begun ends with it.
-func TestTheWholeGroupEnds(t *testing.T) {
+// Processes that a script started are ended together with it.
+func TestWholeGroupIsEnded(t *testing.T) {
 	t.Parallel()
 	file := filepath.Join(t.TempDir(), "file")
 	r, _ := newRunner(t, 2*time.Second, "sleep 100 & echo $! $$ > "+file+"; trap '' TERM; sleep 100; sleep 100")
@@ -123,31 +123,31 @@ func TestTheWholeGroupEnds(t *testing.T) {
 		gone := false
 		for i := 0; i < 300 && !gone; i++ {
 			state, err := os.ReadFile(fmt.Sprintf("/proc/%d/stat", process))
-			// (one that nobody waits for is gone, too)
+			// A zombie counts as ended.
 			gone = err != nil || strings.Contains(string(state), ") Z ")
 			time.Sleep(10 * time.Millisecond)
 		}
 		if !gone {
-			t.Errorf("%d lives: %q", process, text)
+			t.Errorf("process %d is still running: %q", process, text)
 		}
 	}
 }
 
-func TestLeftInTheBackground(t *testing.T) {
+func TestBackgroundProcesses(t *testing.T) {
 	t.Parallel()
 	began := time.Now()
-	r, said := newRunner(t, 0, "sleep 60 & echo done")
+	r, output := newRunner(t, 0, "sleep 60 & echo done")
 	r.Add(user("deploy", ""))
 	r.Close(time.Minute)
-	if length := time.Since(began); length > 20*time.Second || !strings.Contains(said.String(), "output: done") {
-		t.Errorf("%v %s", length, said)
+	if duration := time.Since(began); duration > 20*time.Second || !strings.Contains(output.String(), "output: done") {
+		t.Errorf("%v %s", duration, output)
 	}
 }
 
-func TestTheEndDoesNotWait(t *testing.T) {
+func TestCloseDoesNotWait(t *testing.T) {
 	t.Parallel()
 	file := filepath.Join(t.TempDir(), "file")
-	r, said := newRunner(t, 0, "echo > "+file+"; sleep 100")
+	r, output := newRunner(t, 0, "echo > "+file+"; sleep 100")
 	for i := 0; i < 3; i++ {
 		r.Add(user("deploy", ""))
 	}
@@ -159,42 +159,42 @@ func TestTheEndDoesNotWait(t *testing.T) {
 	}
 	began := time.Now()
 	r.Close(200 * time.Millisecond)
-	if length := time.Since(began); length > 20*time.Second {
-		t.Errorf("it lasted %v", length)
+	if duration := time.Since(began); duration > 20*time.Second {
+		t.Errorf("Close took %v", duration)
 	}
-	if !strings.Contains(said.String(), "2 events never reach their handlers") || !strings.Contains(said.String(), "it was ended") {
-		t.Error(said)
+	if !strings.Contains(output.String(), "2 events will not reach their handlers") || !strings.Contains(output.String(), "it was ended") {
+		t.Error(output)
 	}
 	r.Add(user("late", ""))
 }
 
 func TestBounds(t *testing.T) {
 	t.Parallel()
-	r, said := newRunner(t, 0, "sleep 100")
-	for i := 0; i < Waiting+1; i++ {
+	r, output := newRunner(t, 0, "sleep 100")
+	for i := 0; i < MaxEvents+1; i++ {
 		r.Add(user("deploy", ""))
 	}
-	for i := 0; i < 2*WaitingQueries; i++ {
+	for i := 0; i < 2*MaxQueries; i++ {
 		r.Add(&serf.Query{Name: "load"})
 	}
-	if len(r.queries.waiting) > WaitingQueries || !strings.Contains(said.String(), "query: load was dropped") {
-		t.Errorf("%d wait", len(r.queries.waiting))
+	if len(r.queries.events) > MaxQueries || !strings.Contains(output.String(), "query: load was dropped") {
+		t.Errorf("%d wait", len(r.queries.events))
 	}
-	if r.HasRoom() && len(r.events.waiting) != Waiting {
+	if r.HasRoom() && len(r.events.events) != MaxEvents {
 		t.Error("there is room")
 	}
 	r.Close(0)
 }
 
-func TestOtherScripts(t *testing.T) {
+func TestSetScripts(t *testing.T) {
 	t.Parallel()
-	r, said := newRunner(t, 0, "echo one")
-	all, err := ParseScripts([]string{"echo two"})
+	r, output := newRunner(t, 0, "echo one")
+	scripts, err := ParseScripts([]string{"echo two"})
 	testkit.Must(t, err)
-	r.SetScripts(all)
+	r.SetScripts(scripts)
 	r.Add(user("deploy", ""))
 	r.Close(time.Minute)
-	if text := said.String(); strings.Contains(text, "one") || !strings.Contains(text, "two") {
+	if text := output.String(); strings.Contains(text, "one") || !strings.Contains(text, "two") {
 		t.Error(text)
 	}
 }

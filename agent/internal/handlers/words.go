@@ -8,36 +8,36 @@ import (
 	"kitchenrue.example/serf"
 )
 
-// Self is what a script is told of its own node.
+// Self is what a script learns about its own node.
 type Self struct {
 	Name string
 	Tags map[string]string
 }
 
-// environment is what a script is told of an event.
+// environment returns the environment variables for an event, as Serf sets them.
 func environment(self Self, e serf.Event) []string {
-	words := []string{
+	variables := []string{
 		"SERF_EVENT=" + e.EventType().String(),
 		"SERF_SELF_NAME=" + self.Name,
 		"SERF_SELF_ROLE=" + self.Tags["role"],
 	}
-	for _, key := range sorted(self.Tags) {
-		words = append(words, "SERF_TAG_"+variable(key)+"="+self.Tags[key])
+	for _, key := range sortedKeys(self.Tags) {
+		variables = append(variables, "SERF_TAG_"+variableName(key)+"="+self.Tags[key])
 	}
 	switch e := e.(type) {
 	case serf.UserEvent:
-		words = append(words, "SERF_USER_EVENT="+e.Name, fmt.Sprintf("SERF_USER_LTIME=%d", e.LTime))
+		variables = append(variables, "SERF_USER_EVENT="+e.Name, fmt.Sprintf("SERF_USER_LTIME=%d", e.LTime))
 	case *serf.Query:
-		words = append(words, "SERF_QUERY_NAME="+e.Name, fmt.Sprintf("SERF_QUERY_LTIME=%d", e.LTime))
+		variables = append(variables, "SERF_QUERY_NAME="+e.Name, fmt.Sprintf("SERF_QUERY_LTIME=%d", e.LTime))
 	}
-	for i, word := range words {
-		// (the system takes no word with a zero byte in it)
-		words[i] = strings.ReplaceAll(word, "\x00", "")
+	for i, variable := range variables {
+		// An environment variable can't contain a zero byte.
+		variables[i] = strings.ReplaceAll(variable, "\x00", "")
 	}
-	return words
+	return variables
 }
 
-func sorted(tags map[string]string) []string {
+func sortedKeys(tags map[string]string) []string {
 	keys := make([]string, 0, len(tags))
 	for key := range tags {
 		keys = append(keys, key)
@@ -46,8 +46,8 @@ func sorted(tags map[string]string) []string {
 	return keys
 }
 
-// variable is a tag's name as a shell's variable may have it.
-func variable(key string) string {
+// variableName returns a tag's name in a form that a shell accepts in a variable.
+func variableName(key string) string {
 	return strings.Map(func(r rune) rune {
 		if r >= 'A' && r <= 'Z' || r >= '0' && r <= '9' {
 			return r
@@ -56,35 +56,35 @@ func variable(key string) string {
 	}, strings.ToUpper(key))
 }
 
-var cleaned = strings.NewReplacer("\t", `\t`, "\n", `\n`)
+var fieldEscaper = strings.NewReplacer("\t", `\t`, "\n", `\n`)
 
-// ended is a payload with a newline behind it where it has none.
-func ended(payload []byte) []byte {
+// withNewline adds a newline to a payload that isn't empty and doesn't end with one.
+func withNewline(payload []byte) []byte {
 	if len(payload) > 0 && payload[len(payload)-1] != '\n' {
 		return append(append([]byte(nil), payload...), '\n')
 	}
 	return payload
 }
 
-// input is what a script reads: a line for each member, or the payload, with a newline behind it where it has none.
+// input returns a script's standard input: a line for each member, or the payload, with a newline at its end.
 func input(e serf.Event) []byte {
 	switch e := e.(type) {
 	case serf.UserEvent:
-		return ended(e.Payload)
+		return withNewline(e.Payload)
 	case *serf.Query:
-		return ended(e.Payload)
+		return withNewline(e.Payload)
 	}
 	var lines strings.Builder
 	for _, member := range e.(serf.MemberEvent).Members {
 		pairs := make([]string, 0, len(member.Tags))
-		for _, key := range sorted(member.Tags) {
+		for _, key := range sortedKeys(member.Tags) {
 			pairs = append(pairs, key+"="+member.Tags[key])
 		}
-		words := []string{member.Name, member.Addr.String(), member.Tags["role"], strings.Join(pairs, ",")}
-		for i, word := range words {
-			words[i] = cleaned.Replace(word)
+		fields := []string{member.Name, member.Addr.String(), member.Tags["role"], strings.Join(pairs, ",")}
+		for i, field := range fields {
+			fields[i] = fieldEscaper.Replace(field)
 		}
-		lines.WriteString(strings.Join(words, "\t") + "\n")
+		lines.WriteString(strings.Join(fields, "\t") + "\n")
 	}
 	return []byte(lines.String())
 }

@@ -12,7 +12,7 @@ var self = Self{"alpha", map[string]string{"role": "web", "a-b.c": "x\ty", "z": 
 
 func TestEnvironment(t *testing.T) {
 	common := []string{"SERF_SELF_NAME=alpha", "SERF_SELF_ROLE=web", "SERF_TAG_A_B_C=x\ty", "SERF_TAG_ROLE=web", "SERF_TAG_Z=1,2=3"}
-	for _, one := range []struct {
+	for _, test := range []struct {
 		e    serf.Event
 		want []string
 	}{
@@ -20,8 +20,8 @@ func TestEnvironment(t *testing.T) {
 		{serf.UserEvent{Name: "na me", LTime: 1 << 63}, []string{"SERF_USER_EVENT=na me", "SERF_USER_LTIME=9223372036854775808"}},
 		{&serf.Query{Name: "load", LTime: 7}, []string{"SERF_QUERY_NAME=load", "SERF_QUERY_LTIME=7"}},
 	} {
-		want := append(append([]string{"SERF_EVENT=" + one.e.EventType().String()}, common...), one.want...)
-		if found := environment(self, one.e); !reflect.DeepEqual(found, want) {
+		want := append(append([]string{"SERF_EVENT=" + test.e.EventType().String()}, common...), test.want...)
+		if found := environment(self, test.e); !reflect.DeepEqual(found, want) {
 			t.Errorf("%q", found)
 		}
 	}
@@ -32,7 +32,7 @@ func TestInput(t *testing.T) {
 		{Name: "alpha", Addr: net.IPv4(127, 0, 1, 1), Tags: map[string]string{"role": "web", "x": "a\tb\nc"}},
 		{Name: "beta", Addr: net.ParseIP("::1")},
 	}
-	for _, one := range []struct {
+	for _, test := range []struct {
 		e    serf.Event
 		want string
 	}{
@@ -42,7 +42,7 @@ func TestInput(t *testing.T) {
 		{&serf.Query{Payload: []byte("a\nb")}, "a\nb\n"},
 		{serf.MemberEvent{Type: serf.EventMemberJoin, Members: members}, "alpha\t127.0.1.1\tweb\trole=web,x=a\\tb\\nc\nbeta\t::1\t\t\n"},
 	} {
-		if found := string(input(one.e)); found != one.want {
+		if found := string(input(test.e)); found != test.want {
 			t.Errorf("%q", found)
 		}
 	}

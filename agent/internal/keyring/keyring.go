@@ -1,4 +1,4 @@
-// Package keyring reads the keys of gossip from their file.
+// Package keyring reads the encryption keys of gossip from their file.
 package keyring
 
 import (
@@ -13,19 +13,19 @@ import (
 	"kitchenrue.example/serfagent"
 )
 
-// maxFile is how many bytes a file of keys may have, and maxKeys how many keys.
+// maxFile is the maximum size in bytes of a file of keys, and maxKeys the maximum number of keys in it.
 const (
 	maxFile = 1 << 20
 	maxKeys = 1024
 )
 
-// Open reads the keys of a file, where there is one, the one that encrypts in front, or begins with a key; nil where there is neither. A
-// key without a file that is named is written to it.
+// Open reads the keys of the file at path. The first one encrypts. If the file doesn't exist, key is the only key, and is
+// written to the file. If path is empty, key is the only key, or, if it is nil, there is no keyring.
 func Open(path string, key []byte) (*memberlist.Keyring, error) {
 	if path != "" {
-		all, err := read(path)
+		keys, err := read(path)
 		if err == nil {
-			return memberlist.NewKeyring(all, all[0])
+			return memberlist.NewKeyring(keys, keys[0])
 		}
 		if !errors.Is(err, os.ErrNotExist) || key == nil {
 			return nil, fmt.Errorf("-keyring-file: %w", err)
@@ -52,21 +52,21 @@ func read(path string) ([][]byte, error) {
 	}
 	var texts []string
 	if err := json.Unmarshal(data, &texts); err != nil {
-		return nil, fmt.Errorf("%s is no list of keys: %w", path, err)
+		return nil, fmt.Errorf("%s is not a list of keys: %w", path, err)
 	}
 	if len(texts) == 0 || len(texts) > maxKeys {
-		return nil, fmt.Errorf("%s has %d keys", path, len(texts))
+		return nil, fmt.Errorf("%s has %d keys, and must have 1 to %d", path, len(texts), maxKeys)
 	}
-	all := make([][]byte, 0, len(texts))
+	keys := make([][]byte, 0, len(texts))
 	for _, text := range texts {
 		key, err := base64.StdEncoding.DecodeString(text)
 		if err == nil {
 			err = memberlist.ValidateKey(key)
 		}
 		if err != nil {
-			return nil, fmt.Errorf("%s has a key that is none: %w", path, err)
+			return nil, fmt.Errorf("%s has an invalid key: %w", path, err)
 		}
-		all = append(all, key)
+		keys = append(keys, key)
 	}
-	return all, nil
+	return keys, nil
 }

@@ -14,21 +14,21 @@ import (
 
 func key(fill byte) []byte { return bytes.Repeat([]byte{fill}, 16) }
 
-func text(fill byte) string { return base64.StdEncoding.EncodeToString(key(fill)) }
+func encodedKey(fill byte) string { return base64.StdEncoding.EncodeToString(key(fill)) }
 
 func TestKeysOfAFile(t *testing.T) {
 	path := filepath.Join(t.TempDir(), "keys")
 	if ring, err := Open(path, key(1)); err != nil || !reflect.DeepEqual(ring.GetKeys(), [][]byte{key(1)}) {
 		t.Fatal(ring, err)
 	}
-	if data, err := os.ReadFile(path); err != nil || strings.Join(strings.Fields(string(data)), "") != `["`+text(1)+`"]` {
+	if data, err := os.ReadFile(path); err != nil || strings.Join(strings.Fields(string(data)), "") != `["`+encodedKey(1)+`"]` {
 		t.Errorf("%q %v", data, err)
 	}
-	if about, err := os.Stat(path); err != nil || about.Mode().Perm() != 0o600 {
-		t.Error(about.Mode(), err)
+	if info, err := os.Stat(path); err != nil || info.Mode().Perm() != 0o600 {
+		t.Error(info.Mode(), err)
 	}
-	testkit.Write(t, path, `["`+text(2)+`", "`+text(1)+`"]`)
-	// (the file counts, and the first of its keys encrypts)
+	testkit.Write(t, path, `["`+encodedKey(2)+`", "`+encodedKey(1)+`"]`)
+	// The file overrides the key, and the first of its keys encrypts.
 	if ring, err := Open(path, key(3)); err != nil || !reflect.DeepEqual(ring.GetKeys(), [][]byte{key(2), key(1)}) {
 		t.Error(ring, err)
 	}
@@ -40,11 +40,11 @@ func TestKeysOfAFile(t *testing.T) {
 	}
 }
 
-// A file may have so many keys, and none more.
+// A file may have maxKeys keys, and not one more.
 func TestKeysAreBounded(t *testing.T) {
 	path := filepath.Join(t.TempDir(), "keys")
 	for _, count := range []int{maxKeys, maxKeys + 1} {
-		testkit.Write(t, path, "["+strings.Repeat(`"`+text(1)+`",`, count-1)+`"`+text(1)+`"]`)
+		testkit.Write(t, path, "["+strings.Repeat(`"`+encodedKey(1)+`",`, count-1)+`"`+encodedKey(1)+`"]`)
 		if _, err := Open(path, nil); (err == nil) != (count == maxKeys) {
 			t.Errorf("%d keys: %v", count, err)
 		}
@@ -66,6 +66,6 @@ func TestBadFiles(t *testing.T) {
 		}
 	}
 	if _, err := Open(filepath.Join(folder, "none", "none"), key(1)); err == nil {
-		t.Error("the folder isn't there")
+		t.Error("a key was written to a folder that doesn't exist")
 	}
 }

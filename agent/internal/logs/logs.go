@@ -1,4 +1,4 @@
-// Package logs has the agent's log: lines of a level, on an output, and for those who follow it.
+// Package logs is the agent's log. It writes lines of a level and above to an output, and passes lines on to followers.
 package logs
 
 import (
@@ -11,19 +11,19 @@ import (
 	"time"
 )
 
-// kept is how many lines are kept for those who come later.
-const kept = 512
+// keptLines is how many lines are kept for followers that start later.
+const keptLines = 512
 
-// Waiting is how many lines may wait for one follower. What comes above it is dropped, for that one.
-const Waiting = 512
+// MaxWaiting is how many lines wait for a follower. Further lines are dropped for this follower.
+const MaxWaiting = 512
 
-// MaxLine is how many bytes of a line are kept.
+// MaxLine is the maximum length of a line in bytes. The rest is cut off.
 const MaxLine = 8 << 10
 
-// Level is how important a line is.
+// Level is the level of a line.
 type Level int
 
-// The levels, the most talkative first.
+// The levels, from the least important one to the most important one.
 const (
 	Trace Level = iota
 	Debug
@@ -32,27 +32,27 @@ const (
 	Err
 )
 
-// Levels are their names.
+// Levels are the names of the levels.
 var Levels = []string{"TRACE", "DEBUG", "INFO", "WARN", "ERR"}
 
 func (l Level) String() string { return Levels[l] }
 
-// LevelOf is the level of a name in capitals, and false where there is none.
+// LevelOf returns the level with a name in capitals. The second result is false if there is none.
 func LevelOf(name string) (Level, bool) {
-	for i, one := range Levels {
-		if one == name {
+	for i, level := range Levels {
+		if level == name {
 			return Level(i), true
 		}
 	}
 	return 0, false
 }
 
-// levelIn is the level that a line says in brackets; Info where it says none.
-func levelIn(line []byte) Level {
+// lineLevel returns the level that a line has in brackets, or Info if it has none.
+func lineLevel(line []byte) Level {
 	from := bytes.IndexByte(line, '[')
 	if from >= 0 {
 		if to := bytes.IndexByte(line[from:], ']'); to > 0 {
-			if level, is := LevelOf(string(line[from+1 : from+to])); is {
+			if level, ok := LevelOf(string(line[from+1 : from+to])); ok {
 				return level
 			}
 		}
@@ -60,116 +60,117 @@ func levelIn(line []byte) Level {
 	return Info
 }
 
-// visible takes the control characters out of what the network says, so that no name rules a terminal. In the output a line
-// that follows in the same text has a bar in front, so that no name forges a line.
-func visible(r rune) rune {
+// replaceControl replaces control characters, so that a name from the network can't control a terminal. The output
+// starts further lines of the same message with a bar, so that a name can't forge a line either.
+func replaceControl(r rune) rune {
 	if r < ' ' && r != '\n' && r != '\t' || r == 0x7f {
 		return '?'
 	}
 	return r
 }
 
-// Log is a log. Each line is written in one call, which nobody who follows it holds up.
+// Log is a log. It writes each line with one call, and followers don't delay it.
 type Log struct {
-	// Logger writes to it, with the moment in front.
+	// Logger writes to the log, with the time in front of each line.
 	*log.Logger
 
 	mu        sync.Mutex
 	out       io.Writer
 	level     Level
 	ring      []line
-	next      int
+	oldest    int
 	followers map[*Follower]struct{}
-	// syslog gets the lines that are written; none where it is nil.
+	// syslog receives the lines that are written. It is nil if the log isn't sent to syslog.
 	syslog chan string
 }
 
-// New makes a log that writes the lines of this level and above.
+// New makes a log that writes the lines of this level and above to out.
 func New(out io.Writer, level Level) *Log {
 	l := &Log{out: out, level: level, followers: map[*Follower]struct{}{}}
 	l.Logger = log.New(l, "", log.LstdFlags)
 	return l
 }
 
-// SetLevel changes which lines are written.
+// SetLevel changes the level of the lines that are written.
 func (l *Log) SetLevel(level Level) {
 	l.mu.Lock()
 	defer l.mu.Unlock()
 	l.level = level
 }
 
-// line is one that is kept: its text, or what that is made from, where nobody has wanted it yet.
+// line is a line that is kept: its text, or, until it is rendered, the arguments of its text.
 type line struct {
 	text   string
 	at     time.Time
 	format string
-	about  []interface{}
+	args   []interface{}
 }
 
-// textOf is a line as it is shown.
+// textOf returns a line as it is shown.
 func textOf(line []byte) string {
 	line = bytes.TrimRight(line, "\n")
 	if len(line) > MaxLine {
 		line = append(append([]byte(nil), line[:MaxLine]...), "..."...)
 	}
-	return strings.Map(visible, string(line))
+	return strings.Map(replaceControl, string(line))
 }
 
-// shown is the line's text.
-func (l *line) shown() string {
+// render returns the line's text, and makes it if necessary.
+func (l *line) render() string {
 	if l.format != "" {
-		text := textOf([]byte(l.at.Format("2006/01/02 15:04:05 ") + fmt.Sprintf(l.format, l.about...)))
+		text := textOf([]byte(l.at.Format("2006/01/02 15:04:05 ") + fmt.Sprintf(l.format, l.args...)))
 		*l = line{text: text}
 	}
 	return l.text
 }
 
-// keep keeps a line for those who come later. mu is held.
-func (l *Log) keep(one line) {
-	if len(l.ring) < kept {
-		l.ring = append(l.ring, one)
+// keep keeps a line for followers that start later. mu is held.
+func (l *Log) keep(kept line) {
+	if len(l.ring) < keptLines {
+		l.ring = append(l.ring, kept)
 	} else {
-		l.ring[l.next] = one
-		l.next = (l.next + 1) % kept
+		l.ring[l.oldest] = kept
+		l.oldest = (l.oldest + 1) % keptLines
 	}
 }
 
-// Often is Printf for a line that comes often, and whose values nobody changes later: it is made only where somebody wants it.
-func (l *Log) Often(format string, about ...interface{}) {
-	level := levelIn([]byte(format))
+// Lazyf is Printf for lines that are written often. The text is made only if the line is written or followed. The
+// arguments must not change later.
+func (l *Log) Lazyf(format string, args ...interface{}) {
+	level := lineLevel([]byte(format))
 	l.mu.Lock()
 	isWanted := level >= l.level || len(l.followers) > 0
 	if !isWanted {
-		l.keep(line{at: time.Now(), format: format, about: about})
+		l.keep(line{at: time.Now(), format: format, args: args})
 	}
 	l.mu.Unlock()
 	if isWanted {
-		l.Printf(format, about...)
+		l.Printf(format, args...)
 	}
 }
 
-// Write takes one line.
+// Write implements io.Writer for the Logger. It takes one line.
 func (l *Log) Write(written []byte) (int, error) {
 	text := textOf(written)
-	level := levelIn([]byte(text))
+	level := lineLevel([]byte(text))
 	l.mu.Lock()
 	defer l.mu.Unlock()
 	l.keep(line{text: text})
 	for follower := range l.followers {
-		follower.take(level, text)
+		follower.offer(level, text)
 	}
 	if level >= l.level {
 		select {
 		case l.syslog <- text:
 		default:
 		}
-		// (a log that can't be written has nobody to tell)
+		// There is no place to report that the log can't be written.
 		_, _ = fmt.Fprintf(l.out, "    %s\n", strings.ReplaceAll(text, "\n", "\n    | "))
 	}
 	return len(written), nil
 }
 
-// Follower gets the lines of a level and above.
+// Follower receives the lines of a level and above.
 type Follower struct {
 	// Lines are the lines. A follower that is too slow misses some.
 	Lines chan string
@@ -178,7 +179,7 @@ type Follower struct {
 	log   *Log
 }
 
-func (f *Follower) take(level Level, text string) {
+func (f *Follower) offer(level Level, text string) {
 	if level >= f.level {
 		select {
 		case f.Lines <- text:
@@ -187,20 +188,20 @@ func (f *Follower) take(level Level, text string) {
 	}
 }
 
-// Follow gives the lines that are kept, and those that come, until Close.
+// Follow returns a follower. It receives the lines that are kept, and new ones until Close.
 func (l *Log) Follow(level Level) *Follower {
-	f := &Follower{Lines: make(chan string, Waiting), level: level, log: l}
+	f := &Follower{Lines: make(chan string, MaxWaiting), level: level, log: l}
 	l.mu.Lock()
 	defer l.mu.Unlock()
 	for i := range l.ring {
-		text := l.ring[(l.next+i)%len(l.ring)].shown()
-		f.take(levelIn([]byte(text)), text)
+		text := l.ring[(l.oldest+i)%len(l.ring)].render()
+		f.offer(lineLevel([]byte(text)), text)
 	}
 	l.followers[f] = struct{}{}
 	return f
 }
 
-// Close ends it. A second time it does nothing.
+// Close ends the follower. It may be called twice.
 func (f *Follower) Close() {
 	f.log.mu.Lock()
 	defer f.log.mu.Unlock()

@@ -32,7 +32,7 @@ func TestLevels(t *testing.T) {
 func TestFollower(t *testing.T) {
 	l := New(&bytes.Buffer{}, Err)
 	l.SetFlags(0)
-	for i := 0; i < kept+10; i++ {
+	for i := 0; i < keptLines+10; i++ {
 		l.Printf("[INFO] %d", i)
 	}
 	f := l.Follow(Info)
@@ -51,20 +51,20 @@ func TestFollower(t *testing.T) {
 	}
 }
 
-// shown counts how often it was shown.
-type shown int
+// countedValue counts how often it was formatted.
+type countedValue int
 
-func (s *shown) String() string {
+func (s *countedValue) String() string {
 	*s++
 	return "shown\x1b"
 }
 
-// A line that comes often is made where somebody wants it, and once.
-func TestOften(t *testing.T) {
+// A line of Lazyf is made only if it is written or followed, and only once.
+func TestLazyf(t *testing.T) {
 	var out bytes.Buffer
-	var times shown
+	var times countedValue
 	l := New(&out, Info)
-	l.Often("[DEBUG] a %v", &times)
+	l.Lazyf("[DEBUG] a %v", &times)
 	if times != 0 || out.Len() > 0 {
 		t.Error(times, out.String())
 	}
@@ -73,7 +73,7 @@ func TestOften(t *testing.T) {
 		if line := <-f.Lines; len(line) != len("2006/01/02 15:04:05 [DEBUG] a shown?") || !strings.HasSuffix(line, " [DEBUG] a shown?") {
 			t.Errorf("%q", line)
 		}
-		l.Often("[INFO] b")
+		l.Lazyf("[INFO] b")
 		if line := <-f.Lines; !strings.HasSuffix(line, " [INFO] b") || strings.Count(out.String(), "[INFO] b\n") != i+1 {
 			t.Errorf("%q, %q", line, out.String())
 		}
@@ -87,17 +87,17 @@ func TestOften(t *testing.T) {
 func TestSlowFollower(t *testing.T) {
 	l := New(&bytes.Buffer{}, Err)
 	f := l.Follow(Trace)
-	for i := 0; i < 3*Waiting; i++ {
+	for i := 0; i < 3*MaxWaiting; i++ {
 		l.Print(fmt.Sprint(i))
 	}
-	if len(f.Lines) != Waiting {
+	if len(f.Lines) != MaxWaiting {
 		t.Error(len(f.Lines))
 	}
 	f.Close()
 	f.Close()
 	l.Print("late")
 	if len(l.followers) != 0 {
-		t.Error("it is still followed")
+		t.Error("the follower is still registered")
 	}
 }
 
@@ -110,7 +110,7 @@ func TestLongLine(t *testing.T) {
 	}
 }
 
-func TestNamesForgeNothing(t *testing.T) {
+func TestControlCharacters(t *testing.T) {
 	var out bytes.Buffer
 	l := New(&out, Warn)
 	l.SetFlags(0)
@@ -121,7 +121,7 @@ func TestNamesForgeNothing(t *testing.T) {
 	}
 }
 
-// Syslog gets the lines of the log's level with Serf's severities, without their moment and their level.
+// Syslog receives the lines that are written, with Serf's severities, and without their time and level.
 func TestSyslog(t *testing.T) {
 	path := filepath.Join(t.TempDir(), "log")
 	syslogd, err := net.ListenUnixgram("unixgram", &net.UnixAddr{Name: path, Net: "unixgram"})
@@ -137,19 +137,19 @@ func TestSyslog(t *testing.T) {
 	l.SetLevel(Trace)
 	l.Print("[TRACE] g")
 	end()
-	// (local3 is 19 * 8)
+	// local3 is 19 * 8.
 	for _, want := range []string{"<158> a: b", "<157> serf: [WARN] c", "<157> none", "<156> d | [ERR] e", "<155> f", "<159> g"} {
 		room := make([]byte, 1024)
 		count, err := syslogd.Read(room)
-		said := string(room[:count])
+		got := string(room[:count])
 		head, text, _ := strings.Cut(want, " ")
-		if err != nil || !strings.HasPrefix(said, head) || !strings.HasSuffix(strings.TrimSpace(said), text) || !strings.Contains(said, " serf[") {
-			t.Errorf("%q: %q %v", want, said, err)
+		if err != nil || !strings.HasPrefix(got, head) || !strings.HasSuffix(strings.TrimSpace(got), text) || !strings.Contains(got, " serf[") {
+			t.Errorf("%q: %q %v", want, got, err)
 		}
 	}
-	for _, one := range [][2]string{{path, "local9"}, {path + ".none", "local0"}} {
-		if _, err := l.ToSyslog("unixgram", one[0], one[1]); err == nil {
-			t.Error(one)
+	for _, bad := range [][2]string{{path, "local9"}, {path + ".none", "local0"}} {
+		if _, err := l.ToSyslog("unixgram", bad[0], bad[1]); err == nil {
+			t.Error(bad)
 		}
 	}
 }

@@ -7,13 +7,13 @@ import (
 	"time"
 )
 
-// SyslogTag is what lines are tagged with: Serf's own tag, so that an operator's rules for it go on.
+// SyslogTag is the tag of the lines. It is Serf's tag, so that an operator's syslog rules still apply.
 const SyslogTag = "serf"
 
-// lastWait is how long, at the end, lines may still go to syslog.
-const lastWait = time.Second
+// drainTimeout is the maximum time for which the end of the log waits for syslog.
+const drainTimeout = time.Second
 
-// facilities are syslog's, by the names that Serf's setting has for them.
+// facilities are syslog's facilities by their names in Serf's configuration.
 var facilities = map[string]syslog.Priority{
 	"KERN": syslog.LOG_KERN, "USER": syslog.LOG_USER, "MAIL": syslog.LOG_MAIL, "DAEMON": syslog.LOG_DAEMON, "AUTH": syslog.LOG_AUTH,
 	"SYSLOG": syslog.LOG_SYSLOG, "LPR": syslog.LOG_LPR, "NEWS": syslog.LOG_NEWS, "UUCP": syslog.LOG_UUCP, "CRON": syslog.LOG_CRON,
@@ -22,23 +22,24 @@ var facilities = map[string]syslog.Priority{
 	"LOCAL6": syslog.LOG_LOCAL6, "LOCAL7": syslog.LOG_LOCAL7,
 }
 
-// severities are how syslog has the levels: as Serf has them.
+// severities are the syslog severities of the levels, as in Serf.
 var severities = map[Level]func(*syslog.Writer, string) error{
 	Trace: (*syslog.Writer).Debug, Debug: (*syslog.Writer).Info, Info: (*syslog.Writer).Notice, Warn: (*syslog.Writer).Warning, Err: (*syslog.Writer).Err,
 }
 
-// ToSyslog sends the lines that the log writes to syslog too, from the next one on, until end: to the machine's own where network and
-// address are empty. A syslog that hangs holds nobody up: of the lines that wait for it more than 512 are dropped.
-func (l *Log) ToSyslog(network, address, facility string) (end func(), err error) {
-	under, is := facilities[strings.ToUpper(facility)]
-	if !is {
+// ToSyslog also sends the lines that the log writes from now on to syslog, until stop is called. If network and address
+// are empty, it is the machine's own syslog. A syslog that hangs doesn't delay the log: at most MaxWaiting lines wait
+// for it, and further ones are dropped.
+func (l *Log) ToSyslog(network, address, facility string) (stop func(), err error) {
+	priority, ok := facilities[strings.ToUpper(facility)]
+	if !ok {
 		return nil, fmt.Errorf("syslog has no facility %q", facility)
 	}
-	out, err := syslog.Dial(network, address, under|syslog.LOG_NOTICE, SyslogTag)
+	out, err := syslog.Dial(network, address, priority|syslog.LOG_NOTICE, SyslogTag)
 	if err != nil {
 		return nil, err
 	}
-	lines, done := make(chan string, Waiting), make(chan struct{})
+	lines, done := make(chan string, MaxWaiting), make(chan struct{})
 	l.mu.Lock()
 	defer l.mu.Unlock()
 	l.syslog = lines
@@ -46,7 +47,7 @@ func (l *Log) ToSyslog(network, address, facility string) (end func(), err error
 		defer close(done)
 		defer out.Close()
 		for line := range lines {
-			send(out, line)
+			sendToSyslog(out, line)
 		}
 	}()
 	return func() {
@@ -56,17 +57,17 @@ func (l *Log) ToSyslog(network, address, facility string) (end func(), err error
 		close(lines)
 		select {
 		case <-done:
-		case <-time.After(lastWait):
+		case <-time.After(drainTimeout):
 		}
 	}, nil
 }
 
-// send sends a line to syslog, without its moment and its level, which syslog has of its own.
-func send(out *syslog.Writer, line string) {
-	level := levelIn([]byte(line))
-	if _, rest, has := strings.Cut(line, "["+level.String()+"] "); has {
+// sendToSyslog sends a line without its time and level, since syslog adds its own.
+func sendToSyslog(out *syslog.Writer, line string) {
+	level := lineLevel([]byte(line))
+	if _, rest, ok := strings.Cut(line, "["+level.String()+"] "); ok {
 		line = rest
 	}
-	// (a syslog that can't be written has nobody to tell; the line is in the output)
+	// If syslog fails, the line is still in the output.
 	_ = severities[level](out, strings.ReplaceAll(line, "\n", " | "))
 }

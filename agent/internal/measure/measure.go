@@ -1,5 +1,5 @@
-// Package measure gives what is counted, by go-metrics, to those whom an operator names: statsite, statsd, a page for Prometheus, and at
-// SIGUSR1 standard error, as Serf has it.
+// Package measure passes the metrics of go-metrics on to the sinks that an operator configures: statsite, statsd, a
+// page for Prometheus, and, as in Serf, standard error at SIGUSR1.
 package measure
 
 import (
@@ -12,51 +12,52 @@ import (
 	"github.com/armon/go-metrics"
 )
 
-// Service is what the names that are sent begin with: Serf's own word, so that what an operator has of it goes on.
+// Service is the prefix of the metrics that are sent. It is Serf's own, so that an operator's dashboards still work.
 const Service = "serf-agent"
 
-// How long figures are gathered that SIGUSR1 shows together, how long they are kept, and how often the node's own are sent.
+// interval is how long metrics are aggregated for SIGUSR1, and how often the agent's own figures are sent. retention is
+// how long the aggregates are kept.
 const (
-	interval = 10 * time.Second
-	retained = time.Minute
+	interval  = 10 * time.Second
+	retention = time.Minute
 )
 
-// Stats are figures of the agent, as `serf info` has them.
+// Stats returns the figures that `serf info` shows.
 type Stats func() map[string]map[string]string
 
-// Measures are what is counted, and who is told.
+// Measures are the sinks of the metrics.
 type Measures struct {
 	signal *metrics.InmemSignal
 	page   *page
-	over   chan struct{}
+	done   chan struct{}
 }
 
-// Start begins to count, for the whole process. An address is HOST:PORT, or empty; dumps get what SIGUSR1 asks for.
+// Start configures the metrics of the whole process. An address is HOST:PORT, or empty. SIGUSR1 writes to dumps.
 func Start(statsite, statsd, prometheus string, dumps io.Writer) (*Measures, error) {
-	kept := metrics.NewInmemSink(interval, retained)
-	sinks := metrics.FanoutSink{kept}
+	inmem := metrics.NewInmemSink(interval, retention)
+	sinks := metrics.FanoutSink{inmem}
 	conf := metrics.DefaultConfig(Service)
 	conf.EnableHostname = statsite != "" || statsd != ""
-	for _, one := range []struct {
+	for _, network := range []struct {
 		key, address string
-		sink         func(string) (metrics.MetricSink, error)
+		open         func(string) (metrics.MetricSink, error)
 	}{
 		{"statsite_addr", statsite, func(to string) (metrics.MetricSink, error) { return metrics.NewStatsiteSink(to) }},
 		{"statsd_addr", statsd, func(to string) (metrics.MetricSink, error) { return metrics.NewStatsdSink(to) }},
 	} {
-		if one.address == "" {
+		if network.address == "" {
 			continue
 		}
-		if _, _, err := net.SplitHostPort(one.address); err != nil {
-			return nil, fmt.Errorf("%s: %q is not HOST:PORT", one.key, one.address)
+		if _, _, err := net.SplitHostPort(network.address); err != nil {
+			return nil, fmt.Errorf("%s: %q is not HOST:PORT", network.key, network.address)
 		}
-		sink, err := one.sink(one.address)
+		sink, err := network.open(network.address)
 		if err != nil {
-			return nil, fmt.Errorf("%s: %w", one.key, err)
+			return nil, fmt.Errorf("%s: %w", network.key, err)
 		}
 		sinks = append(sinks, sink)
 	}
-	m := &Measures{over: make(chan struct{})}
+	m := &Measures{done: make(chan struct{})}
 	if prometheus != "" {
 		var err error
 		if m.page, err = listen(prometheus, conf.HostName); err != nil {
@@ -67,11 +68,11 @@ func Start(statsite, statsd, prometheus string, dumps io.Writer) (*Measures, err
 	if _, err := metrics.NewGlobal(conf, sinks); err != nil {
 		return nil, err
 	}
-	m.signal = metrics.NewInmemSignal(kept, metrics.DefaultSignal, dumps)
+	m.signal = metrics.NewInmemSignal(inmem, metrics.DefaultSignal, dumps)
 	return m, nil
 }
 
-// Watch sends the agent's own figures each ten seconds, and has them on the page.
+// Watch sends the agent's own figures every ten seconds, and shows them on the page.
 func (m *Measures) Watch(stats Stats) {
 	if m.page != nil {
 		m.page.watch(stats)
@@ -81,39 +82,39 @@ func (m *Measures) Watch(stats Stats) {
 		defer ticker.Stop()
 		for {
 			select {
-			case <-m.over:
+			case <-m.done:
 				return
 			case <-ticker.C:
-				for _, one := range figures(stats) {
-					metrics.SetGauge(one.words, float32(one.is))
+				for _, figure := range figures(stats) {
+					metrics.SetGauge(figure.words, float32(figure.value))
 				}
 			}
 		}
 	}()
 }
 
-// figure is a number of the agent's.
+// figure is a number from Stats, with its name.
 type figure struct {
 	words []string
-	is    float64
+	value float64
 }
 
-// figures are the numbers of the agent and of its node.
-func figures(stats Stats) (found []figure) {
-	all := stats()
-	for _, part := range []string{"agent", "serf"} {
-		for name, value := range all[part] {
-			if is, err := strconv.ParseFloat(value, 64); err == nil {
-				found = append(found, figure{[]string{part, name}, is})
+// figures returns the numbers of the agent and of its node.
+func figures(stats Stats) (list []figure) {
+	sections := stats()
+	for _, section := range []string{"agent", "serf"} {
+		for name, value := range sections[section] {
+			if number, err := strconv.ParseFloat(value, 64); err == nil {
+				list = append(list, figure{[]string{section, name}, number})
 			}
 		}
 	}
-	return found
+	return list
 }
 
-// Close tells nobody any more.
+// Close stops sending.
 func (m *Measures) Close() {
-	close(m.over)
+	close(m.done)
 	m.signal.Stop()
 	if m.page != nil {
 		m.page.close()

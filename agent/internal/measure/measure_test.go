@@ -16,11 +16,11 @@ import (
 	"kitchenrue.example/agent/internal/testkit"
 )
 
-// shown is the page.
-func shown(t *testing.T, at net.Addr) string {
+// fetch returns the page.
+func fetch(t *testing.T, address net.Addr) string {
 	t.Helper()
 	client := http.Client{Transport: &http.Transport{DisableKeepAlives: true}}
-	answer, err := client.Get("http://" + at.String() + "/metrics")
+	answer, err := client.Get("http://" + address.String() + "/metrics")
 	testkit.Must(t, err)
 	defer answer.Body.Close()
 	text, err := io.ReadAll(answer.Body)
@@ -30,9 +30,9 @@ func shown(t *testing.T, at net.Addr) string {
 	return string(text)
 }
 
-// What is counted comes to statsite, to statsd, to the page and, at SIGUSR1, to the dumps.
-func TestWhoIsTold(t *testing.T) {
-	var told testkit.Said
+// Metrics arrive at statsite, at statsd, on the page and, at SIGUSR1, in the dumps.
+func TestSinks(t *testing.T) {
+	var sent testkit.Output
 	statsite, err := net.Listen("tcp", "127.0.0.1:0")
 	testkit.Must(t, err)
 	defer statsite.Close()
@@ -43,7 +43,7 @@ func TestWhoIsTold(t *testing.T) {
 		}
 		defer conn.Close()
 		for lines := bufio.NewScanner(conn); lines.Scan(); {
-			fmt.Fprintln(&told, "statsite "+lines.Text())
+			fmt.Fprintln(&sent, "statsite "+lines.Text())
 		}
 	}()
 	statsd, err := net.ListenPacket("udp", "127.0.0.1:0")
@@ -53,11 +53,11 @@ func TestWhoIsTold(t *testing.T) {
 		room := make([]byte, 1<<16)
 		for count, _, err := statsd.ReadFrom(room); err == nil; count, _, err = statsd.ReadFrom(room) {
 			for _, line := range strings.Split(string(room[:count]), "\n") {
-				fmt.Fprintln(&told, "statsd "+line)
+				fmt.Fprintln(&sent, "statsd "+line)
 			}
 		}
 	}()
-	var dumps testkit.Said
+	var dumps testkit.Output
 	m, err := Start(statsite.Addr().String(), statsd.LocalAddr().String(), "127.0.0.1:0", &dumps)
 	testkit.Must(t, err)
 	m.Watch(func() map[string]map[string]string {
@@ -75,9 +75,9 @@ func TestWhoIsTold(t *testing.T) {
 		"statsite serf-agent.serf.events:1.000000|c", "statsd serf-agent.serf.events:1.000000|c", "statsd serf-agent.serf.events.de-ploy:1.000000|c",
 		"statsite serf-agent.serf.msgs.received:7.000000|ms", "statsd serf-agent.serf.msgs.received:8.000000|ms", ".x:4.000000|g",
 	} {
-		testkit.Eventually(t, what, func() bool { return told.Has(what) })
+		testkit.Eventually(t, what, func() bool { return sent.Has(what) })
 	}
-	text := shown(t, m.page.listener.Addr())
+	text := fetch(t, m.page.listener.Addr())
 	for _, what := range []string{
 		"# TYPE serf_events counter\nserf_events 2\n", "# TYPE serf_events_by_name counter\nserf_events_by_name{name=\"de-ploy\"} 1\n",
 		"serf_queries_by_name{name=\"q\"} 1\nserf_queries_by_name{name=\"r\"} 1\n",
@@ -91,7 +91,7 @@ func TestWhoIsTold(t *testing.T) {
 	if strings.Contains(text, "goroutines 5") || strings.Contains(text, "agent_name") {
 		t.Error(text)
 	}
-	testkit.Eventually(t, "it is dumped", func() bool {
+	testkit.Eventually(t, "the metrics are dumped", func() bool {
 		testkit.Must(t, syscall.Kill(syscall.Getpid(), syscall.SIGUSR1))
 		time.Sleep(100 * time.Millisecond)
 		return dumps.Has("serf-agent.serf.events': Count: 2")
@@ -102,7 +102,7 @@ func TestWhoIsTold(t *testing.T) {
 	}
 }
 
-// Many names, and many who read, have a bound.
+// The number of names and the number of readers are bounded.
 func TestBounds(t *testing.T) {
 	p, err := listen("127.0.0.1:0", "host")
 	testkit.Must(t, err)
@@ -111,10 +111,10 @@ func TestBounds(t *testing.T) {
 		p.totals.IncrCounterWithLabels([]string{Service, fmt.Sprint("c", i)}, 1, nil)
 	}
 	p.totals.SetGaugeWithLabels([]string{"c1"}, 100, nil)
-	if count := strings.Count(shown(t, p.listener.Addr()), "# TYPE "); count != maxNames {
+	if count := strings.Count(fetch(t, p.listener.Addr()), "# TYPE "); count != maxNames {
 		t.Error(count)
 	}
-	if text := shown(t, p.listener.Addr()); !strings.Contains(text, "\nc1 1\n") {
+	if text := fetch(t, p.listener.Addr()); !strings.Contains(text, "\nc1 1\n") {
 		t.Error("a gauge in a counter's place")
 	}
 	var idle []net.Conn
@@ -123,31 +123,31 @@ func TestBounds(t *testing.T) {
 		testkit.Must(t, err)
 		idle = append(idle, conn)
 	}
-	testkit.Eventually(t, "all have come", func() bool {
+	testkit.Eventually(t, "all readers are connected", func() bool {
 		p.mu.Lock()
 		defer p.mu.Unlock()
 		return p.readers == maxReaders
 	})
-	one, err := net.Dial("tcp", p.listener.Addr().String())
+	extra, err := net.Dial("tcp", p.listener.Addr().String())
 	testkit.Must(t, err)
-	if _, err := one.Read(make([]byte, 1)); err == nil {
+	if _, err := extra.Read(make([]byte, 1)); err == nil {
 		t.Error("one more is served")
 	}
 	for _, conn := range idle {
 		conn.Close()
 	}
-	testkit.Eventually(t, "all have gone", func() bool {
+	testkit.Eventually(t, "all readers have disconnected", func() bool {
 		p.mu.Lock()
 		defer p.mu.Unlock()
 		return p.readers == 0
 	})
-	shown(t, p.listener.Addr())
+	fetch(t, p.listener.Addr())
 }
 
-func TestAddressesThatAreNone(t *testing.T) {
-	for _, one := range [][3]string{{"x", "", ""}, {"", "127.0.0.1", ""}, {"", "", "127.0.0.1:x"}} {
-		if _, err := Start(one[0], one[1], one[2], io.Discard); err == nil {
-			t.Error(one)
+func TestBadAddresses(t *testing.T) {
+	for _, addresses := range [][3]string{{"x", "", ""}, {"", "127.0.0.1", ""}, {"", "", "127.0.0.1:x"}} {
+		if _, err := Start(addresses[0], addresses[1], addresses[2], io.Discard); err == nil {
+			t.Error(addresses)
 		}
 	}
 }

@@ -14,32 +14,32 @@ import (
 	"github.com/armon/go-metrics"
 )
 
-// maxNames is how many names the page has at most, and maxReaders how many may read it at once.
+// maxNames is the maximum number of metrics on the page, and maxReaders the maximum number of connections that read it.
 const (
 	maxNames   = 2048
 	maxReaders = 32
 )
 
-// total is what a counter came to; of samples their number and their sum, and of a gauge the last value.
+// total is the sum of a counter, the number and sum of samples, or the last value of a gauge.
 type total struct {
 	kind       string
 	count, sum float64
 }
 
-// totals is a sink of go-metrics that keeps totals, as Prometheus wants them.
+// totals is a sink of go-metrics that keeps totals, as Prometheus expects.
 type totals struct {
 	metrics.BlackholeSink
 	host string
 
-	mu  sync.Mutex
-	all map[string]*total
+	mu     sync.Mutex
+	byName map[string]*total
 }
 
-func newTotals(host string) *totals { return &totals{host: host, all: map[string]*total{}} }
+func newTotals(host string) *totals { return &totals{host: host, byName: map[string]*total{}} }
 
-// add adds to a total of these words.
-func (t *totals) add(words []string, kind string, to func(*total)) {
-	// (the service, and the host in the name of a gauge, are said by who reads the page)
+// add updates the total with this name. kind is its Prometheus type.
+func (t *totals) add(words []string, kind string, update func(*total)) {
+	// The page leaves out the service and a gauge's host, since Prometheus knows which host it reads.
 	if len(words) > 1 && words[0] == Service {
 		words = words[1:]
 	}
@@ -49,20 +49,21 @@ func (t *totals) add(words []string, kind string, to func(*total)) {
 	name := pageName(words)
 	t.mu.Lock()
 	defer t.mu.Unlock()
-	one := t.all[name]
-	if one == nil {
-		if len(t.all) >= maxNames {
+	entry := t.byName[name]
+	if entry == nil {
+		if len(t.byName) >= maxNames {
 			return
 		}
-		one = &total{kind: kind}
-		t.all[name] = one
+		entry = &total{kind: kind}
+		t.byName[name] = entry
 	}
-	if one.kind == kind {
-		to(one)
+	if entry.kind == kind {
+		update(entry)
 	}
 }
 
-// pageName is a name that Prometheus takes. A name that came from the network is a label, so that it is none of the others.
+// pageName returns a valid Prometheus name. A name from the network becomes a label, so that it can't be another
+// metric's name.
 func pageName(words []string) string {
 	if len(words) == 3 && words[0] == "serf" && (words[1] == "events" || words[1] == "queries") {
 		return fmt.Sprintf("serf_%s_by_name{name=%q}", words[1], words[2])
@@ -76,42 +77,42 @@ func pageName(words []string) string {
 }
 
 func (t *totals) SetGaugeWithLabels(key []string, val float32, _ []metrics.Label) {
-	t.add(key, "gauge", func(one *total) { one.sum = float64(val) })
+	t.add(key, "gauge", func(t *total) { t.sum = float64(val) })
 }
 
 func (t *totals) IncrCounterWithLabels(key []string, val float32, _ []metrics.Label) {
-	t.add(key, "counter", func(one *total) { one.sum += float64(val) })
+	t.add(key, "counter", func(t *total) { t.sum += float64(val) })
 }
 
 func (t *totals) AddSampleWithLabels(key []string, val float32, _ []metrics.Label) {
-	t.add(key, "summary", func(one *total) { one.count++; one.sum += float64(val) })
+	t.add(key, "summary", func(t *total) { t.count++; t.sum += float64(val) })
 }
 
-// write writes all totals, by name.
+// write writes all totals, sorted by name.
 func (t *totals) write(to io.Writer) {
 	t.mu.Lock()
 	defer t.mu.Unlock()
-	names := make([]string, 0, len(t.all))
-	for name := range t.all {
+	names := make([]string, 0, len(t.byName))
+	for name := range t.byName {
 		names = append(names, name)
 	}
 	sort.Strings(names)
 	last := ""
 	for _, name := range names {
-		one := t.all[name]
+		total := t.byName[name]
 		if family, _, _ := strings.Cut(name, "{"); family != last {
-			fmt.Fprintf(to, "# TYPE %s %s\n", family, one.kind)
+			fmt.Fprintf(to, "# TYPE %s %s\n", family, total.kind)
 			last = family
 		}
-		if one.kind == "summary" {
-			fmt.Fprintf(to, "%s_count %v\n%s_sum %v\n", name, one.count, name, one.sum)
+		if total.kind == "summary" {
+			fmt.Fprintf(to, "%s_count %v\n%s_sum %v\n", name, total.count, name, total.sum)
 		} else {
-			fmt.Fprintf(to, "%s %v\n", name, one.sum)
+			fmt.Fprintf(to, "%s %v\n", name, total.sum)
 		}
 	}
 }
 
-// page is what Prometheus reads.
+// page is the page for Prometheus.
 type page struct {
 	totals   *totals
 	listener net.Listener
@@ -129,18 +130,18 @@ func listen(address, host string) (*page, error) {
 		return nil, err
 	}
 	mux := http.NewServeMux()
-	mux.HandleFunc("/metrics", p.show)
+	mux.HandleFunc("/metrics", p.serve)
 	const patience = 10 * time.Second
 	p.server = &http.Server{
 		Handler: mux, ReadTimeout: patience, WriteTimeout: patience, IdleTimeout: time.Minute, MaxHeaderBytes: 8 << 10,
-		ConnState: p.counted, ErrorLog: log.New(io.Discard, "", 0),
+		ConnState: p.limitReaders, ErrorLog: log.New(io.Discard, "", 0),
 	}
 	go func() { _ = p.server.Serve(p.listener) }()
 	return p, nil
 }
 
-// counted ends a reader who is one too many.
-func (p *page) counted(conn net.Conn, state http.ConnState) {
+// limitReaders closes a connection above maxReaders.
+func (p *page) limitReaders(conn net.Conn, state http.ConnState) {
 	p.mu.Lock()
 	defer p.mu.Unlock()
 	switch state {
@@ -159,14 +160,14 @@ func (p *page) watch(stats Stats) {
 	p.stats = stats
 }
 
-// show writes the page: the agent's own figures as they are now, and the totals.
-func (p *page) show(to http.ResponseWriter, _ *http.Request) {
+// serve writes the page: the agent's current figures, and the totals.
+func (p *page) serve(to http.ResponseWriter, _ *http.Request) {
 	p.mu.Lock()
 	stats := p.stats
 	p.mu.Unlock()
 	if stats != nil {
-		for _, one := range figures(stats) {
-			p.totals.add(one.words, "gauge", func(t *total) { t.sum = one.is })
+		for _, figure := range figures(stats) {
+			p.totals.add(figure.words, "gauge", func(t *total) { t.sum = figure.value })
 		}
 	}
 	to.Header().Set("Content-Type", "text/plain; version=0.0.4")

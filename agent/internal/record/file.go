@@ -9,11 +9,11 @@ import (
 	"syscall"
 )
 
-// Kept is how many files of a record are kept beside the one that is written.
-const Kept = 8
+// KeptFiles is how many older files of a record are kept.
+const KeptFiles = 8
 
-// File is the file of a record. Where it is full, it becomes PATH.1, what was PATH.1 becomes PATH.2 and so on, and the oldest
-// goes.
+// File is the file of a record. When it is full, it becomes PATH.1, PATH.1 becomes PATH.2 and so on, and the oldest one
+// is removed.
 type File struct {
 	path   string
 	limit  int64
@@ -21,70 +21,71 @@ type File struct {
 	length int64
 }
 
-// openFile opens a file to append to, or makes it, and locks it. A second agent is refused, and so is what is no record.
+// openFile opens or creates a file to append to, and locks it. It is an error if another agent has locked the file, or
+// if it is not a record.
 func openFile(path string) (*os.File, error) {
 	file, err := os.OpenFile(path, os.O_RDWR|os.O_APPEND|os.O_CREATE|syscall.O_NONBLOCK, 0o600)
 	if err != nil {
 		return nil, err
 	}
-	if err := check(file); err != nil {
+	if err := lockRecord(file); err != nil {
 		file.Close()
 		return nil, err
 	}
 	return file, nil
 }
 
-// check locks a file, and says where it is no record.
-func check(file *os.File) error {
-	about, err := file.Stat()
+// lockRecord locks a file, and checks that it is a record.
+func lockRecord(file *os.File) error {
+	info, err := file.Stat()
 	if err != nil {
 		return err
 	}
-	if !about.Mode().IsRegular() {
-		return fmt.Errorf("%s is no plain file", file.Name())
+	if !info.Mode().IsRegular() {
+		return fmt.Errorf("%s is not a regular file", file.Name())
 	}
 	if err := syscall.Flock(int(file.Fd()), syscall.LOCK_EX|syscall.LOCK_NB); errors.Is(err, syscall.EWOULDBLOCK) {
-		return fmt.Errorf("another program has %s", file.Name())
+		return fmt.Errorf("another program has locked %s", file.Name())
 	} else if err != nil {
 		return err
 	}
-	begins := make([]byte, len(heading))
-	if count, err := file.ReadAt(begins, 0); err != nil && err != io.EOF {
+	head := make([]byte, len(heading))
+	if count, err := file.ReadAt(head, 0); err != nil && err != io.EOF {
 		return err
-	} else if string(begins[:count]) != heading[:count] {
-		return fmt.Errorf("%s is no record", file.Name())
+	} else if string(head[:count]) != heading[:count] {
+		return fmt.Errorf("%s is not a record", file.Name())
 	}
 	return nil
 }
 
-// Open opens a record whose files have so many bytes at most, each but for its last call.
+// Open opens a record whose files are rotated at limit bytes. The last call may exceed the limit.
 func Open(path string, limit int64) (*File, error) {
 	file, err := openFile(path)
 	if err != nil {
 		return nil, err
 	}
-	about, err := file.Stat()
+	info, err := file.Stat()
 	if err != nil {
 		file.Close()
 		return nil, err
 	}
-	return &File{path: path, limit: limit, file: file, length: about.Size()}, nil
+	return &File{path: path, limit: limit, file: file, length: info.Size()}, nil
 }
 
-// IsFull says whether the file has as many bytes as it may.
+// IsFull reports whether the file has reached its limit.
 func (f *File) IsFull() bool { return f.length >= f.limit }
 
-// Write appends to the file. It brings nothing to the disk: a kill of the program loses nothing, and a cut of the power may.
+// Write appends to the file. It doesn't flush: a kill of the program loses nothing, but a power failure may.
 func (f *File) Write(text []byte) (int, error) {
 	count, err := f.file.Write(text)
 	f.length += int64(count)
 	return count, err
 }
 
-// TurnOver begins a new file. Where it fails, the old one goes on.
-func (f *File) TurnOver() error {
+// Rotate starts a new file. If it fails, the old one is still used.
+func (f *File) Rotate() error {
 	numbered := func(number int) string { return f.path + "." + strconv.Itoa(number) }
-	for number := Kept; number > 1; number-- {
+	for number := KeptFiles; number > 1; number-- {
 		if err := os.Rename(numbered(number-1), numbered(number)); err != nil && !errors.Is(err, os.ErrNotExist) {
 			return err
 		}
@@ -101,5 +102,5 @@ func (f *File) TurnOver() error {
 	return nil
 }
 
-// Close closes it.
+// Close closes the file.
 func (f *File) Close() error { return f.file.Close() }

@@ -7,7 +7,7 @@ import (
 	"kitchenrue.example/serfagent"
 )
 
-// lines are calls and replies, as docs/SPEC.md spells them.
+// lines are calls and replies, as docs/SPEC.md writes them.
 type lines struct{ text []byte }
 
 // line begins a line, and ends the one before.
@@ -24,34 +24,36 @@ func (l *lines) word(word string) *lines {
 	return l
 }
 
-func (l *lines) number(is uint64) *lines {
-	l.text = strconv.AppendUint(append(l.text, ' '), is, 10)
+func (l *lines) number(n uint64) *lines {
+	l.text = strconv.AppendUint(append(l.text, ' '), n, 10)
 	return l
 }
 
-func (l *lines) bytes(is []byte) *lines {
-	if len(is) == 0 {
+func (l *lines) bytes(data []byte) *lines {
+	if len(data) == 0 {
 		return l.word("-")
 	}
 	l.text = append(l.text, ' ')
 	from := len(l.text)
-	l.text = append(l.text, make([]byte, hex.EncodedLen(len(is)))...)
-	hex.Encode(l.text[from:], is)
+	l.text = append(l.text, make([]byte, hex.EncodedLen(len(data)))...)
+	hex.Encode(l.text[from:], data)
 	return l
 }
 
-func (l *lines) truth(is bool) *lines {
-	if is {
+func (l *lines) boolean(value bool) *lines {
+	if value {
 		return l.word("1")
 	}
 	return l.word("0")
 }
 
-// end ends a reply by its empty line.
+// end ends a reply with its empty line.
 func (l *lines) end() { l.text = append(l.text, "\n\n"...) }
 
-// at says when the calls behind it were made, in nanoseconds since 1970.
-func (l *lines) at(moment int64) { l.line("at").number(uint64(moment)).text = append(l.text, '\n') }
+// moment writes when the calls after it were made, in nanoseconds since 1970.
+func (l *lines) moment(nanoseconds int64) {
+	l.line("at").number(uint64(nanoseconds)).text = append(l.text, '\n')
+}
 
 func (l *lines) sent(packet []byte) {
 	if packet != nil {
@@ -59,90 +61,90 @@ func (l *lines) sent(packet []byte) {
 	}
 }
 
-func (l *lines) event(is *serfagent.Event) {
-	if is != nil {
-		l.line("event").number(is.Time).bytes(is.Name).bytes(is.Payload).truth(is.Coalesce)
+func (l *lines) event(event *serfagent.Event) {
+	if event != nil {
+		l.line("event").number(event.Time).bytes(event.Name).bytes(event.Payload).boolean(event.Coalesce)
 	}
 }
 
-func (l *lines) handed(is *serfagent.Handed, number uint64) {
-	if is != nil {
-		l.line("handed").number(number).number(is.Time).number(uint64(is.ID)).bytes(is.Name).bytes(is.Payload)
+func (l *lines) handed(query *serfagent.PendingQuery, number uint64) {
+	if query != nil {
+		l.line("handed").number(number).number(query.Time).number(uint64(query.ID)).bytes(query.Name).bytes(query.Payload)
 	}
 }
 
-// open is the call that begins a life with these clocks, and its reply.
+// open writes the call that begins a life with these clocks, and its reply.
 func (l *lines) open(name string, settings serfagent.Settings, clocks serfagent.Clocks) {
 	mode := "keep"
 	if settings.IgnoreOld {
 		mode = "ignore"
 	}
 	var text []byte
-	for _, kept := range []struct {
+	for _, line := range []struct {
 		word  string
 		clock uint64
 	}{{"clock: ", clocks.Member}, {"event-clock: ", clocks.Event}, {"query-clock: ", clocks.Query}} {
-		if kept.clock > 1 {
-			text = append(strconv.AppendUint(append(text, kept.word...), kept.clock-1, 10), '\n')
+		if line.clock > 1 {
+			text = append(strconv.AppendUint(append(text, line.word...), line.clock-1, 10), '\n')
 		}
 	}
 	l.line("open").bytes([]byte(name)).number(settings.EventBuffer).number(settings.QueryBuffer).number(settings.EventLimit)
 	l.number(settings.Responders).word(mode).number(settings.PerTime)
-	if serfs := serfagent.DefaultSettings(); settings.QueryLimit != serfs.QueryLimit || settings.ResponseLimit != serfs.ResponseLimit {
+	if defaults := serfagent.DefaultSettings(); settings.QueryLimit != defaults.QueryLimit || settings.ResponseLimit != defaults.ResponseLimit {
 		l.number(settings.QueryLimit).number(settings.ResponseLimit)
 	}
 	l.bytes(text)
 	l.line("opened").number(clocks.Member).number(clocks.Event).number(clocks.Query).end()
 }
 
-// came is what came of a packet, or why it was refused.
-func (l *lines) came(packet []byte, outcome serfagent.Outcome, number uint64) {
-	is := outcome.Received
-	if is == nil {
+// received writes the reply to a packet, or why the packet was refused.
+func (l *lines) received(packet []byte, outcome serfagent.Outcome, number uint64) {
+	received := outcome.Received
+	if received == nil {
 		l.refused(outcome.Err, packet)
 		return
 	}
-	switch is.Kind {
+	switch received.Kind {
 	case serfagent.NewEvent:
 		l.line("new")
 	case serfagent.NewQuery:
 		l.line("query")
 	case serfagent.Ack:
-		l.line("ack").line("counted ack").number(is.Answer.Time).number(uint64(is.Answer.ID)).bytes(is.Answer.From)
+		l.line("ack").line("counted ack").number(received.Answer.Time).number(uint64(received.Answer.ID)).bytes(received.Answer.From)
 	case serfagent.Response:
-		l.line("response").line("counted response").number(is.Answer.Time).number(uint64(is.Answer.ID))
-		l.bytes(is.Answer.From).bytes(is.Answer.Payload)
+		l.line("response").line("counted response").number(received.Answer.Time).number(uint64(received.Answer.ID))
+		l.bytes(received.Answer.From).bytes(received.Answer.Payload)
 	case serfagent.Ignored:
-		l.line("ignored").word(is.Reason.String())
+		l.line("ignored").word(received.Reason.String())
 	case serfagent.Foreign:
-		l.line("foreign").number(uint64(is.Foreign))
+		l.line("foreign").number(uint64(received.Foreign))
 	case serfagent.PushPull:
 		l.line("push-pull")
 	}
-	if is.Rebroadcast {
+	if received.Rebroadcast {
 		l.sent(packet)
 	}
-	l.sent(is.Ack)
-	l.event(is.Event)
-	l.handed(is.Query, number)
+	l.sent(received.Ack)
+	l.event(received.Event)
+	l.handed(received.Query, number)
 }
 
-// faults are the words of why a call was refused.
-var faults = map[error]string{
+// refusalWords are the words for why a call was refused.
+var refusalWords = map[error]string{
 	serfagent.TooLarge: "TooLarge", serfagent.TooLong: "TooLong", serfagent.Exhausted: "Exhausted", serfagent.NoTime: "ZeroTimeout",
 	serfagent.PastDeadline: "PastDeadline", serfagent.NotPushPull: "NotPushPull", serfagent.RespondersFull: "RespondersFull",
 	serfagent.NotHanded: "NoQuery",
 }
 
-// refused is the reply of a call that was refused. Of a fault that isn't of the call, but of the memory or the disk, it says
-// false, and writes nothing.
+// refused writes the reply to a call that was refused. If the call failed for another reason, such as memory or the
+// disk, it writes nothing and returns false.
 func (l *lines) refused(err error, packet []byte) bool {
-	if word, is := faults[err]; is {
+	if word, ok := refusalWords[err]; ok {
 		l.line("refused").word(word)
 		return true
 	}
-	fault, is := serfagent.PacketFaultOf(packet)
-	if err != serfagent.NoMessage || !is {
+	fault, ok := serfagent.PacketFaultOf(packet)
+	if err != serfagent.NoMessage || !ok {
 		return false
 	}
 	l.line("refused Wire").word(fault.Kind.String())

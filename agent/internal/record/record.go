@@ -1,7 +1,7 @@
-// Package record writes down what a proved agent is given, and what it answers, as calls and replies of docs/SPEC.md.
+// Package record writes the calls to a proved agent and its replies to a file, in the format of docs/SPEC.md.
 //
-// It writes behind each call, so nothing waits for the record but the next call. Where the record can't be written, the agent
-// goes on without it.
+// It writes after each call, so the record delays only the next call. If the record can't be written, the agent
+// continues without it.
 package record
 
 import (
@@ -14,33 +14,35 @@ import (
 	"kitchenrue.example/serfagent"
 )
 
-// heading begins each life, and each file. A call before it that has no end was cut off by the end of the program.
+// heading begins each life and each file. A call before it without an end was cut off when the program ended.
 const heading = "# kitchenrue-agent record 1\n"
 
-// goesOn stands before an open that is no new life: the file before it turned over.
-const goesOn = "# goes on\n"
+// continued is written before an open that begins no new life, after the file was rotated.
+const continued = "# goes on\n"
 
-// Agent is a proved agent whose calls are recorded, in their order.
+// Agent records the calls to a proved agent, in their order.
 type Agent struct {
 	serf.Agent
 	name     string
 	settings serfagent.Settings
 	log      *log.Logger
 
-	// mu is held over a call and its lines, so that the record has the calls in their order.
+	// mu is held during a call and while its lines are written, so that the record has the calls in their order.
 	mu sync.Mutex
-	// file is nil once it could not be written.
+	// file is nil after it could not be written.
 	file  *File
 	lines lines
-	// handed are the queries that were handed out in this life, by the library's numbers, and count is how many they were.
-	handed map[uint64]*handed
-	count  uint64
-	// saved is the member clock of the last line of it.
+	// pending are the queries that were handed out in this life, by the library's numbers. handedOut is how many there
+	// were.
+	pending   map[uint64]*pendingQuery
+	handedOut uint64
+	// saved is the member clock in the last line that recorded it.
 	saved uint64
 }
 
-// handed is a query that was handed out: its number, counted from 0, until when it can be answered, and whether it was.
-type handed struct {
+// pendingQuery is a query that was handed out. number counts from 0. deadline is the last moment at which it can be
+// answered.
+type pendingQuery struct {
 	number, deadline uint64
 	answered         bool
 }
@@ -49,9 +51,9 @@ var _ serf.Agent = &Agent{}
 
 // Start begins a life of this agent in a record.
 func Start(agent serf.Agent, file *File, name string, settings serfagent.Settings, logger *log.Logger) (*Agent, error) {
-	a := &Agent{Agent: agent, name: name, settings: settings, log: logger, file: file, handed: map[uint64]*handed{}}
+	a := &Agent{Agent: agent, name: name, settings: settings, log: logger, file: file, pending: map[uint64]*pendingQuery{}}
 	if file.length > 0 {
-		// (the life before may have been cut off in a line)
+		// The life before may have ended within a line.
 		a.lines.text = append(a.lines.text, '\n')
 	}
 	if err := a.begin(heading); err != nil {
@@ -61,55 +63,55 @@ func Start(agent serf.Agent, file *File, name string, settings serfagent.Setting
 	return a, err
 }
 
-// begin spells the call that opens the agent with the clocks that it has.
-func (a *Agent) begin(words string) error {
+// begin writes the call that opens the agent with its current clocks.
+func (a *Agent) begin(comment string) error {
 	clocks, err := a.Agent.Clocks()
 	if err != nil {
 		return err
 	}
-	a.lines.text = append(a.lines.text, words...)
-	a.lines.at(time.Now().UnixNano())
+	a.lines.text = append(a.lines.text, comment...)
+	a.lines.moment(time.Now().UnixNano())
 	a.lines.open(a.name, a.settings, clocks)
 	return nil
 }
 
-// write writes the lines of calls, behind their moment. Faults end the record, and not the agent.
-func (a *Agent) write(spell func(*lines)) {
+// write writes the lines of calls, after their time. An error ends the record, not the agent.
+func (a *Agent) write(lines func(*lines)) {
 	if a.file == nil {
 		return
 	}
 	a.lines.text = a.lines.text[:0]
-	a.lines.at(time.Now().UnixNano())
+	a.lines.moment(time.Now().UnixNano())
 	moment := len(a.lines.text)
-	if spell(&a.lines); len(a.lines.text) == moment {
+	if lines(&a.lines); len(a.lines.text) == moment {
 		return
 	}
 	_, err := a.file.Write(a.lines.text)
 	if err == nil && a.file.IsFull() {
-		err = a.turnOver()
+		err = a.rotate()
 	}
 	if err != nil {
-		a.log.Printf("[ERR] agent: the record ends, and the agent goes on without it: %v", err)
+		a.log.Printf("[ERR] agent: the record ends, and the agent continues without it: %v", err)
 		a.file.Close()
 		a.file = nil
 	}
 }
 
-// turnOver begins a new file, with the clocks that the calls before have left.
-func (a *Agent) turnOver() error {
-	if err := a.file.TurnOver(); err != nil {
+// rotate starts a new file, with the agent's current clocks.
+func (a *Agent) rotate() error {
+	if err := a.file.Rotate(); err != nil {
 		return err
 	}
 	a.lines.text = a.lines.text[:0]
-	if err := a.begin(heading + goesOn); err != nil {
+	if err := a.begin(heading + continued); err != nil {
 		return err
 	}
 	_, err := a.file.Write(a.lines.text)
 	return err
 }
 
-// failed notes that the agent's own file failed, or that memory was wanting: nothing came of a call.
-func (l *lines) failed(err error) {
+// notDone notes that a call had no effect, because the agent's own file failed or memory ran out.
+func (l *lines) notDone(err error) {
 	l.text = append(l.text, "# not done: "...)
 	for _, b := range []byte(err.Error()) {
 		if b < ' ' {
@@ -120,18 +122,18 @@ func (l *lines) failed(err error) {
 	l.text = append(l.text, '\n')
 }
 
-// number is the number of a query that was handed out in this life.
-func (a *Agent) number(query *serfagent.Handed) uint64 {
+// numberOf numbers a query that is handed out.
+func (a *Agent) numberOf(query *serfagent.PendingQuery) uint64 {
 	if query == nil {
 		return 0
 	}
-	number := a.count
-	a.handed[query.Number] = &handed{number: number, deadline: query.Deadline}
-	a.count++
+	number := a.handedOut
+	a.pending[query.Number] = &pendingQuery{number: number, deadline: query.Deadline}
+	a.handedOut++
 	return number
 }
 
-// TakeAll records a delivery for each packet, and a firing for each event, that was taken or refused.
+// TakeAll records a delivery for each packet, and a firing for each event.
 func (a *Agent) TakeAll(now uint64, packets []serf.Packet, firings []serf.Firing) ([]serfagent.Outcome, error) {
 	a.mu.Lock()
 	defer a.mu.Unlock()
@@ -145,31 +147,32 @@ func (a *Agent) TakeAll(now uint64, packets []serf.Packet, firings []serf.Firing
 			}
 		}
 		if err != nil {
-			l.failed(err)
+			l.notDone(err)
 		}
 	})
 	return outcomes, err
 }
 
-// delivered spells what came of a packet. The pipe knows no tags: a query by tags that this node passes stands without these filters.
+// delivered writes a packet and its result. The format has no tags, so a query whose tag filters this node passes is
+// written without them.
 func (a *Agent) delivered(l *lines, now uint64, packet serf.Packet, outcome serfagent.Outcome) {
 	var number uint64
 	if outcome.Received != nil {
-		number = a.number(outcome.Received.Query)
+		number = a.numberOf(outcome.Received.Query)
 	}
 	data := packet.Data
 	if packet.TagsPass {
 		data = serf.WithoutTagFilters(data)
 	}
 	l.line("deliver").bytes(data).number(now)
-	l.came(data, outcome, number)
+	l.received(data, outcome, number)
 	l.end()
 }
 
-// fired spells what came of a firing.
+// fired writes a firing and its result.
 func (a *Agent) fired(l *lines, firing serf.Firing, outcome serfagent.Outcome) {
-	l.line("fire").bytes(firing.Name).bytes(firing.Payload).truth(firing.Coalesce)
-	a.answer(l, outcome.Err, nil, func() {
+	l.line("fire").bytes(firing.Name).bytes(firing.Payload).boolean(firing.Coalesce)
+	a.reply(l, outcome.Err, nil, func() {
 		l.line("fired").number(outcome.Fired.Event.Time).sent(outcome.Fired.Packet)
 		l.event(outcome.Fired.Event)
 	})
@@ -186,7 +189,7 @@ func (a *Agent) Merge(packet []byte, isJoin bool) ([]*serfagent.Event, error) {
 	}
 	a.write(func(l *lines) {
 		l.line("merge").bytes(packet).word(mode)
-		a.answer(l, err, packet, func() {
+		a.reply(l, err, packet, func() {
 			l.line("merged")
 			for _, event := range events {
 				l.event(event)
@@ -196,15 +199,15 @@ func (a *Agent) Merge(packet []byte, isJoin bool) ([]*serfagent.Event, error) {
 	return events, err
 }
 
-// answer spells the answer of a call that was done, or why it was refused.
-func (a *Agent) answer(l *lines, err error, packet []byte, done func()) {
+// reply writes the reply to a call that was done, or why it was refused.
+func (a *Agent) reply(l *lines, err error, packet []byte, done func()) {
 	switch {
 	case err == nil:
 		done()
 	case l.refused(err, packet):
 	default:
 		l.line("")
-		l.failed(err)
+		l.notDone(err)
 		return
 	}
 	l.end()
@@ -217,16 +220,16 @@ func (a *Agent) LocalState(statuses []serfagent.Status, left []string) ([]byte, 
 	packet, err := a.Agent.LocalState(statuses, left)
 	a.write(func(l *lines) {
 		l.line("state")
-		a.answer(l, err, nil, func() { l.line("state").sent(packet) })
+		a.reply(l, err, nil, func() { l.line("state").sent(packet) })
 	})
 	return packet, err
 }
 
-// Query records a query. As of a packet, one by tags that this node passes stands without these filters.
-func (a *Agent) Query(now uint64, id uint32, name, payload []byte, params serfagent.QueryParams) (*serfagent.Asked, error) {
+// Query records a query. Like a received one, it is written without its tag filters if this node passes them.
+func (a *Agent) Query(now uint64, id uint32, name, payload []byte, params serfagent.QueryParams) (*serfagent.FiredQuery, error) {
 	a.mu.Lock()
 	defer a.mu.Unlock()
-	asked, err := a.Agent.Query(now, id, name, payload, params)
+	query, err := a.Agent.Query(now, id, name, payload, params)
 	flags := uint64(0)
 	if params.WantAck {
 		flags |= 1
@@ -241,71 +244,72 @@ func (a *Agent) Query(now uint64, id uint32, name, payload []byte, params serfag
 				l.bytes(filter)
 			}
 		}
-		a.answer(l, err, nil, func() {
-			packet := asked.Packet
+		a.reply(l, err, nil, func() {
+			packet := query.Packet
 			if params.TagsPass {
 				packet = serf.WithoutTagFilters(packet)
 			}
-			l.line("queried").number(asked.Time).sent(packet)
-			l.sent(asked.Ack)
-			l.handed(asked.Query, a.number(asked.Query))
+			l.line("queried").number(query.Time).sent(packet)
+			l.sent(query.Ack)
+			l.handed(query.Query, a.numberOf(query.Query))
 		})
 	})
-	return asked, err
+	return query, err
 }
 
-// Respond records an answer to a query that was handed out in this life.
+// Respond records a response to a query that was handed out in this life.
 func (a *Agent) Respond(now, number uint64, payload []byte) ([]byte, error) {
 	a.mu.Lock()
 	defer a.mu.Unlock()
 	packet, err := a.Agent.Respond(now, number, payload)
-	if query, is := a.handed[number]; is {
-		why := err
+	if query, ok := a.pending[number]; ok {
+		reason := err
 		if err == serfagent.NotHanded && !query.answered && now > query.deadline {
-			// (the library forgets what is past its deadline)
-			why = serfagent.PastDeadline
+			// The library has forgotten the query, because its deadline passed.
+			reason = serfagent.PastDeadline
 		}
 		query.answered = query.answered || err == nil
 		a.write(func(l *lines) {
 			l.line("respond").number(query.number).number(now).bytes(payload)
-			a.answer(l, why, nil, func() { l.line("replied").sent(packet) })
+			a.reply(l, reason, nil, func() { l.line("replied").sent(packet) })
 		})
 	}
 	return packet, err
 }
 
-// Forget records nothing: an answer to this query is no call of the record any more.
+// Forget records nothing. Later responses to this query are not recorded.
 func (a *Agent) Forget(number uint64) error {
 	a.mu.Lock()
 	defer a.mu.Unlock()
-	delete(a.handed, number)
+	delete(a.pending, number)
 	return a.Agent.Forget(number)
 }
 
-// CloseDue records that queries were closed; where none was, nothing is written.
+// CloseDue records that queries were closed. If none was, it records nothing.
 func (a *Agent) CloseDue(now uint64) ([]*serfagent.Closed, error) {
 	a.mu.Lock()
 	defer a.mu.Unlock()
-	all, err := a.Agent.CloseDue(now)
-	if len(all) > 0 {
+	closed, err := a.Agent.CloseDue(now)
+	if len(closed) > 0 {
 		a.write(func(l *lines) {
-			l.line("close").number(now).line("closed").number(uint64(len(all))).end()
+			l.line("close").number(now).line("closed").number(uint64(len(closed))).end()
 		})
 	}
-	return all, err
+	return closed, err
 }
 
-// clockState is a push/pull that says nothing but that the member clock is above a time.
+// clockState returns a push/pull that contains only a member clock above a time.
 func clockState(time uint64) []byte {
 	return binary.BigEndian.AppendUint64([]byte("\x02\x81\xa5LTime\xcf"), time+1)
 }
 
-// observed spells that the member clock went above a time. The pipe has no call for it but a merge.
+// observed writes that the member clock was advanced above a time. The format has no call for that, so it writes a
+// merge.
 func (l *lines) observed(time uint64) {
 	l.line("merge").bytes(clockState(time)).word("sync").line("merged").end()
 }
 
-// ObserveMember records the merge of a clock, where it is above this node's.
+// ObserveMember records a merge if the time advances this node's clock.
 func (a *Agent) ObserveMember(time uint64) error {
 	a.mu.Lock()
 	defer a.mu.Unlock()
@@ -317,7 +321,7 @@ func (a *Agent) ObserveMember(time uint64) error {
 	return err
 }
 
-// NextMemberTime records the merge of a clock, and its line.
+// NextMemberTime records a merge that advances the member clock, and its line.
 func (a *Agent) NextMemberTime() (uint64, error) {
 	a.mu.Lock()
 	defer a.mu.Unlock()
@@ -332,7 +336,7 @@ func (a *Agent) NextMemberTime() (uint64, error) {
 	return time, err
 }
 
-// SaveMemberClock records the line of the member clock, where it isn't there yet.
+// SaveMemberClock records the line of the member clock, unless it is recorded already.
 func (a *Agent) SaveMemberClock() error {
 	a.mu.Lock()
 	defer a.mu.Unlock()
@@ -344,7 +348,7 @@ func (a *Agent) SaveMemberClock() error {
 	return err
 }
 
-// Compact records a replacement of the file.
+// Compact records a compaction.
 func (a *Agent) Compact() error {
 	a.mu.Lock()
 	defer a.mu.Unlock()

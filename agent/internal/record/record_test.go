@@ -19,8 +19,8 @@ import (
 	"kitchenrue.example/serfagent"
 )
 
-// opened opens a proved agent whose calls are recorded: the agent, and the record's path.
-func opened(t *testing.T, name, folder string, limit int64, logger *log.Logger) *Agent {
+// openRecorded opens a proved agent whose calls are recorded in NAME.record.
+func openRecorded(t *testing.T, name, folder string, limit int64, logger *log.Logger) *Agent {
 	t.Helper()
 	settings := serfagent.DefaultSettings()
 	settings.IgnoreOld = true
@@ -34,7 +34,7 @@ func opened(t *testing.T, name, folder string, limit int64, logger *log.Logger) 
 	return agent
 }
 
-// The limits of packets stand in the call where they aren't Serf's own, and nowhere else.
+// An open call has the limits of packets only if they aren't Serf's.
 func TestLimitsOfPackets(t *testing.T) {
 	for limits, want := range map[[2]uint64]string{{1024, 1024}: "1024 -", {2000, 1024}: "1024 2000 1024 -", {1024, 300}: "1024 1024 300 -"} {
 		settings, l := serfagent.DefaultSettings(), &lines{}
@@ -46,7 +46,7 @@ func TestLimitsOfPackets(t *testing.T) {
 	}
 }
 
-// fire fires an event by an agent: its packet.
+// fire fires an event, and returns its packet.
 func fire(a *Agent, name, payload string, coalesce bool) ([]byte, error) {
 	outcomes, err := a.TakeAll(0, nil, []serf.Firing{{Name: []byte(name), Payload: []byte(payload), Coalesce: coalesce}})
 	if err != nil {
@@ -58,18 +58,18 @@ func fire(a *Agent, name, payload string, coalesce bool) ([]byte, error) {
 	return outcomes[0].Fired.Packet, nil
 }
 
-// receive takes packets by an agent.
+// receive gives packets to an agent.
 func receive(a *Agent, now uint64, packets ...[]byte) ([]serfagent.Outcome, error) {
-	var all []serf.Packet
+	var list []serf.Packet
 	for _, packet := range packets {
-		all = append(all, serf.Packet{Data: packet})
+		list = append(list, serf.Packet{Data: packet})
 	}
-	return a.TakeAll(now, all, nil)
+	return a.TakeAll(now, list, nil)
 }
 
-var quiet = log.New(io.Discard, "", 0)
+var noLog = log.New(io.Discard, "", 0)
 
-// recorded is the text of a record, without its moments.
+// recorded returns the text of a record without its times.
 func recorded(t *testing.T, path string) string {
 	t.Helper()
 	text, err := os.ReadFile(path)
@@ -79,12 +79,12 @@ func recorded(t *testing.T, path string) string {
 
 func TestCallsAndReplies(t *testing.T) {
 	folder := t.TempDir()
-	a, b := opened(t, "a", folder, 1<<20, quiet), opened(t, "b", folder, 1<<20, quiet)
+	a, b := openRecorded(t, "a", folder, 1<<20, noLog), openRecorded(t, "b", folder, 1<<20, noLog)
 	fired, err := fire(a, "deploy", "v1", false)
 	testkit.Must(t, err)
-	asked, err := a.Query(5, 7, []byte("load"), nil, serfagent.QueryParams{Timeout: 1000, WantAck: true})
+	query, err := a.Query(5, 7, []byte("load"), nil, serfagent.QueryParams{Timeout: 1000, WantAck: true})
 	testkit.Must(t, err)
-	outcomes, err := receive(b, 9, fired, fired, asked.Packet, []byte{}, []byte("\x03\x81\xa4Name\xa1"), []byte{9})
+	outcomes, err := receive(b, 9, fired, fired, query.Packet, []byte{}, []byte("\x03\x81\xa4Name\xa1"), []byte{9})
 	if err != nil || len(outcomes) != 6 {
 		t.Fatal(outcomes, err)
 	}
@@ -110,7 +110,7 @@ func TestCallsAndReplies(t *testing.T) {
 	hexed := func(data []byte) string { return fmt.Sprintf("%x", data) }
 	want := "# kitchenrue-agent record 1\nopen 61 512 512 512 1024 ignore 1024 -\nopened 1 1 1\n\n" +
 		"fire 6465706c6f79 7631 0\nfired 1\nsent " + hexed(fired) + "\nevent 1 6465706c6f79 7631 0\n\n" +
-		"query 5 7 6c6f6164 - 1000 1\nqueried 1\nsent " + hexed(asked.Packet) + "\nsent " + hexed(asked.Ack) + "\nhanded 0 1 7 6c6f6164 -\n\n" +
+		"query 5 7 6c6f6164 - 1000 1\nqueried 1\nsent " + hexed(query.Packet) + "\nsent " + hexed(query.Ack) + "\nhanded 0 1 7 6c6f6164 -\n\n" +
 		"deliver " + hexed(outcomes[2].Received.Ack) + " 20\nack\ncounted ack 1 7 62\n\n" +
 		"deliver " + hexed(reply) + " 20\nresponse\ncounted response 1 7 62 31\n\n" +
 		"deliver " + hexed(reply) + " 20\nignored ResponseTwice\n\n" +
@@ -121,7 +121,7 @@ func TestCallsAndReplies(t *testing.T) {
 	want = "# kitchenrue-agent record 1\nopen 62 512 512 512 1024 ignore 1024 -\nopened 1 1 1\n\n" +
 		"deliver " + hexed(fired) + " 9\nnew\nsent " + hexed(fired) + "\nevent 1 6465706c6f79 7631 0\n\n" +
 		"deliver " + hexed(fired) + " 9\nignored Seen\n\n" +
-		"deliver " + hexed(asked.Packet) + " 9\nquery\nsent " + hexed(asked.Packet) + "\nsent " + hexed(outcomes[2].Received.Ack) + "\nhanded 0 1 7 6c6f6164 -\n\n" +
+		"deliver " + hexed(query.Packet) + " 9\nquery\nsent " + hexed(query.Packet) + "\nsent " + hexed(outcomes[2].Received.Ack) + "\nhanded 0 1 7 6c6f6164 -\n\n" +
 		"deliver - 9\nrefused Wire Empty\n\ndeliver 0381a44e616d65a1 9\nrefused Wire Truncated 7\n\ndeliver 09 9\nforeign 9\n\n" +
 		"respond 0 10 31\nreplied\nsent " + hexed(reply) + "\n\nrespond 0 10 -\nrefused NoQuery\n\n"
 	if found := recorded(t, filepath.Join(folder, "b.record")); found != want {
@@ -129,18 +129,18 @@ func TestCallsAndReplies(t *testing.T) {
 	}
 }
 
-// The library forgets a query whose deadline is past, and knows no more why it isn't answered. A record says it, as docs/SPEC.md does;
-// an answer to a query that the node had forgotten is no call of it.
-func TestQueriesThatAreForgotten(t *testing.T) {
+// The library forgets a query whose deadline has passed, and then reports only that it doesn't know it. The record has
+// the reason, as docs/SPEC.md requires. A response to a query that the node forgot is not recorded.
+func TestForgottenQueries(t *testing.T) {
 	folder := t.TempDir()
-	a := opened(t, "a", folder, 1<<20, quiet)
+	a := openRecorded(t, "a", folder, 1<<20, noLog)
 	var numbers []uint64
 	for _, timeout := range []time.Duration{10, 10, 1000} {
-		asked, err := a.Query(5, 7, []byte("load"), nil, serfagent.QueryParams{Timeout: timeout})
+		query, err := a.Query(5, 7, []byte("load"), nil, serfagent.QueryParams{Timeout: timeout})
 		if err != nil {
 			t.Fatal(err)
 		}
-		numbers = append(numbers, asked.Query.Number)
+		numbers = append(numbers, query.Query.Number)
 	}
 	reply, err := a.Respond(6, numbers[0], nil)
 	if err != nil {
@@ -165,7 +165,7 @@ func TestQueriesThatAreForgotten(t *testing.T) {
 
 func TestStatesClocksAndLives(t *testing.T) {
 	folder := t.TempDir()
-	a, b := opened(t, "a", folder, 1<<20, quiet), opened(t, "b", folder, 1<<20, quiet)
+	a, b := openRecorded(t, "a", folder, 1<<20, noLog), openRecorded(t, "b", folder, 1<<20, noLog)
 	if _, err := fire(a, "x", "", false); err != nil {
 		t.Fatal(err)
 	}
@@ -186,7 +186,7 @@ func TestStatesClocksAndLives(t *testing.T) {
 	}
 	testkit.Check(t, b.Compact())
 	b.Close()
-	opened(t, "b", folder, 1<<20, quiet)
+	openRecorded(t, "b", folder, 1<<20, noLog)
 	observed := func(time uint64) string { return fmt.Sprintf("merge 0281a54c54696d65cf%016x sync\nmerged\n\n", time+1) }
 	want := "# kitchenrue-agent record 1\nopen 62 512 512 512 1024 ignore 1024 -\nopened 1 1 1\n\n" +
 		fmt.Sprintf("merge %x sync\nmerged\nevent 1 78 - 0\n\n", state) + "merge 0380 join\nrefused NotPushPull\n\n" +
@@ -201,9 +201,9 @@ func TestStatesClocksAndLives(t *testing.T) {
 	}
 }
 
-func TestFilesTurnOver(t *testing.T) {
+func TestRotation(t *testing.T) {
 	folder := t.TempDir()
-	a := opened(t, "a", folder, 1<<12, quiet)
+	a := openRecorded(t, "a", folder, 1<<12, noLog)
 	for i := 0; i < 1000; i++ {
 		if _, err := fire(a, "x", "y", false); err != nil {
 			t.Fatal(err)
@@ -211,7 +211,7 @@ func TestFilesTurnOver(t *testing.T) {
 	}
 	path := filepath.Join(folder, "a.record")
 	last := uint64(0)
-	for number := Kept; number >= 0; number-- {
+	for number := KeptFiles; number >= 0; number-- {
 		name := path
 		if number > 0 {
 			name = fmt.Sprint(path, ".", number)
@@ -222,7 +222,7 @@ func TestFilesTurnOver(t *testing.T) {
 		if _, err := fmt.Sscanf(text[strings.Index(text, "opened"):], "opened 1 %d 1", &first); err != nil || !strings.HasPrefix(text, head) {
 			t.Fatalf("%s: %v %.200s", name, err, text)
 		}
-		if number < Kept && first != last+1 {
+		if number < KeptFiles && first != last+1 {
 			t.Errorf("%s begins at %d, and %d was before", name, first, last)
 		}
 		last = first + uint64(strings.Count(text, "\nfired ")) - 1
@@ -231,25 +231,25 @@ func TestFilesTurnOver(t *testing.T) {
 		}
 	}
 	if last != 1000 {
-		t.Errorf("it ends at %d", last)
+		t.Errorf("the last event is %d", last)
 	}
 	if _, err := os.Stat(path + ".9"); !errors.Is(err, os.ErrNotExist) {
-		t.Error("the oldest goes", err)
+		t.Error("the oldest file is kept", err)
 	}
 }
 
-func TestRecordsThatCannotBe(t *testing.T) {
+func TestUnusableRecords(t *testing.T) {
 	folder := t.TempDir()
 	pipe := filepath.Join(folder, "pipe")
 	testkit.Must(t, syscall.Mkfifo(pipe, 0o600))
 	first, err := Open(filepath.Join(folder, "locked"), 1)
 	testkit.Must(t, err)
 	defer first.Close()
-	other := filepath.Join(folder, "other")
-	testkit.Write(t, other, "event-clock: 1\n")
+	notARecord := filepath.Join(folder, "other")
+	testkit.Write(t, notARecord, "event-clock: 1\n")
 	for path, says := range map[string]string{
 		folder: "is a directory", filepath.Join(folder, "none", "none"): "no such file", filepath.Join(folder, "locked"): "another program has",
-		pipe: "is no plain file", "/dev/null": "is no plain file", other: "is no record", "/sys/none": "permission denied",
+		pipe: "is not a regular file", "/dev/null": "is not a regular file", notARecord: "is not a record", "/sys/none": "permission denied",
 	} {
 		if file, err := Open(path, 1); err == nil || !strings.Contains(err.Error(), says) {
 			t.Errorf("%s: %v %v", path, file, err)
@@ -257,10 +257,10 @@ func TestRecordsThatCannotBe(t *testing.T) {
 	}
 }
 
-// A record that can't be written any more ends, with one line in the log, and the agent goes on.
+// A record that can't be written ends with one line in the log, and the agent continues.
 func TestFullDisk(t *testing.T) {
-	var said bytes.Buffer
-	a := opened(t, "a", t.TempDir(), 1<<20, log.New(&said, "", 0))
+	var output bytes.Buffer
+	a := openRecorded(t, "a", t.TempDir(), 1<<20, log.New(&output, "", 0))
 	full, err := os.OpenFile("/dev/full", os.O_WRONLY, 0)
 	if err != nil {
 		t.Skip(err)
@@ -272,7 +272,7 @@ func TestFullDisk(t *testing.T) {
 			t.Fatal(err)
 		}
 	}
-	if strings.Count(said.String(), "the record ends, and the agent goes on without it") != 1 {
-		t.Error(said.String())
+	if strings.Count(output.String(), "the record ends, and the agent continues without it") != 1 {
+		t.Error(output.String())
 	}
 }

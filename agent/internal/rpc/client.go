@@ -13,16 +13,18 @@ import (
 	"kitchenrue.example/serf"
 )
 
-// times are how long a client may take: to say who it is, to send the rest of a request, to take what is sent to it, to take what is
-// sent at the end, and to read why it is ended. Serf's own client may take an end that comes right behind an answer for the answer.
-type times struct{ greet, rest, send, last, linger time.Duration }
+// timeouts are how long a client may take: to finish the handshake, to send the rest of a request, to accept what is
+// sent to it, and to accept what is sent at the end. linger is the time between the last answer and the end of the
+// connection: Serf's own client may mistake an end right after an answer for the answer.
+type timeouts struct{ handshake, request, send, final, linger time.Duration }
 
-var defaultTimes = times{10 * time.Second, 10 * time.Second, 10 * time.Second, time.Second, 200 * time.Millisecond}
+var defaultTimeouts = timeouts{10 * time.Second, 10 * time.Second, 10 * time.Second, time.Second, 200 * time.Millisecond}
 
-// maxWritten is how many bytes of frames are written by one call. A longer frame is written alone.
-const maxWritten = 32 << 10
+// maxWrite is how many bytes of frames are written with one call. A longer frame is written alone.
+const maxWrite = 32 << 10
 
-// How much may wait for a client, and how many streams, monitors, queries and unanswered queries it may have.
+// Limits for each client: frames and bytes that wait to be written; streams, monitors and queries together; and queries
+// in its streams that it has not answered.
 const (
 	maxFrames     = 4096
 	maxBytes      = 8 << 20
@@ -30,125 +32,126 @@ const (
 	maxUnanswered = 1024
 )
 
-var errTooSlow = errors.New("too much waits for it")
+var errTooSlow = errors.New("too much is queued for it")
 
-// client is a connection. One goroutine reads it, and one writes what waits.
+// client is a connection. One goroutine reads requests, and one writes the frames that wait.
 type client struct {
-	server *Server
-	conn   net.Conn
-	in     *reader
-	ctx    context.Context
-	cancel context.CancelFunc
-	times  times
-	began  time.Time
+	server      *Server
+	conn        net.Conn
+	in          *reader
+	ctx         context.Context
+	cancel      context.CancelFunc
+	timeouts    timeouts
+	connectedAt time.Time
 
-	// Whether it has said which protocol it speaks, and who it is; and until when what it sends is waited for, where the connection
-	// has that moment: the reader's own.
-	isGreeted, isKnown bool
-	until              time.Time
+	// hasHandshake and isAuthenticated tell whether the client has done both. readDeadline is the connection's current
+	// deadline for reads. Only the reader uses these fields.
+	hasHandshake, isAuthenticated bool
+	readDeadline                  time.Time
 
 	mu      sync.Mutex
 	changed *sync.Cond
-	// isBusy: a request of it is being done. last is when the last one began.
-	isBusy bool
-	last   time.Time
-	frames [][]byte
-	bytes  int
-	// isWriting: somebody writes, who has until then. isLast: what waits is the last. isOver: nothing is written any more.
-	isWriting, isLast, isOver bool
-	written                   time.Time
-	streams                   map[uint64]handlers.Filters
-	stops                     map[uint64]*follower
-	asked                     map[uint64]*serf.Query
+	// isBusy is true while a request of the client runs. lastRequest is when the last one began.
+	isBusy      bool
+	lastRequest time.Time
+	frames      [][]byte
+	bytes       int
+	// isWriting is true while a goroutine writes, with writeDeadline as the connection's deadline. When isClosing is
+	// true, no frames are added. When isClosed is true, nothing more is written.
+	isWriting, isClosing, isClosed bool
+	writeDeadline                  time.Time
+	streams                        map[uint64]handlers.Filters
+	subscriptions                  map[uint64]*subscription
+	unanswered                     map[uint64]*serf.Query
 }
 
 func newClient(s *Server, conn net.Conn) *client {
 	c := &client{
-		server: s, conn: conn, isKnown: s.auth == "", times: s.times, began: time.Now(), last: time.Now(),
-		streams: map[uint64]handlers.Filters{}, stops: map[uint64]*follower{}, asked: map[uint64]*serf.Query{},
+		server: s, conn: conn, isAuthenticated: s.auth == "", timeouts: s.timeouts, connectedAt: time.Now(), lastRequest: time.Now(),
+		streams: map[uint64]handlers.Filters{}, subscriptions: map[uint64]*subscription{}, unanswered: map[uint64]*serf.Query{},
 	}
-	c.in = newReader(patient{c})
+	c.in = newReader(deadlineReader{c})
 	c.ctx, c.cancel = context.WithCancel(s.ctx)
 	c.changed = sync.NewCond(&c.mu)
 	return c
 }
 
-// read takes requests until the client ends, or is ended.
-func (c *client) read() {
-	defer c.finish()
+// readRequests runs requests until the client disconnects or is disconnected.
+func (c *client) readRequests() {
+	defer c.closeAfterQueued()
 	for {
 		err := c.request()
 		if err == nil {
 			continue
 		}
-		if errors.Is(err, errLast) {
+		if errors.Is(err, errCloseAfterAnswer) {
 			c.linger()
 		}
 		if !errors.Is(err, io.EOF) && !errors.Is(err, net.ErrClosed) && c.ctx.Err() == nil {
-			c.server.log.Printf("[WARN] agent.ipc: %v was ended: %v", c.conn.RemoteAddr(), err)
+			c.server.log.Printf("[WARN] agent.ipc: disconnected %v: %v", c.conn.RemoteAddr(), err)
 		}
 		return
 	}
 }
 
-// linger waits until a client that is to be ended has read why, and takes nothing of it meanwhile.
+// linger waits until a client has had time to read why it is disconnected. Meanwhile it reads nothing from it.
 func (c *client) linger() {
-	late := time.NewTimer(c.times.linger)
-	defer late.Stop()
+	timer := time.NewTimer(c.timeouts.linger)
+	defer timer.Stop()
 	select {
-	case <-late.C:
+	case <-timer.C:
 	case <-c.ctx.Done():
 	}
 }
 
-// errLast: the answer that waits is the last one.
-var errLast = fmt.Errorf("it asked for what it may not: %w", io.EOF)
+// errCloseAfterAnswer disconnects the client after the answer that waits. It wraps io.EOF, so that it isn't logged.
+var errCloseAfterAnswer = fmt.Errorf("the client may not continue: %w", io.EOF)
 
-// patient reads what a client sends. Of a request that has begun the rest has to come soon. (Most are there whole, and nothing is waited
-// for.)
-type patient struct{ *client }
+// deadlineReader reads from the client with deadlines: for the handshake, and for the rest of a request that has begun.
+// Most requests arrive whole.
+type deadlineReader struct{ *client }
 
-func (p patient) Read(room []byte) (int, error) {
-	var until time.Time
+func (r deadlineReader) Read(buf []byte) (int, error) {
+	var deadline time.Time
 	switch {
-	case p.isBusy:
-		until = p.last.Add(p.times.rest)
-	case !p.isGreeted || !p.isKnown:
-		until = p.began.Add(p.times.greet)
+	case r.isBusy:
+		deadline = r.lastRequest.Add(r.timeouts.request)
+	case !r.hasHandshake || !r.isAuthenticated:
+		deadline = r.connectedAt.Add(r.timeouts.handshake)
 	}
-	if until != p.until {
-		if err := p.conn.SetReadDeadline(until); err != nil {
+	if deadline != r.readDeadline {
+		if err := r.conn.SetReadDeadline(deadline); err != nil {
 			return 0, err
 		}
-		p.until = until
+		r.readDeadline = deadline
 	}
-	return p.conn.Read(room)
+	return r.conn.Read(buf)
 }
 
-// request takes one request, and does it.
+// request reads one request and runs it.
 func (c *client) request() error {
 	if _, err := c.in.in.Peek(1); err != nil {
 		return err
 	}
-	c.busy(true)
-	defer c.busy(false)
+	c.setBusy(true)
+	defer c.setBusy(false)
 	var header requestHeader
 	if err := c.in.decode(maxHeader, &header); err != nil {
 		return err
 	}
 	c.server.commands.Add(1)
-	command, is := commands[header.Command]
-	if refusal := c.refusal(header.Command, is); refusal != "" {
-		c.server.log.Printf("[WARN] agent.ipc: %v asked for %.40q: %s", c.conn.RemoteAddr(), header.Command, refusal)
-		if is && command.body != nil && c.isGreeted {
+	command, isKnown := commands[header.Command]
+	if refusal := c.refusal(header.Command, isKnown); refusal != "" {
+		c.server.log.Printf("[WARN] agent.ipc: %v requested %.40q: %s", c.conn.RemoteAddr(), header.Command, refusal)
+		if isKnown && command.body != nil && c.hasHandshake {
 			if _, err := c.in.next(maxBody); err != nil {
 				return err
 			}
 		}
-		if err := c.answer(header.Seq, errors.New(refusal)); err != nil || is && c.isGreeted {
+		if err := c.answer(header.Seq, errors.New(refusal)); err != nil || isKnown && c.hasHandshake {
 			return err
 		}
-		return errLast
+		return errCloseAfterAnswer
 	}
 	var body interface{}
 	if command.body != nil {
@@ -160,40 +163,41 @@ func (c *client) request() error {
 	return command.run(c, header.Seq, body)
 }
 
-// busy notes that a request begins, or is over.
-func (c *client) busy(is bool) {
+// setBusy notes that a request begins or ends.
+func (c *client) setBusy(isBusy bool) {
 	c.mu.Lock()
 	defer c.mu.Unlock()
-	if c.isBusy = is; is {
-		c.last = time.Now()
+	if c.isBusy = isBusy; isBusy {
+		c.lastRequest = time.Now()
 	}
 }
 
-// idleSince is since when the client asks for nothing; false where it follows or waits for something.
+// idleSince returns when the last request began. The second result is false if the client is not idle: a request, a
+// stream or a query runs, or frames wait.
 func (c *client) idleSince() (time.Time, bool) {
 	c.mu.Lock()
 	defer c.mu.Unlock()
-	return c.last, !c.isBusy && len(c.streams) == 0 && len(c.stops) == 0 && len(c.frames) == 0
+	return c.lastRequest, !c.isBusy && len(c.streams) == 0 && len(c.subscriptions) == 0 && len(c.frames) == 0
 }
 
-// refusal is why a command isn't taken now.
-func (c *client) refusal(command string, is bool) string {
+// refusal returns why a command is refused now, or "".
+func (c *client) refusal(command string, isKnown bool) string {
 	switch {
 	case command == "handshake":
 		return ""
-	case !c.isGreeted:
+	case !c.hasHandshake:
 		return "Handshake required"
 	case command == "auth":
 		return ""
-	case !c.isKnown:
+	case !c.isAuthenticated:
 		return "Authentication required"
-	case !is:
+	case !isKnown:
 		return "Unsupported command"
 	}
 	return ""
 }
 
-// answer says how a request went, and what it gave. Where nothing waits to be written, the reader writes it: nobody has to be told then.
+// answer sends the result of a request. If no frames wait, it writes the answer itself instead of waking the writer.
 func (c *client) answer(seq uint64, err error, bodies ...interface{}) error {
 	header := answerHeader{Seq: seq}
 	if err != nil {
@@ -204,16 +208,16 @@ func (c *client) answer(seq uint64, err error, bodies ...interface{}) error {
 		return err
 	}
 	c.mu.Lock()
-	if len(c.frames) > 0 || c.isWriting || c.isOver || c.isLast {
+	if len(c.frames) > 0 || c.isWriting || c.isClosed || c.isClosing {
 		c.mu.Unlock()
 		return c.queue(frame)
 	}
 	c.isWriting = true
 	c.mu.Unlock()
-	return c.writes(frame, c.times.send)
+	return c.writeFrames(frame, c.timeouts.send)
 }
 
-// send queues values for the client, which are written together.
+// send queues values as one frame.
 func (c *client) send(values ...interface{}) error {
 	frame, err := encode(values...)
 	if err != nil {
@@ -222,15 +226,15 @@ func (c *client) send(values ...interface{}) error {
 	return c.queue(frame)
 }
 
-// queue queues a frame for the client. It doesn't wait: where too much waits, the client is ended.
+// queue queues a frame. It doesn't wait: if too much waits already, the client is disconnected.
 func (c *client) queue(frame []byte) error {
 	c.mu.Lock()
 	defer c.mu.Unlock()
-	if c.isOver || c.isLast {
+	if c.isClosed || c.isClosing {
 		return net.ErrClosed
 	}
 	if len(c.frames) >= maxFrames || c.bytes+len(frame) > maxBytes {
-		c.isOver = true
+		c.isClosed = true
 		c.conn.Close()
 		c.changed.Broadcast()
 		return errTooSlow
@@ -241,128 +245,130 @@ func (c *client) queue(frame []byte) error {
 	return nil
 }
 
-// next waits for frames, and puts those that are written together into room; nothing at the end.
-func (c *client) next(room []byte) ([]byte, time.Duration) {
+// nextFrames waits for frames, and appends those that are written together to buf. It returns no bytes at the end.
+func (c *client) nextFrames(buf []byte) ([]byte, time.Duration) {
 	c.mu.Lock()
 	defer c.mu.Unlock()
-	for (c.isWriting || len(c.frames) == 0 && !c.isLast) && !c.isOver {
+	for (c.isWriting || len(c.frames) == 0 && !c.isClosing) && !c.isClosed {
 		c.changed.Wait()
 	}
-	if c.isOver {
+	if c.isClosed {
 		return nil, 0
 	}
 	c.isWriting = true
-	for len(c.frames) > 0 && (len(room) == 0 || len(room)+len(c.frames[0]) <= maxWritten) {
-		room = append(room, c.frames[0]...)
+	for len(c.frames) > 0 && (len(buf) == 0 || len(buf)+len(c.frames[0]) <= maxWrite) {
+		buf = append(buf, c.frames[0]...)
 		c.bytes -= len(c.frames[0])
 		c.frames[0] = nil
 		c.frames = c.frames[1:]
 	}
-	if c.isLast {
-		return room, c.times.last
+	if c.isClosing {
+		return buf, c.timeouts.final
 	}
-	return room, c.times.send
+	return buf, c.timeouts.send
 }
 
-// write writes what waits, until the end.
-func (c *client) write() {
-	defer c.end()
-	var room []byte
+// writeQueued writes the frames that wait, until the end.
+func (c *client) writeQueued() {
+	defer c.close()
+	var buf []byte
 	for {
-		together, length := c.next(room[:0])
-		if len(together) == 0 || c.writes(together, length) != nil {
+		frames, timeout := c.nextFrames(buf[:0])
+		if len(frames) == 0 || c.writeFrames(frames, timeout) != nil {
 			return
 		}
-		if room = together; cap(room) > 2*maxWritten {
-			room = nil
+		if buf = frames; cap(buf) > 2*maxWrite {
+			buf = nil
 		}
 	}
 }
 
-// writes writes frames, for so long at most or a quarter less, and ends the client where that fails: who writes alone calls it.
-func (c *client) writes(frames []byte, length time.Duration) error {
-	if until := time.Now().Add(length); c.written.After(until) || c.written.Before(until.Add(-length/4)) {
-		_ = c.conn.SetWriteDeadline(until)
-		c.written = until
+// writeFrames writes frames within timeout, or up to a quarter less, since it doesn't set the deadline each time. If
+// the write fails, the client is disconnected. Only the goroutine that set isWriting calls it.
+func (c *client) writeFrames(frames []byte, timeout time.Duration) error {
+	if deadline := time.Now().Add(timeout); c.writeDeadline.After(deadline) || c.writeDeadline.Before(deadline.Add(-timeout/4)) {
+		_ = c.conn.SetWriteDeadline(deadline)
+		c.writeDeadline = deadline
 	}
 	_, err := c.conn.Write(frames)
 	if err != nil {
-		c.end()
+		c.close()
 		return net.ErrClosed
 	}
 	c.mu.Lock()
 	defer c.mu.Unlock()
-	if c.isWriting = false; len(c.frames) > 0 || c.isLast {
+	if c.isWriting = false; len(c.frames) > 0 || c.isClosing {
 		c.changed.Signal()
 	}
 	return nil
 }
 
-// finish lets what waits be written, and then ends the client.
-func (c *client) finish() {
+// closeAfterQueued disconnects the client after the frames that wait are written.
+func (c *client) closeAfterQueued() {
 	c.cancel()
 	c.mu.Lock()
 	defer c.mu.Unlock()
-	c.isLast = true
+	c.isClosing = true
 	c.streams = nil
-	_ = c.conn.SetWriteDeadline(time.Now().Add(c.times.last))
+	_ = c.conn.SetWriteDeadline(time.Now().Add(c.timeouts.final))
 	c.changed.Broadcast()
 }
 
-// end ends the client at once.
-func (c *client) end() {
+// close disconnects the client at once.
+func (c *client) close() {
 	c.cancel()
 	c.mu.Lock()
 	defer c.mu.Unlock()
-	c.isOver = true
+	c.isClosed = true
 	c.frames = nil
 	c.conn.Close()
 	c.changed.Broadcast()
 }
 
-// isFull says whether the client has as many streams, monitors and queries as it may.
-func (c *client) isFull() bool {
+// hasMaxStreams reports whether the client has maxStreams streams, monitors and queries.
+func (c *client) hasMaxStreams() bool {
 	c.mu.Lock()
 	defer c.mu.Unlock()
-	return len(c.streams)+len(c.stops) >= maxStreams
+	return len(c.streams)+len(c.subscriptions) >= maxStreams
 }
 
-// follower is what sends records under a number.
-type follower struct{ stop context.CancelFunc }
+// subscription is a monitor or a query of a client, which sends records.
+type subscription struct{ stop context.CancelFunc }
 
-// follow runs what sends records under this number, until it ends or is stopped. It ends with the client.
-func (c *client) follow(seq uint64, run func(ctx context.Context)) {
+// subscribe runs a function that sends records with this sequence number, until it ends, is stopped, or the client
+// disconnects.
+func (c *client) subscribe(seq uint64, run func(ctx context.Context)) {
 	ctx, cancel := context.WithCancel(c.ctx)
-	own := &follower{cancel}
+	current := &subscription{cancel}
 	c.mu.Lock()
-	if old := c.stops[seq]; old != nil {
+	if old := c.subscriptions[seq]; old != nil {
 		old.stop()
 	}
-	c.stops[seq] = own
+	c.subscriptions[seq] = current
 	c.mu.Unlock()
-	c.server.over.Add(1)
+	c.server.running.Add(1)
 	go func() {
-		defer c.server.over.Done()
+		defer c.server.running.Done()
 		run(ctx)
 		cancel()
 		c.mu.Lock()
 		defer c.mu.Unlock()
-		if c.stops[seq] == own {
-			delete(c.stops, seq)
+		if c.subscriptions[seq] == current {
+			delete(c.subscriptions, seq)
 		}
 	}()
 }
 
-// published is an event as streams have it.
-type published struct {
+// publishedEvent is an event for the streams of all clients.
+type publishedEvent struct {
 	serf.Event
-	// number names it, where it is a query.
+	// number identifies a query in respond requests.
 	number uint64
 	record []byte
 }
 
-// after is the event's record behind this header. The record is encoded once, for whichever stream wants it first.
-func (p *published) after(header answerHeader) ([]byte, error) {
+// frameAfter returns the event's record after a header. The record is encoded only once for all streams.
+func (p *publishedEvent) frameAfter(header answerHeader) ([]byte, error) {
 	var err error
 	if p.record == nil {
 		if p.record, err = encode(recordOf(p.Event, p.number)); err != nil {
@@ -373,42 +379,42 @@ func (p *published) after(header answerHeader) ([]byte, error) {
 	return append(frame, p.record...), err
 }
 
-// publish tells this client's streams of an event.
-func (c *client) publish(e *published) {
+// publish sends an event to the client's streams whose filters match it.
+func (c *client) publish(e *publishedEvent) {
 	c.mu.Lock()
 	var seqs []uint64
 	for seq, filters := range c.streams {
-		if filters.Takes(e.Event) {
+		if filters.Matches(e.Event) {
 			seqs = append(seqs, seq)
 		}
 	}
-	if query, is := e.Event.(*serf.Query); is && len(seqs) > 0 {
-		c.remember(e.number, query)
+	if query, ok := e.Event.(*serf.Query); ok && len(seqs) > 0 {
+		c.rememberQuery(e.number, query)
 	}
 	c.mu.Unlock()
 	for _, seq := range seqs {
-		frame, err := e.after(answerHeader{Seq: seq})
+		frame, err := e.frameAfter(answerHeader{Seq: seq})
 		if err == nil {
 			err = c.queue(frame)
 		}
 		if err != nil {
 			if errors.Is(err, errTooSlow) {
-				c.server.log.Printf("[WARN] agent.ipc: %v was ended: %v", c.conn.RemoteAddr(), err)
+				c.server.log.Printf("[WARN] agent.ipc: disconnected %v: %v", c.conn.RemoteAddr(), err)
 			}
 			return
 		}
 	}
 }
 
-// remember keeps a query that the client may answer, and forgets those whose time is over.
-func (c *client) remember(number uint64, query *serf.Query) {
+// rememberQuery keeps a query that the client may answer, and forgets those whose deadline has passed.
+func (c *client) rememberQuery(number uint64, query *serf.Query) {
 	now := time.Now()
-	for number, one := range c.asked {
-		if now.After(one.Deadline()) {
-			delete(c.asked, number)
+	for number, open := range c.unanswered {
+		if now.After(open.Deadline()) {
+			delete(c.unanswered, number)
 		}
 	}
-	if len(c.asked) < maxUnanswered {
-		c.asked[number] = query
+	if len(c.unanswered) < maxUnanswered {
+		c.unanswered[number] = query
 	}
 }

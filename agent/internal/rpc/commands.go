@@ -17,20 +17,21 @@ import (
 	"kitchenrue.example/serf"
 )
 
-// command is what a request asks for: its body, where it has one, and what is done. An error ends the client.
+// command is a command of the protocol: how to make its body, if it has one, and how to run it. An error disconnects
+// the client.
 type command struct {
 	body func() interface{}
 	run  func(c *client, seq uint64, body interface{}) error
 }
 
-func with[B any](run func(c *client, seq uint64, body *B) error) command {
+func withBody[B any](run func(c *client, seq uint64, body *B) error) command {
 	return command{
 		func() interface{} { return new(B) },
 		func(c *client, seq uint64, body interface{}) error { return run(c, seq, body.(*B)) },
 	}
 }
 
-func alone(run func(c *client, seq uint64) error) command {
+func withoutBody(run func(c *client, seq uint64) error) command {
 	return command{nil, func(c *client, seq uint64, _ interface{}) error { return run(c, seq) }}
 }
 
@@ -38,58 +39,60 @@ var commands map[string]command
 
 func init() {
 	commands = map[string]command{
-		"handshake":        with((*client).handshake),
-		"auth":             with((*client).authenticate),
-		"event":            with((*client).event),
-		"force-leave":      with((*client).forceLeave),
-		"join":             with((*client).join),
-		"members":          alone((*client).members),
-		"members-filtered": with((*client).filtered),
-		"tags":             with((*client).tags),
-		"stream":           with((*client).stream),
-		"monitor":          with((*client).monitor),
-		"stop":             with((*client).stop),
-		"leave":            alone((*client).leave),
-		"query":            with((*client).query),
-		"respond":          with((*client).respond),
-		"install-key":      keyed((*serf.KeyManager).InstallKey),
-		"use-key":          keyed((*serf.KeyManager).UseKey),
-		"remove-key":       keyed((*serf.KeyManager).RemoveKey),
-		"list-keys":        alone((*client).keys),
-		"stats":            alone((*client).stats),
-		"get-coordinate":   with((*client).coordinate),
+		"handshake":        withBody((*client).handshake),
+		"auth":             withBody((*client).authenticate),
+		"event":            withBody((*client).event),
+		"force-leave":      withBody((*client).forceLeave),
+		"join":             withBody((*client).join),
+		"members":          withoutBody((*client).members),
+		"members-filtered": withBody((*client).membersFiltered),
+		"tags":             withBody((*client).tags),
+		"stream":           withBody((*client).stream),
+		"monitor":          withBody((*client).monitor),
+		"stop":             withBody((*client).stop),
+		"leave":            withoutBody((*client).leave),
+		"query":            withBody((*client).query),
+		"respond":          withBody((*client).respond),
+		"install-key":      keyCommand((*serf.KeyManager).InstallKey),
+		"use-key":          keyCommand((*serf.KeyManager).UseKey),
+		"remove-key":       keyCommand((*serf.KeyManager).RemoveKey),
+		"list-keys":        withoutBody((*client).listKeys),
+		"stats":            withoutBody((*client).stats),
+		"get-coordinate":   withBody((*client).coordinate),
 	}
 }
 
-func keyed(does func(*serf.KeyManager, string) (*serf.KeyResponse, error)) command {
-	return with(func(c *client, seq uint64, body *keyBody) error {
-		return c.key(seq, func() (*serf.KeyResponse, error) { return does(c.server.backend.KeyManager(), body.Key) })
+func keyCommand(operation func(*serf.KeyManager, string) (*serf.KeyResponse, error)) command {
+	return withBody(func(c *client, seq uint64, body *keyBody) error {
+		return c.answerKeys(seq, func() (*serf.KeyResponse, error) { return operation(c.server.backend.KeyManager(), body.Key) })
 	})
 }
 
-func (c *client) keys(seq uint64) error { return c.key(seq, c.server.backend.KeyManager().ListKeys) }
+func (c *client) listKeys(seq uint64) error {
+	return c.answerKeys(seq, c.server.backend.KeyManager().ListKeys)
+}
 
 func (c *client) handshake(seq uint64, body *handshakeBody) error {
 	switch {
 	case body.Version != 1:
 		return c.answer(seq, errors.New("Unsupported IPC version"))
-	case c.isGreeted:
+	case c.hasHandshake:
 		return c.answer(seq, errors.New("Handshake already performed"))
 	}
-	c.isGreeted = true
+	c.hasHandshake = true
 	return c.answer(seq, nil)
 }
 
-// authenticate ends a client that says a wrong token, behind the answer.
+// authenticate disconnects a client with a wrong token after the answer.
 func (c *client) authenticate(seq uint64, body *authBody) error {
 	if c.server.auth == "" || subtle.ConstantTimeCompare([]byte(body.AuthKey), []byte(c.server.auth)) == 1 {
-		c.isKnown = true
+		c.isAuthenticated = true
 		return c.answer(seq, nil)
 	}
 	if err := c.answer(seq, errors.New("Invalid authentication token")); err != nil {
 		return err
 	}
-	return errLast
+	return errCloseAfterAnswer
 }
 
 func (c *client) event(seq uint64, body *eventBody) error {
@@ -101,16 +104,17 @@ func (c *client) forceLeave(seq uint64, body *forceLeaveBody) error {
 }
 
 func (c *client) join(seq uint64, body *joinBody) error {
-	return c.outlasted(func() func() error {
+	return c.runDetached(func() func() error {
 		count, err := c.server.backend.Join(body.Existing, body.Replay)
 		return func() error { return c.answer(seq, err, joinAnswer{int32(count)}) }
 	})
 }
 
-// outlasted does what may last, and answers then. The end of the agent doesn't wait for it.
-func (c *client) outlasted(done func() (answer func() error)) error {
+// runDetached runs an operation that may take long, and then answers. When the agent ends, it doesn't wait for the
+// operation.
+func (c *client) runDetached(operation func() (answer func() error)) error {
 	answers := make(chan func() error, 1)
-	go func() { answers <- done() }()
+	go func() { answers <- operation() }()
 	select {
 	case answer := <-answers:
 		return answer()
@@ -123,56 +127,56 @@ func (c *client) members(seq uint64) error {
 	return c.answer(seq, nil, membersAnswer{membersOf(c.server.backend.Members())})
 }
 
-func (c *client) filtered(seq uint64, body *filteredBody) error {
-	found, err := filteredMembers(c.server.backend.Members(), body)
+func (c *client) membersFiltered(seq uint64, body *filteredBody) error {
+	members, err := filterMembers(c.server.backend.Members(), body)
 	if err != nil {
-		// (the command line waits for a list behind an error, too)
+		// After an error, too, the command line reads a list.
 		return c.answer(seq, err, membersAnswer{})
 	}
-	return c.answer(seq, nil, membersAnswer{membersOf(found)})
+	return c.answer(seq, nil, membersAnswer{membersOf(members)})
 }
 
-// anchored compiles an expression that has to match the whole text.
-func anchored(text string) (*regexp.Regexp, error) {
-	found, err := regexp.Compile("^(?:" + text + ")$")
+// compileAnchored compiles an expression that has to match the whole text.
+func compileAnchored(text string) (*regexp.Regexp, error) {
+	expression, err := regexp.Compile("^(?:" + text + ")$")
 	if err != nil {
 		return nil, fmt.Errorf("Failed to compile regex: %w", err)
 	}
-	return found, nil
+	return expression, nil
 }
 
-func filteredMembers(all []serf.Member, by *filteredBody) ([]serf.Member, error) {
+func filterMembers(members []serf.Member, filter *filteredBody) ([]serf.Member, error) {
 	var tests []func(*serf.Member) bool
-	add := func(text string, of func(*serf.Member) string) error {
-		expression, err := anchored(text)
-		tests = append(tests, func(one *serf.Member) bool { return expression.MatchString(of(one)) })
+	add := func(text string, value func(*serf.Member) string) error {
+		expression, err := compileAnchored(text)
+		tests = append(tests, func(member *serf.Member) bool { return expression.MatchString(value(member)) })
 		return err
 	}
-	for key, text := range by.Tags {
+	for key, text := range filter.Tags {
 		key := key
-		if err := add(text, func(one *serf.Member) string { return one.Tags[key] }); err != nil {
+		if err := add(text, func(member *serf.Member) string { return member.Tags[key] }); err != nil {
 			return nil, err
 		}
 	}
-	if by.Status != "" {
-		if err := add(by.Status, func(one *serf.Member) string { return one.Status.String() }); err != nil {
+	if filter.Status != "" {
+		if err := add(filter.Status, func(member *serf.Member) string { return member.Status.String() }); err != nil {
 			return nil, err
 		}
 	}
-	if by.Name != "" {
-		if err := add(by.Name, func(one *serf.Member) string { return one.Name }); err != nil {
+	if filter.Name != "" {
+		if err := add(filter.Name, func(member *serf.Member) string { return member.Name }); err != nil {
 			return nil, err
 		}
 	}
 	var found []serf.Member
 next:
-	for i := range all {
+	for i := range members {
 		for _, test := range tests {
-			if !test(&all[i]) {
+			if !test(&members[i]) {
 				continue next
 			}
 		}
-		found = append(found, all[i])
+		found = append(found, members[i])
 	}
 	return found, nil
 }
@@ -181,15 +185,15 @@ func (c *client) tags(seq uint64, body *tagsBody) error {
 	return c.answer(seq, c.server.backend.UpdateTags(body.Tags, body.DeleteTags))
 }
 
-var errFull = fmt.Errorf("a client has at most %d streams, monitors and queries", maxStreams)
+var errTooManyStreams = fmt.Errorf("a client has at most %d streams, monitors and queries", maxStreams)
 
 func (c *client) stream(seq uint64, body *streamBody) error {
 	filters, err := handlers.ParseFilters(body.Type)
 	if err != nil {
 		return c.answer(seq, errors.New("Invalid event filter"))
 	}
-	if c.isFull() {
-		return c.answer(seq, errFull)
+	if c.hasMaxStreams() {
+		return c.answer(seq, errTooManyStreams)
 	}
 	if err := c.answer(seq, nil); err != nil {
 		return err
@@ -207,25 +211,25 @@ func (c *client) stream(seq uint64, body *streamBody) error {
 
 func (c *client) monitor(seq uint64, body *monitorBody) error {
 	name := strings.ToUpper(body.LogLevel)
-	level, is := logs.LevelOf(name)
-	if !is {
+	level, ok := logs.LevelOf(name)
+	if !ok {
 		return c.answer(seq, fmt.Errorf("Unknown log level: %s", name))
 	}
-	if c.isFull() {
-		return c.answer(seq, errFull)
+	if c.hasMaxStreams() {
+		return c.answer(seq, errTooManyStreams)
 	}
 	if err := c.answer(seq, nil); err != nil {
 		return err
 	}
 	follower := c.server.log.Follow(level)
-	c.follow(seq, func(ctx context.Context) {
+	c.subscribe(seq, func(ctx context.Context) {
 		defer follower.Close()
 		for {
 			select {
 			case <-ctx.Done():
 				return
 			case line := <-follower.Lines:
-				if c.send(answerHeader{Seq: seq}, logRecord{line}) != nil {
+				if c.send(answerHeader{Seq: seq}, logLine{line}) != nil {
 					return
 				}
 			}
@@ -237,7 +241,7 @@ func (c *client) monitor(seq uint64, body *monitorBody) error {
 func (c *client) stop(seq uint64, body *stopBody) error {
 	c.mu.Lock()
 	delete(c.streams, body.Stop)
-	if stop := c.stops[body.Stop]; stop != nil {
+	if stop := c.subscriptions[body.Stop]; stop != nil {
 		stop.stop()
 	}
 	c.mu.Unlock()
@@ -245,29 +249,29 @@ func (c *client) stop(seq uint64, body *stopBody) error {
 }
 
 func (c *client) leave(seq uint64) error {
-	// (the client's end doesn't end it)
+	// The leave continues if the client disconnects.
 	err := c.server.backend.Leave()
-	answered := c.answer(seq, err)
+	answerErr := c.answer(seq, err)
 	if err == nil {
 		c.server.backend.Shutdown()
 	}
-	return answered
+	return answerErr
 }
 
 func (c *client) query(seq uint64, body *queryBody) error {
-	if c.isFull() {
-		return c.answer(seq, errFull)
+	if c.hasMaxStreams() {
+		return c.answer(seq, errTooManyStreams)
 	}
-	asked, err := c.server.backend.Query(body.Name, body.Payload, &serf.QueryParam{
+	response, err := c.server.backend.Query(body.Name, body.Payload, &serf.QueryParam{
 		FilterNodes: body.FilterNodes, FilterTags: body.FilterTags, RequestAck: body.RequestAck, RelayFactor: body.RelayFactor,
 		Timeout: time.Duration(body.Timeout),
 	})
-	if err := c.answer(seq, err); err != nil || asked == nil {
+	if err := c.answer(seq, err); err != nil || response == nil {
 		return err
 	}
-	c.follow(seq, func(ctx context.Context) {
-		defer asked.Close()
-		for record, more := nextRecord(ctx, asked); ; record, more = nextRecord(ctx, asked) {
+	c.subscribe(seq, func(ctx context.Context) {
+		defer response.Close()
+		for record, more := nextRecord(ctx, response); ; record, more = nextRecord(ctx, response) {
 			if ctx.Err() != nil || c.send(answerHeader{Seq: seq}, record) != nil || !more {
 				return
 			}
@@ -276,44 +280,44 @@ func (c *client) query(seq uint64, body *queryBody) error {
 	return nil
 }
 
-// nextRecord waits for what comes of a query next; false beside its last record.
-func nextRecord(ctx context.Context, asked *serf.QueryResponse) (queryRecord, bool) {
-	acks, responses := asked.AckCh(), asked.ResponseCh()
+// nextRecord waits for the next ack or response to a query. The second result is false for the last record.
+func nextRecord(ctx context.Context, response *serf.QueryResponse) (queryResult, bool) {
+	acks, responses := response.AckCh(), response.ResponseCh()
 	for acks != nil || responses != nil {
 		select {
 		case <-ctx.Done():
-			return queryRecord{}, false
-		case from, more := <-acks:
-			if more {
-				return queryRecord{"ack", from, nil}, true
+			return queryResult{}, false
+		case from, ok := <-acks:
+			if ok {
+				return queryResult{"ack", from, nil}, true
 			}
 			acks = nil
 		case answer, more := <-responses:
 			if more {
-				return queryRecord{"response", answer.From, answer.Payload}, true
+				return queryResult{"response", answer.From, answer.Payload}, true
 			}
 			responses = nil
 		}
 	}
-	return queryRecord{Type: "done"}, false
+	return queryResult{Type: "done"}, false
 }
 
 func (c *client) respond(seq uint64, body *respondBody) error {
 	c.mu.Lock()
-	asked := c.asked[body.ID]
-	delete(c.asked, body.ID)
+	query := c.unanswered[body.ID]
+	delete(c.unanswered, body.ID)
 	c.mu.Unlock()
-	if asked == nil {
+	if query == nil {
 		return c.answer(seq, errors.New("No pending queries matching ID"))
 	}
-	return c.answer(seq, asked.Respond(body.Payload))
+	return c.answer(seq, query.Respond(body.Payload))
 }
 
-func (c *client) key(seq uint64, does func() (*serf.KeyResponse, error)) error {
-	return c.outlasted(func() func() error {
-		found, err := does()
+func (c *client) answerKeys(seq uint64, operation func() (*serf.KeyResponse, error)) error {
+	return c.runDetached(func() func() error {
+		response, err := operation()
 		return func() error {
-			return c.answer(seq, err, keyAnswer{found.Messages, found.NumErr, found.NumNodes, found.NumResp, found.Keys})
+			return c.answer(seq, err, keyAnswer{response.Messages, response.NumErr, response.NumNodes, response.NumResp, response.Keys})
 		}
 	})
 }
@@ -322,11 +326,11 @@ func (c *client) stats(seq uint64) error {
 	return c.answer(seq, nil, c.server.backend.Stats())
 }
 
-// coordinate says where a node is; of one that isn't known nothing but that.
+// coordinate returns a node's coordinate, or that it is not known.
 func (c *client) coordinate(seq uint64, body *coordinateBody) error {
-	at, is := c.server.backend.Coordinate(body.Node)
-	if !is {
-		at = &coordinate.Coordinate{}
+	position, isKnown := c.server.backend.Coordinate(body.Node)
+	if !isKnown {
+		position = &coordinate.Coordinate{}
 	}
-	return c.answer(seq, nil, coordinateAnswer{*at, is})
+	return c.answer(seq, nil, coordinateAnswer{*position, isKnown})
 }

@@ -18,47 +18,47 @@ func TestCommands(t *testing.T) {
 	s, f, _ := start(t, "")
 	f.withNode(t)
 	p := dial(t, s).greet()
-	p.says(p.ask("handshake", handshakeBody{1}), "Handshake already performed")
-	p.says(p.ask("handshake", handshakeBody{2}), "Unsupported IPC version")
-	p.says(p.ask("auth", authBody{"any"}), "")
-	p.says(p.ask("event", eventBody{Name: "deploy", Payload: []byte("v1")}), "")
-	p.says(p.ask("event", eventBody{Name: "large"}), "user event exceeds its limit")
-	p.says(p.ask("force-leave", forceLeaveBody{Node: "beta"}), "")
-	p.says(p.ask("tags", tagsBody{}), "")
+	p.expect(p.ask("handshake", handshakeBody{1}), "Handshake already performed")
+	p.expect(p.ask("handshake", handshakeBody{2}), "Unsupported IPC version")
+	p.expect(p.ask("auth", authBody{"any"}), "")
+	p.expect(p.ask("event", eventBody{Name: "deploy", Payload: []byte("v1")}), "")
+	p.expect(p.ask("event", eventBody{Name: "large"}), "user event exceeds its limit")
+	p.expect(p.ask("force-leave", forceLeaveBody{Node: "beta"}), "")
+	p.expect(p.ask("tags", tagsBody{}), "")
 	var count joinAnswer
-	p.says(p.ask("join", joinBody{Existing: []string{"a", "b"}}), "")
+	p.expect(p.ask("join", joinBody{Existing: []string{"a", "b"}}), "")
 	if p.read(&count); count.Num != 2 {
 		t.Error(count)
 	}
-	p.says(p.ask("join", joinBody{}), "nobody was joined")
+	p.expect(p.ask("join", joinBody{}), "nobody was joined")
 	if p.read(&count); count.Num != 0 {
 		t.Error(count)
 	}
 	var keys keyAnswer
-	p.says(p.ask("list-keys"), "")
+	p.expect(p.ask("list-keys"), "")
 	if p.read(&keys); keys.NumNodes != 1 || keys.Keys[base64.StdEncoding.EncodeToString(make([]byte, 32))] != 1 {
 		t.Error(keys)
 	}
-	p.says(p.ask("install-key", keyBody{"%"}), "illegal base64 data at input byte 0")
+	p.expect(p.ask("install-key", keyBody{"%"}), "illegal base64 data at input byte 0")
 	p.read(&keys)
 	var stats map[string]map[string]string
-	p.says(p.ask("stats"), "")
+	p.expect(p.ask("stats"), "")
 	if p.read(&stats); stats["agent"]["name"] != "alpha" {
 		t.Error(stats)
 	}
 	var place coordinateAnswer
 	for name, want := range map[string]coordinateAnswer{"alpha": {coordinate.Coordinate{Vec: []float64{1, 2}, Height: 3}, true}, "beta": {}} {
-		p.says(p.ask("get-coordinate", coordinateBody{name}), "")
+		p.expect(p.ask("get-coordinate", coordinateBody{name}), "")
 		place = coordinateAnswer{}
 		if p.read(&place); !reflect.DeepEqual(place, want) {
 			t.Error(name, place)
 		}
 	}
-	p.says(p.ask("respond", respondBody{ID: 9}), "No pending queries matching ID")
-	p.says(p.ask("stop", stopBody{77}), "")
-	p.says(p.ask("leave"), "")
-	// (the answer comes before the end)
-	testkit.Eventually(t, "what is waited for", f.ended)
+	p.expect(p.ask("respond", respondBody{ID: 9}), "No pending queries matching ID")
+	p.expect(p.ask("stop", stopBody{77}), "")
+	p.expect(p.ask("leave"), "")
+	// The answer is sent before the agent ends.
+	testkit.Eventually(t, "the agent is shut down", f.wasShutdown)
 	if want := []string{"fire deploy v1", "fire large ", "force-leave beta", "tags", "leave"}; !reflect.DeepEqual(f.calls, want) {
 		t.Error(f.calls)
 	}
@@ -68,7 +68,7 @@ func TestMembers(t *testing.T) {
 	s, _, _ := start(t, "")
 	p := dial(t, s).greet()
 	var all membersAnswer
-	p.says(p.ask("members"), "")
+	p.expect(p.ask("members"), "")
 	p.read(&all)
 	want := []member{
 		{Name: "alpha", Addr: []byte{127, 0, 0, 1}, Port: 7946, Tags: map[string]string{"role": "web"}, Status: "alive", ProtocolMin: 1, DelegateCur: 5},
@@ -77,7 +77,7 @@ func TestMembers(t *testing.T) {
 	if !reflect.DeepEqual(all.Members, want) {
 		t.Errorf("%+v", all.Members)
 	}
-	for _, one := range []struct {
+	for _, test := range []struct {
 		by    filteredBody
 		names string
 		says  string
@@ -92,15 +92,15 @@ func TestMembers(t *testing.T) {
 		{filteredBody{Tags: map[string]string{"none": ".*"}, Status: "failed"}, "[beta]", ""},
 		{filteredBody{Name: "("}, "[]", "Failed to compile regex: error parsing regexp: missing closing ): `^(?:()$`"},
 	} {
-		p.says(p.ask("members-filtered", one.by), one.says)
+		p.expect(p.ask("members-filtered", test.by), test.says)
 		all = membersAnswer{}
 		p.read(&all)
 		names := []string{}
-		for _, one := range all.Members {
-			names = append(names, one.Name)
+		for _, member := range all.Members {
+			names = append(names, member.Name)
 		}
-		if fmt.Sprint(names) != one.names {
-			t.Errorf("%+v: %v", one.by, names)
+		if fmt.Sprint(names) != test.names {
+			t.Errorf("%+v: %v", test.by, names)
 		}
 	}
 }
@@ -108,60 +108,60 @@ func TestMembers(t *testing.T) {
 func TestStreams(t *testing.T) {
 	s, f, _ := start(t, "")
 	p := dial(t, s).greet()
-	p.says(p.ask("stream", streamBody{"foo"}), "Invalid event filter")
+	p.expect(p.ask("stream", streamBody{"foo"}), "Invalid event filter")
 	users, queries := p.ask("stream", streamBody{"user:deploy"}), uint64(0)
-	p.says(users, "")
+	p.expect(users, "")
 	queries = p.ask("stream", streamBody{"query,member-join"})
-	p.says(queries, "")
-	testkit.Eventually(t, "what is waited for", func() bool { return streams(s) == 2 })
-	one, answers := query(t, f, f.withNode(t))
+	p.expect(queries, "")
+	testkit.Eventually(t, "two streams are open", func() bool { return streams(s) == 2 })
+	query, answers := query(t, f, f.withNode(t))
 	s.Publish(serf.UserEvent{Name: "other"})
 	s.Publish(serf.UserEvent{Name: "deploy", LTime: 3, Payload: []byte("v1"), Coalesce: true})
 	s.Publish(serf.MemberEvent{Type: serf.EventMemberJoin, Members: []serf.Member{{Name: "gamma"}}})
-	s.Publish(one)
-	var user userRecord
-	p.says(users, "")
-	if p.read(&user); !reflect.DeepEqual(user, userRecord{"user", 3, "deploy", []byte("v1"), true}) {
+	s.Publish(query)
+	var user userEvent
+	p.expect(users, "")
+	if p.read(&user); !reflect.DeepEqual(user, userEvent{"user", 3, "deploy", []byte("v1"), true}) {
 		t.Error(user)
 	}
-	var joined membersRecord
-	p.says(queries, "")
+	var joined memberEvent
+	p.expect(queries, "")
 	if p.read(&joined); joined.Event != "member-join" || joined.Members[0].Name != "gamma" {
 		t.Error(joined)
 	}
-	var asked askedRecord
-	p.says(queries, "")
-	if p.read(&asked); asked.ID != 1 || asked.Name != "load" || asked.Event != "query" {
-		t.Error(asked)
+	var event queryEvent
+	p.expect(queries, "")
+	if p.read(&event); event.ID != 1 || event.Name != "load" || event.Event != "query" {
+		t.Error(event)
 	}
-	p.says(p.ask("respond", respondBody{1, []byte("0.12")}), "")
+	p.expect(p.ask("respond", respondBody{1, []byte("0.12")}), "")
 	if answer := <-answers.ResponseCh(); string(answer.Payload) != "0.12" {
 		t.Error(answer)
 	}
-	p.says(p.ask("respond", respondBody{1, nil}), "No pending queries matching ID")
-	p.says(p.ask("stop", stopBody{users}), "")
+	p.expect(p.ask("respond", respondBody{1, nil}), "No pending queries matching ID")
+	p.expect(p.ask("stop", stopBody{users}), "")
 	s.Publish(serf.UserEvent{Name: "deploy"})
-	p.says(p.ask("stop", stopBody{queries}), "")
+	p.expect(p.ask("stop", stopBody{queries}), "")
 }
 
 func TestQueries(t *testing.T) {
 	s, f, _ := start(t, "")
 	p := dial(t, s).greet()
-	p.says(p.ask("query", queryBody{Name: "large"}), "query exceeds limit of 1024 bytes")
+	p.expect(p.ask("query", queryBody{Name: "large"}), "query exceeds limit of 1024 bytes")
 	events := f.withNode(t)
 	seq := p.ask("query", queryBody{Name: "load", RequestAck: true, Timeout: int64(2 * time.Second)})
-	p.says(seq, "")
+	p.expect(seq, "")
 	go func() {
 		for e := range events {
-			if one, is := e.(*serf.Query); is {
-				_ = one.Respond([]byte("x"))
+			if query, ok := e.(*serf.Query); ok {
+				_ = query.Respond([]byte("x"))
 			}
 		}
 	}()
 	var found []string
 	for {
-		var record queryRecord
-		p.says(seq, "")
+		var record queryResult
+		p.expect(seq, "")
 		p.read(&record)
 		if found = append(found, fmt.Sprint(record.Type, record.From, string(record.Payload))); record.Type == "done" {
 			break
@@ -176,24 +176,24 @@ func TestQueries(t *testing.T) {
 func TestMonitor(t *testing.T) {
 	s, _, log := start(t, "")
 	p := dial(t, s).greet()
-	p.says(p.ask("monitor", monitorBody{"loud"}), "Unknown log level: LOUD")
+	p.expect(p.ask("monitor", monitorBody{"loud"}), "Unknown log level: LOUD")
 	log.SetFlags(0)
 	seq := p.ask("monitor", monitorBody{"warn"})
-	p.says(seq, "")
+	p.expect(seq, "")
 	log.Print("[INFO] no")
 	log.Print("[ERR] yes")
 	for {
-		var record logRecord
-		p.says(seq, "")
+		var record logLine
+		p.expect(seq, "")
 		if p.read(&record); record.Log == "[ERR] yes" {
 			break
 		}
 	}
-	p.says(p.ask("stop", stopBody{seq}), "")
-	testkit.Eventually(t, "what is waited for", func() bool { return followers(s) == 0 })
+	p.expect(p.ask("stop", stopBody{seq}), "")
+	testkit.Eventually(t, "no monitor is open", func() bool { return followers(s) == 0 })
 }
 
-func counted(s *Server, count func(*client) int) int {
+func countClients(s *Server, count func(*client) int) int {
 	s.mu.Lock()
 	defer s.mu.Unlock()
 	total := 0
@@ -205,6 +205,8 @@ func counted(s *Server, count func(*client) int) int {
 	return total
 }
 
-func streams(s *Server) int   { return counted(s, func(c *client) int { return len(c.streams) }) }
-func followers(s *Server) int { return counted(s, func(c *client) int { return len(c.stops) }) }
-func clients(s *Server) int   { return counted(s, func(*client) int { return 1 }) }
+func streams(s *Server) int { return countClients(s, func(c *client) int { return len(c.streams) }) }
+func followers(s *Server) int {
+	return countClients(s, func(c *client) int { return len(c.subscriptions) })
+}
+func clients(s *Server) int { return countClients(s, func(*client) int { return 1 }) }

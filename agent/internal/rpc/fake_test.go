@@ -17,41 +17,41 @@ import (
 	"kitchenrue.example/serf"
 )
 
-// fake is a backend that notes what it is asked for.
-type fake struct {
-	mu     sync.Mutex
-	calls  []string
-	isOver bool
-	// node answers queries and has keys, where a test has one.
+// fakeBackend is a backend that records its calls.
+type fakeBackend struct {
+	mu         sync.Mutex
+	calls      []string
+	isShutdown bool
+	// node answers queries and has keys, in tests that need one.
 	node *serf.Serf
-	// more members, for long answers
+	// Further members, for long answers.
 	more []serf.Member
-	// Where it isn't nil, a join lasts until it is closed.
+	// If it isn't nil, a join lasts until it is closed.
 	joins chan struct{}
 }
 
-func (f *fake) call(what string) {
+func (f *fakeBackend) record(what string) {
 	f.mu.Lock()
 	defer f.mu.Unlock()
 	f.calls = append(f.calls, what)
 }
 
-func (f *fake) Fire(name string, payload []byte, _ bool) error {
-	f.call("fire " + name + " " + string(payload))
+func (f *fakeBackend) Fire(name string, payload []byte, _ bool) error {
+	f.record("fire " + name + " " + string(payload))
 	if name == "large" {
 		return errors.New("user event exceeds its limit")
 	}
 	return nil
 }
 
-func (f *fake) Members() []serf.Member {
+func (f *fakeBackend) Members() []serf.Member {
 	return append([]serf.Member{
 		{Name: "alpha", Addr: net.IPv4(127, 0, 0, 1), Port: 7946, Tags: map[string]string{"role": "web"}, Status: serf.StatusAlive, ProtocolMin: 1, DelegateCur: 5},
 		{Name: "beta", Addr: net.ParseIP("::1"), Status: serf.StatusFailed},
 	}, f.more...)
 }
 
-func (f *fake) Join(existing []string, replay bool) (int, error) {
+func (f *fakeBackend) Join(existing []string, replay bool) (int, error) {
 	if f.joins != nil {
 		<-f.joins
 	}
@@ -61,43 +61,46 @@ func (f *fake) Join(existing []string, replay bool) (int, error) {
 	return len(existing), nil
 }
 
-func (f *fake) Leave() error { f.call("leave"); return nil }
+func (f *fakeBackend) Leave() error { f.record("leave"); return nil }
 
-func (f *fake) Shutdown() { f.mu.Lock(); f.isOver = true; f.mu.Unlock() }
+func (f *fakeBackend) Shutdown() { f.mu.Lock(); f.isShutdown = true; f.mu.Unlock() }
 
-func (f *fake) ended() bool {
+func (f *fakeBackend) wasShutdown() bool {
 	f.mu.Lock()
 	defer f.mu.Unlock()
-	return f.isOver
+	return f.isShutdown
 }
 
-func (f *fake) ForceLeave(name string, prune bool) error { f.call("force-leave " + name); return nil }
-
-func (f *fake) UpdateTags(set map[string]string, remove []string) error {
-	f.call("tags")
+func (f *fakeBackend) ForceLeave(name string, prune bool) error {
+	f.record("force-leave " + name)
 	return nil
 }
 
-func (f *fake) Query(name string, payload []byte, params *serf.QueryParam) (*serf.QueryResponse, error) {
-	f.call("query " + name)
+func (f *fakeBackend) UpdateTags(set map[string]string, remove []string) error {
+	f.record("tags")
+	return nil
+}
+
+func (f *fakeBackend) Query(name string, payload []byte, params *serf.QueryParam) (*serf.QueryResponse, error) {
+	f.record("query " + name)
 	if name == "large" {
 		return nil, errors.New("query exceeds limit of 1024 bytes")
 	}
 	return f.node.Query(name, payload, params)
 }
 
-func (f *fake) KeyManager() *serf.KeyManager { return f.node.KeyManager() }
+func (f *fakeBackend) KeyManager() *serf.KeyManager { return f.node.KeyManager() }
 
-func (f *fake) Coordinate(node string) (*coordinate.Coordinate, bool) {
+func (f *fakeBackend) Coordinate(node string) (*coordinate.Coordinate, bool) {
 	return &coordinate.Coordinate{Vec: []float64{1, 2}, Height: 3}, node == "alpha"
 }
 
-func (f *fake) Stats() map[string]map[string]string {
+func (f *fakeBackend) Stats() map[string]map[string]string {
 	return map[string]map[string]string{"agent": {"name": "alpha"}}
 }
 
-// withNode gives the backend a node of its own, with a key: what it hands out.
-func (f *fake) withNode(t *testing.T) <-chan serf.Event {
+// withNode gives the backend a node with a key, and returns the node's events.
+func (f *fakeBackend) withNode(t *testing.T) <-chan serf.Event {
 	t.Helper()
 	events := make(chan serf.Event, 64)
 	c := serf.DefaultConfig()
@@ -111,32 +114,32 @@ func (f *fake) withNode(t *testing.T) <-chan serf.Event {
 	return events
 }
 
-// query is a query that a node hands out.
-func query(t *testing.T, f *fake, events <-chan serf.Event) (*serf.Query, *serf.QueryResponse) {
+// query returns a query that the node hands out, and its responses.
+func query(t *testing.T, f *fakeBackend, events <-chan serf.Event) (*serf.Query, *serf.QueryResponse) {
 	t.Helper()
-	asked, err := f.node.Query("load", nil, &serf.QueryParam{RequestAck: true, Timeout: 10 * time.Second})
+	response, err := f.node.Query("load", nil, &serf.QueryParam{RequestAck: true, Timeout: 10 * time.Second})
 	testkit.Must(t, err)
 	for e := range events {
-		if one, is := e.(*serf.Query); is {
-			return one, asked
+		if q, ok := e.(*serf.Query); ok {
+			return q, response
 		}
 	}
 	return nil, nil
 }
 
-var quick = times{2 * time.Second, time.Second, time.Second, 200 * time.Millisecond, time.Millisecond}
+var testTimeouts = timeouts{2 * time.Second, time.Second, time.Second, 200 * time.Millisecond, time.Millisecond}
 
-// start begins to listen.
-func start(t *testing.T, token string) (*Server, *fake, *logs.Log) {
+// start starts a server.
+func start(t *testing.T, token string) (*Server, *fakeBackend, *logs.Log) {
 	t.Helper()
-	return startBy(t, token, quick)
+	return startWith(t, token, testTimeouts)
 }
 
-func startBy(t *testing.T, token string, times times) (*Server, *fake, *logs.Log) {
+func startWith(t *testing.T, token string, timeouts timeouts) (*Server, *fakeBackend, *logs.Log) {
 	t.Helper()
-	f := &fake{}
+	f := &fakeBackend{}
 	log := logs.New(&bytes.Buffer{}, logs.Trace)
-	s, err := listen("127.0.0.1:0", token, f, log, times)
+	s, err := listen("127.0.0.1:0", token, f, log, timeouts)
 	testkit.Must(t, err)
 	t.Cleanup(s.Close)
 	return s, f, log
@@ -172,7 +175,7 @@ func (p *peer) write(values ...interface{}) {
 	}
 }
 
-// ask asks, and gives the number of the request.
+// ask sends a request, and returns its sequence number.
 func (p *peer) ask(command string, body ...interface{}) uint64 {
 	p.t.Helper()
 	p.seq++
@@ -186,31 +189,31 @@ func (p *peer) read(to interface{}) {
 	testkit.Must(p.t, p.in.decode(1<<20, to))
 }
 
-// says expects a header of this number and error.
-func (p *peer) says(seq uint64, says string) {
+// expect expects a header with this sequence number and error.
+func (p *peer) expect(seq uint64, want string) {
 	p.t.Helper()
 	var header answerHeader
 	p.read(&header)
-	if header.Seq != seq || header.Error != says {
-		p.t.Fatalf("%+v, not %d %q", header, seq, says)
+	if header.Seq != seq || header.Error != want {
+		p.t.Fatalf("%+v, not %d %q", header, seq, want)
 	}
 }
 
 func (p *peer) greet() *peer {
 	p.t.Helper()
-	p.says(p.ask("handshake", handshakeBody{1}), "")
+	p.expect(p.ask("handshake", handshakeBody{1}), "")
 	return p
 }
 
-// isEnded expects that the connection ends soon.
-func (p *peer) isEnded() {
+// expectClosed expects that the connection ends soon.
+func (p *peer) expectClosed() {
 	p.t.Helper()
 	_ = p.conn.SetReadDeadline(time.Now().Add(30 * time.Second))
 	for {
 		if _, err := p.in.in.ReadByte(); err != nil {
 			var late net.Error
 			if errors.As(err, &late) && late.Timeout() {
-				p.t.Fatal("it isn't ended")
+				p.t.Fatal("the client isn't disconnected")
 			}
 			return
 		}

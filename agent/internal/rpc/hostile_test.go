@@ -14,57 +14,57 @@ import (
 	"kitchenrue.example/serf"
 )
 
-func TestBeforeTheGreeting(t *testing.T) {
+func TestBeforeHandshake(t *testing.T) {
 	s, f, _ := start(t, "sesame")
 	p := dial(t, s)
-	p.says(p.ask("members"), "Handshake required")
-	p.isEnded()
+	p.expect(p.ask("members"), "Handshake required")
+	p.expectClosed()
 	p = dial(t, s).greet()
-	p.says(p.ask("event", eventBody{Name: "x"}), "Authentication required")
-	p.says(p.ask("members"), "Authentication required")
-	p.says(p.ask("auth", authBody{"sesame"}), "")
-	p.says(p.ask("event", eventBody{Name: "y"}), "")
+	p.expect(p.ask("event", eventBody{Name: "x"}), "Authentication required")
+	p.expect(p.ask("members"), "Authentication required")
+	p.expect(p.ask("auth", authBody{"sesame"}), "")
+	p.expect(p.ask("event", eventBody{Name: "y"}), "")
 	if len(f.calls) != 1 {
 		t.Error(f.calls)
 	}
 	p = dial(t, s).greet()
-	p.says(p.ask("auth", authBody{"foo"}), "Invalid authentication token")
-	p.isEnded()
+	p.expect(p.ask("auth", authBody{"foo"}), "Invalid authentication token")
+	p.expectClosed()
 	p = dial(t, s).greet()
-	p.says(p.ask("nonsense"), "Authentication required")
-	p.isEnded()
+	p.expect(p.ask("nonsense"), "Authentication required")
+	p.expectClosed()
 	p = dial(t, s).greet()
-	time.Sleep(quick.greet)
-	p.isEnded()
+	time.Sleep(testTimeouts.handshake)
+	p.expectClosed()
 }
 
-// Nothing but the whole token lets a client in, once, and behind the handshake.
+// Only the whole token authenticates a client, with a single attempt, and after the handshake.
 func TestTokens(t *testing.T) {
 	s, f, _ := start(t, "sesame")
 	for _, token := range []string{"", "s", "sesam", "sesame ", "sesame\x00", "sesamesesame", "Sesame"} {
 		p := dial(t, s).greet()
-		p.says(p.ask("auth", authBody{token}), "Invalid authentication token")
-		// (a second try, with the right one, comes too late)
+		p.expect(p.ask("auth", authBody{token}), "Invalid authentication token")
+		// A second attempt with the right token is too late.
 		_, _ = p.conn.Write(encoded(t, requestHeader{"auth", 2}, authBody{"sesame"}, requestHeader{"event", 3}, eventBody{Name: "x"}))
-		p.isEnded()
+		p.expectClosed()
 	}
 	p := dial(t, s)
 	p.write(requestHeader{"auth", 1}, authBody{"sesame"}, requestHeader{"handshake", 2}, handshakeBody{1}, requestHeader{"event", 3}, eventBody{Name: "x"})
-	p.says(1, "Handshake required")
-	p.isEnded()
-	testkit.Eventually(t, "what is waited for", func() bool { return clients(s) == 0 })
+	p.expect(1, "Handshake required")
+	p.expectClosed()
+	testkit.Eventually(t, "no client is connected", func() bool { return clients(s) == 0 })
 	if len(f.calls) > 0 {
 		t.Error(f.calls)
 	}
 }
 
-// Who is ended has time to read why, and is served no more meanwhile.
-func TestTheLastAnswerIsRead(t *testing.T) {
-	patient := quick
-	patient.linger = time.Hour
-	s, _, _ := startBy(t, "sesame", patient)
+// A client that is disconnected has time to read why, and its further requests are not served.
+func TestLastAnswerIsRead(t *testing.T) {
+	slow := testTimeouts
+	slow.linger = time.Hour
+	s, _, _ := startWith(t, "sesame", slow)
 	p := dial(t, s).greet()
-	p.says(p.ask("auth", authBody{"rice"}), "Invalid authentication token")
+	p.expect(p.ask("auth", authBody{"rice"}), "Invalid authentication token")
 	p.write(requestHeader{"auth", 3}, authBody{"sesame"})
 	_ = p.conn.SetReadDeadline(time.Now().Add(200 * time.Millisecond))
 	var late net.Error
@@ -73,7 +73,7 @@ func TestTheLastAnswerIsRead(t *testing.T) {
 	}
 }
 
-func TestWhatEndsAClient(t *testing.T) {
+func TestBadRequests(t *testing.T) {
 	header := func(command string) string { return string(encoded(t, requestHeader{command, 1})) }
 	for name, bytes := range map[string]string{
 		"half a header":          "\x82\xa7Comm",
@@ -98,8 +98,8 @@ func TestWhatEndsAClient(t *testing.T) {
 		if _, err := io.WriteString(p.conn, bytes); err != nil {
 			t.Fatal(err)
 		}
-		p.isEnded()
-		testkit.Eventually(t, "what is waited for", func() bool { return clients(s) == 0 })
+		p.expectClosed()
+		testkit.Eventually(t, "no client is connected", func() bool { return clients(s) == 0 })
 		if len(f.calls) > 0 {
 			t.Errorf("%s: %v", name, f.calls)
 		}
@@ -109,24 +109,24 @@ func TestWhatEndsAClient(t *testing.T) {
 func TestUnknownCommand(t *testing.T) {
 	s, _, _ := start(t, "")
 	p := dial(t, s).greet()
-	p.says(p.ask("nonsense"), "Unsupported command")
-	p.isEnded()
+	p.expect(p.ask("nonsense"), "Unsupported command")
+	p.expectClosed()
 }
 
 func TestTooManyClients(t *testing.T) {
-	patient := quick
-	patient.greet = time.Hour
-	s, _, _ := startBy(t, "", patient)
-	stream := func(p *peer) { p.says(p.ask("stream", streamBody{"*"}), "") }
+	slow := testTimeouts
+	slow.handshake = time.Hour
+	s, _, _ := startWith(t, "", slow)
+	stream := func(p *peer) { p.expect(p.ask("stream", streamBody{"*"}), "") }
 	all := []*peer{dial(t, s), dial(t, s).greet()}
 	stream(all[1])
 	for len(all) < MaxClients {
 		all = append(all, dial(t, s).greet())
 	}
-	// (the oldest asked for something, so it isn't the one that is idle for longest)
+	// The oldest client has just sent a request, so it isn't the one that was idle the longest.
 	all[0].greet()
-	testkit.Eventually(t, "what is waited for", func() bool {
-		return counted(s, func(c *client) int {
+	testkit.Eventually(t, "no request runs", func() bool {
+		return countClients(s, func(c *client) int {
 			if c.isBusy {
 				return 1
 			}
@@ -134,7 +134,7 @@ func TestTooManyClients(t *testing.T) {
 		}) == 0
 	})
 	late := dial(t, s).greet()
-	all[2].isEnded()
+	all[2].expectClosed()
 	if clients(s) != MaxClients {
 		t.Error(clients(s))
 	}
@@ -143,8 +143,8 @@ func TestTooManyClients(t *testing.T) {
 			stream(p)
 		}
 	}
-	testkit.Eventually(t, "what is waited for", func() bool { return streams(s) == MaxClients })
-	dial(t, s).isEnded()
+	testkit.Eventually(t, "all streams are open", func() bool { return streams(s) == MaxClients })
+	dial(t, s).expectClosed()
 	if clients(s) != MaxClients {
 		t.Error(clients(s))
 	}
@@ -154,59 +154,60 @@ func TestTooManyStreams(t *testing.T) {
 	s, f, _ := start(t, "")
 	p := dial(t, s).greet()
 	for i := 0; i < maxStreams; i++ {
-		p.says(p.ask("stream", streamBody{"query"}), "")
+		p.expect(p.ask("stream", streamBody{"query"}), "")
 	}
 	for command, body := range map[string]interface{}{"stream": streamBody{"*"}, "monitor": monitorBody{"err"}, "query": queryBody{Name: "x"}} {
-		p.says(p.ask(command, body), errFull.Error())
+		p.expect(p.ask(command, body), errTooManyStreams.Error())
 	}
 	if len(f.calls) != 0 {
 		t.Error(f.calls)
 	}
-	one, _ := query(t, f, f.withNode(t))
+	query, _ := query(t, f, f.withNode(t))
 	for i := uint64(0); i < 2*maxUnanswered; i++ {
-		s.Publish(one)
-		if unanswered := counted(s, func(c *client) int { return len(c.asked) }); unanswered > maxUnanswered {
+		s.Publish(query)
+		if unanswered := countClients(s, func(c *client) int { return len(c.unanswered) }); unanswered > maxUnanswered {
 			t.Fatal(unanswered)
 		}
 	}
 }
 
-// A client that never reads is ended when too much waits for it, however long it may take; nobody waits for it.
+// A client that never reads is disconnected when too much is queued for it, even if it has a long timeout. Nothing
+// waits for it.
 func TestSlowClient(t *testing.T) {
-	patient := quick
-	patient.send = time.Hour
-	s, _, _ := startBy(t, "", patient)
+	timeouts := testTimeouts
+	timeouts.send = time.Hour
+	s, _, _ := startWith(t, "", timeouts)
 	slow, other := dial(t, s).greet(), dial(t, s).greet()
 	for _, p := range []*peer{slow, other} {
-		p.says(p.ask("stream", streamBody{"user:deploy"}), "")
+		p.expect(p.ask("stream", streamBody{"user:deploy"}), "")
 	}
-	other.says(other.ask("stop", stopBody{2}), "")
-	testkit.Eventually(t, "what is waited for", func() bool { return streams(s) == 1 })
+	other.expect(other.ask("stop", stopBody{2}), "")
+	testkit.Eventually(t, "one stream is open", func() bool { return streams(s) == 1 })
 	payload := bytes.Repeat([]byte("x"), 4000)
 	began := time.Now()
 	for i := 0; i < 10000; i++ {
 		s.Publish(serf.UserEvent{Name: "deploy", Payload: payload})
 	}
 	if length := time.Since(began); length > 10*time.Second {
-		t.Errorf("it waited %v", length)
+		t.Errorf("Publish waited %v", length)
 	}
-	testkit.Eventually(t, "what is waited for", func() bool { return clients(s) == 1 })
-	other.says(other.ask("tags", tagsBody{}), "")
+	testkit.Eventually(t, "one client is connected", func() bool { return clients(s) == 1 })
+	other.expect(other.ask("tags", tagsBody{}), "")
 }
 
-// One that takes nothing for too long is ended, too, however little waits for it.
-func TestClientThatTakesNothing(t *testing.T) {
+// A client that reads nothing for too long is disconnected, even if little is queued for it.
+func TestClientThatReadsNothing(t *testing.T) {
 	s, _, _ := start(t, "")
 	p := dial(t, s).greet()
-	p.says(p.ask("stream", streamBody{"user:deploy"}), "")
-	testkit.Eventually(t, "what is waited for", func() bool { return streams(s) == 1 })
+	p.expect(p.ask("stream", streamBody{"user:deploy"}), "")
+	testkit.Eventually(t, "one stream is open", func() bool { return streams(s) == 1 })
 	for i := 0; i < 1800; i++ {
 		s.Publish(serf.UserEvent{Name: "deploy", Payload: make([]byte, 4000)})
 	}
-	testkit.Eventually(t, "what is waited for", func() bool { return clients(s) == 0 })
+	testkit.Eventually(t, "no client is connected", func() bool { return clients(s) == 0 })
 }
 
-func TestAClientThatOnlyAsks(t *testing.T) {
+func TestClientThatOnlySends(t *testing.T) {
 	s, f, _ := start(t, "")
 	f.more = make([]serf.Member, 2000)
 	p := dial(t, s).greet()
@@ -220,13 +221,13 @@ func TestAClientThatOnlyAsks(t *testing.T) {
 		}
 	}
 	if err == nil {
-		t.Error("it isn't ended")
+		t.Error("the client isn't disconnected")
 	}
-	testkit.Eventually(t, "what is waited for", func() bool { return clients(s) == 0 })
+	testkit.Eventually(t, "no client is connected", func() bool { return clients(s) == 0 })
 }
 
-// A join of addresses at which nobody answers holds up neither others nor the end.
-func TestAJoinThatLasts(t *testing.T) {
+// A join of addresses that don't answer delays neither other clients nor the end.
+func TestSlowJoin(t *testing.T) {
 	s, f, _ := start(t, "")
 	f.joins = make(chan struct{})
 	defer close(f.joins)
@@ -234,7 +235,7 @@ func TestAJoinThatLasts(t *testing.T) {
 		dial(t, s).greet().ask("join", joinBody{Existing: make([]string, 1000)})
 	}
 	p := dial(t, s).greet()
-	p.says(p.ask("tags", tagsBody{}), "")
+	p.expect(p.ask("tags", tagsBody{}), "")
 	began := time.Now()
 	s.Close()
 	if length := time.Since(began); length > 5*time.Second {
@@ -243,7 +244,7 @@ func TestAJoinThatLasts(t *testing.T) {
 }
 
 func TestReader(t *testing.T) {
-	for _, one := range []struct {
+	for _, test := range []struct {
 		bytes string
 		err   error
 	}{
@@ -252,10 +253,10 @@ func TestReader(t *testing.T) {
 		{"\xda\xff\xff", msgpack.ErrLong}, {"\xdd\xff\xff\xff\xff", msgpack.ErrLong}, {"\xdf\xff\xff\xff\xff", msgpack.ErrLong},
 		{strings.Repeat("\x91", 8) + "\x01", nil}, {strings.Repeat("\x91", 9) + "\x01", msgpack.ErrDeep},
 	} {
-		r := newReader(strings.NewReader(one.bytes))
+		r := newReader(strings.NewReader(test.bytes))
 		value, err := r.next(64)
-		if !errors.Is(err, one.err) || err == nil && string(value) != one.bytes {
-			t.Errorf("%q: %q %v", one.bytes, value, err)
+		if !errors.Is(err, test.err) || err == nil && string(value) != test.bytes {
+			t.Errorf("%q: %q %v", test.bytes, value, err)
 		}
 	}
 }

@@ -8,7 +8,7 @@ import (
 	"kitchenrue.example/serf"
 )
 
-// What is asked and answered, with the names of the protocol.
+// The messages of the protocol. The names of the fields are part of it.
 
 type requestHeader struct {
 	Command string
@@ -90,19 +90,19 @@ type keyAnswer struct {
 	Keys                      map[string]int
 }
 
-type queryRecord struct {
+type queryResult struct {
 	Type, From string
 	Payload    []byte
 }
 
-type logRecord struct{ Log string }
+type logLine struct{ Log string }
 
-type membersRecord struct {
+type memberEvent struct {
 	Event   string
 	Members []member
 }
 
-type userRecord struct {
+type userEvent struct {
 	Event    string
 	LTime    uint64
 	Name     string
@@ -110,7 +110,7 @@ type userRecord struct {
 	Coalesce bool
 }
 
-type askedRecord struct {
+type queryEvent struct {
 	Event   string
 	ID      uint64
 	LTime   uint64
@@ -132,33 +132,33 @@ type member struct {
 	DelegateCur uint8
 }
 
-func membersOf(all []serf.Member) []member {
-	found := make([]member, 0, len(all))
-	for _, one := range all {
-		addr := one.Addr
-		if four := addr.To4(); four != nil {
-			addr = four
+func membersOf(members []serf.Member) []member {
+	list := make([]member, 0, len(members))
+	for _, m := range members {
+		addr := m.Addr
+		if ipv4 := addr.To4(); ipv4 != nil {
+			addr = ipv4
 		}
-		tags := one.Tags
+		tags := m.Tags
 		if tags == nil {
 			tags = map[string]string{}
 		}
-		found = append(found, member{
-			one.Name, addr, one.Port, tags, one.Status.String(), one.ProtocolMin, one.ProtocolMax, one.ProtocolCur,
-			one.DelegateMin, one.DelegateMax, one.DelegateCur,
+		list = append(list, member{
+			m.Name, addr, m.Port, tags, m.Status.String(), m.ProtocolMin, m.ProtocolMax, m.ProtocolCur,
+			m.DelegateMin, m.DelegateMax, m.DelegateCur,
 		})
 	}
-	return found
+	return list
 }
 
-// recordOf is what a stream says of an event. A query has a number.
+// recordOf returns the record of an event in a stream. number identifies a query.
 func recordOf(e serf.Event, number uint64) interface{} {
 	switch e := e.(type) {
 	case serf.UserEvent:
-		return userRecord{"user", uint64(e.LTime), e.Name, e.Payload, e.Coalesce}
+		return userEvent{"user", uint64(e.LTime), e.Name, e.Payload, e.Coalesce}
 	case *serf.Query:
-		return askedRecord{"query", number, uint64(e.LTime), e.Name, e.Payload}
+		return queryEvent{"query", number, uint64(e.LTime), e.Name, e.Payload}
 	}
-	about := e.(serf.MemberEvent)
-	return membersRecord{about.Type.String(), membersOf(about.Members)}
+	members := e.(serf.MemberEvent)
+	return memberEvent{members.Type.String(), membersOf(members.Members)}
 }

@@ -1,6 +1,7 @@
-// Package rpc takes the requests of the command line, by Serf's own protocol over TCP.
+// Package rpc serves requests of Serf's command line, with Serf's own protocol over TCP.
 //
-// Nothing waits for a client: one that is slow, lies, sends half a message or never says who it is is ended.
+// A client never delays the agent. A client that is slow, sends nonsense or half a message, or doesn't finish the
+// handshake is disconnected.
 package rpc
 
 import (
@@ -19,17 +20,17 @@ import (
 	"kitchenrue.example/serf"
 )
 
-// MaxClients is how many clients there may be at once.
+// MaxClients is the maximum number of clients at once.
 const MaxClients = 128
 
-// Backend is what requests ask for: a node, and what the agent has beside it.
+// Backend does what requests ask for.
 type Backend interface {
-	// Fire fires an event in the whole cluster.
+	// Fire fires an event in the cluster.
 	Fire(name string, payload []byte, coalesce bool) error
 	Members() []serf.Member
-	// Join joins by these addresses: how many were joined.
+	// Join joins the agents at these addresses, and returns how many it joined.
 	Join(existing []string, replay bool) (int, error)
-	// Leave leaves the cluster. Shutdown, which comes behind it, ends the agent and doesn't wait.
+	// Leave leaves the cluster. Shutdown is called after it, ends the agent, and doesn't wait.
 	Leave() error
 	Shutdown()
 	ForceLeave(name string, prune bool) error
@@ -37,55 +38,55 @@ type Backend interface {
 	Query(name string, payload []byte, params *serf.QueryParam) (*serf.QueryResponse, error)
 	KeyManager() *serf.KeyManager
 	Stats() map[string]map[string]string
-	// Coordinate is the last one that is known of a node.
+	// Coordinate returns the last known coordinate of a node.
 	Coordinate(node string) (*coordinate.Coordinate, bool)
 }
 
-// Server takes requests.
+// Server serves clients.
 type Server struct {
 	backend  Backend
 	log      *logs.Log
 	auth     string
-	times    times
+	timeouts timeouts
 	listener net.Listener
 	ctx      context.Context
 	stop     context.CancelFunc
-	over     sync.WaitGroup
+	running  sync.WaitGroup
 
-	// commands is how many requests came that nobody was told of yet.
+	// commands counts the requests that are not in the metrics yet.
 	commands atomic.Int64
 
 	mu      sync.Mutex
 	clients map[*client]struct{}
-	// streaming are those that may have a stream.
+	// streaming are the clients that may have a stream.
 	streaming map[*client]struct{}
-	// queries is how many queries were published, by which they are numbered.
+	// queries counts the published queries. Their numbers identify them.
 	queries uint64
 }
 
-// Listen begins to take requests. A token that isn't empty has to be said by each client.
+// Listen starts a server. If token isn't empty, clients have to send it.
 func Listen(address, token string, backend Backend, log *logs.Log) (*Server, error) {
-	return listen(address, token, backend, log, defaultTimes)
+	return listen(address, token, backend, log, defaultTimeouts)
 }
 
-func listen(address, token string, backend Backend, log *logs.Log, times times) (*Server, error) {
+func listen(address, token string, backend Backend, log *logs.Log, timeouts timeouts) (*Server, error) {
 	listener, err := net.Listen("tcp", address)
 	if err != nil {
-		return nil, fmt.Errorf("the RPC address: %w", err)
+		return nil, fmt.Errorf("-rpc-addr: %w", err)
 	}
 	ctx, stop := context.WithCancel(context.Background())
-	s := &Server{backend: backend, log: log, auth: token, times: times, listener: listener, ctx: ctx, stop: stop, clients: map[*client]struct{}{}, streaming: map[*client]struct{}{}}
-	s.over.Add(2)
+	s := &Server{backend: backend, log: log, auth: token, timeouts: timeouts, listener: listener, ctx: ctx, stop: stop, clients: map[*client]struct{}{}, streaming: map[*client]struct{}{}}
+	s.running.Add(2)
 	go s.accept()
-	go s.count()
+	go s.countCommands()
 	return s, nil
 }
 
-// Addr is where it listens.
+// Addr returns the address at which the server listens.
 func (s *Server) Addr() net.Addr { return s.listener.Addr() }
 
 func (s *Server) accept() {
-	defer s.over.Done()
+	defer s.running.Done()
 	for {
 		conn, err := s.listener.Accept()
 		if s.ctx.Err() != nil || errors.Is(err, net.ErrClosed) {
@@ -95,8 +96,8 @@ func (s *Server) accept() {
 			return
 		}
 		if err != nil {
-			// (too many open files, say: they may be fewer later)
-			s.log.Printf("[ERR] agent.ipc: no client was accepted: %v", err)
+			// For example, the process has too many open files, and may have fewer later.
+			s.log.Printf("[ERR] agent.ipc: accepting a client failed: %v", err)
 			time.Sleep(100 * time.Millisecond)
 			continue
 		}
@@ -104,13 +105,13 @@ func (s *Server) accept() {
 	}
 }
 
-// serve begins to serve a client. Where there are too many, the one that asked for nothing for longest goes; where each follows or waits
-// for something, this one is turned away.
+// serve starts to serve a client. If there are MaxClients already, the one that has been idle the longest is
+// disconnected; if none is idle, the new one is.
 func (s *Server) serve(conn net.Conn) {
 	s.mu.Lock()
 	defer s.mu.Unlock()
-	if len(s.clients) >= MaxClients && !s.makeRoom() {
-		s.log.Printf("[WARN] agent.ipc: %v was turned away: there are %d clients", conn.RemoteAddr(), MaxClients)
+	if len(s.clients) >= MaxClients && !s.closeIdlest() {
+		s.log.Printf("[WARN] agent.ipc: rejected %v: %d clients are connected", conn.RemoteAddr(), MaxClients)
 		conn.Close()
 		return
 	}
@@ -118,77 +119,79 @@ func (s *Server) serve(conn net.Conn) {
 	c := newClient(s, conn)
 	s.clients[c] = struct{}{}
 	s.log.Printf("[INFO] agent.ipc: Accepted client: %v", conn.RemoteAddr())
-	s.over.Add(2)
+	s.running.Add(2)
 	go func() {
-		defer s.over.Done()
-		c.read()
+		defer s.running.Done()
+		c.readRequests()
 		s.mu.Lock()
 		delete(s.clients, c)
 		delete(s.streaming, c)
 		s.mu.Unlock()
 	}()
 	go func() {
-		defer s.over.Done()
-		c.write()
+		defer s.running.Done()
+		c.writeQueued()
 	}()
 }
 
-// makeRoom ends the client that is idle for longest; false where none is. mu is held.
-func (s *Server) makeRoom() bool {
-	var longest *client
+// closeIdlest disconnects the client that has been idle the longest. It returns false if none is idle. mu is held.
+func (s *Server) closeIdlest() bool {
+	var idlest *client
 	var since time.Time
 	for c := range s.clients {
-		if last, isIdle := c.idleSince(); isIdle && (longest == nil || last.Before(since)) {
-			longest, since = c, last
+		if last, isIdle := c.idleSince(); isIdle && (idlest == nil || last.Before(since)) {
+			idlest, since = c, last
 		}
 	}
-	if longest == nil {
+	if idlest == nil {
 		return false
 	}
-	s.log.Printf("[WARN] agent.ipc: %v was ended: there are %d clients, and it is idle for longest", longest.conn.RemoteAddr(), MaxClients)
-	delete(s.clients, longest)
-	longest.end()
+	s.log.Printf("[WARN] agent.ipc: disconnected %v: %d clients are connected, and it was idle the longest",
+		idlest.conn.RemoteAddr(), MaxClients)
+	delete(s.clients, idlest)
+	idlest.close()
 	return true
 }
 
-// Publish tells all streams of an event. It doesn't wait.
+// Publish sends an event to all streams. It doesn't wait.
 func (s *Server) Publish(e serf.Event) {
 	s.mu.Lock()
 	defer s.mu.Unlock()
 	if e.EventType() == serf.EventQuery {
 		s.queries++
 	}
-	one := &published{Event: e, number: s.queries}
+	published := &publishedEvent{Event: e, number: s.queries}
 	for c := range s.streaming {
-		c.publish(one)
+		c.publish(published)
 	}
 }
 
-// count tells once a second how many requests came: to tell of each takes longer than to read it.
-func (s *Server) count() {
-	defer s.over.Done()
+// countCommands adds the number of requests to the metrics once a second, since a call for each request takes longer
+// than reading it.
+func (s *Server) countCommands() {
+	defer s.running.Done()
 	second := time.NewTicker(time.Second)
 	defer second.Stop()
-	for isOver := false; !isOver; {
+	for isClosed := false; !isClosed; {
 		select {
 		case <-second.C:
 		case <-s.ctx.Done():
-			isOver = true
+			isClosed = true
 		}
-		if fresh := s.commands.Swap(0); fresh > 0 {
-			metrics.IncrCounter([]string{"agent", "ipc", "command"}, float32(fresh))
+		if count := s.commands.Swap(0); count > 0 {
+			metrics.IncrCounter([]string{"agent", "ipc", "command"}, float32(count))
 		}
 	}
 }
 
-// Close ends all clients, when what waits for them is sent or a second is over.
+// Close disconnects all clients after the frames that wait are sent, or after a second.
 func (s *Server) Close() {
 	s.stop()
 	s.listener.Close()
 	s.mu.Lock()
 	for c := range s.clients {
-		c.finish()
+		c.closeAfterQueued()
 	}
 	s.mu.Unlock()
-	s.over.Wait()
+	s.running.Wait()
 }

@@ -12,96 +12,96 @@ import (
 	"kitchenrue.example/guard/msgpack"
 )
 
-// Limits of what a client may send.
+// The maximum sizes in bytes of a request's header and body.
 const (
 	maxHeader = 1 << 10
 	maxBody   = 64 << 10
 )
 
-// reader takes one value of MessagePack after another off a stream. It takes each whole, and within a limit, before the
-// library that decodes it sees it: so no length that a client claims is believed before its bytes are there.
+// reader reads MessagePack values from a stream. It reads each value whole, within a limit, before go-msgpack decodes
+// it, so that no length from a client is trusted before its bytes are there.
 type reader struct {
-	in *bufio.Reader
-	of msgpack.Reader
-	// decoder reads what stands in whole, and keeps what it found out of types.
-	whole   bytes.Reader
+	in     *bufio.Reader
+	values msgpack.Reader
+	// decoder decodes encoded. It is kept because it caches what it learned about types.
+	encoded bytes.Reader
 	decoder *codec.Decoder
 }
 
 func newReader(in io.Reader) *reader {
 	r := &reader{in: bufio.NewReaderSize(in, 4<<10)}
-	r.of.More = r.more
-	r.decoder = codec.NewDecoder(&r.whole, handle())
+	r.values.More = r.more
+	r.decoder = codec.NewDecoder(&r.encoded, handle())
 	return r
 }
 
-// decode takes the next value, and reads it into one of Go's.
+// decode reads the next value into to.
 func (r *reader) decode(limit int, to interface{}) error {
 	value, err := r.next(limit)
 	if err != nil {
 		return err
 	}
-	r.whole.Reset(value)
+	r.encoded.Reset(value)
 	if err := r.decoder.Decode(to); err != nil {
-		return fmt.Errorf("the value is of another kind: %w", err)
+		return fmt.Errorf("the value has the wrong type: %w", err)
 	}
 	return nil
 }
 
-// next gives the bytes of the next value, until the next call.
+// next returns the bytes of the next value. They are valid until the next call.
 func (r *reader) next(limit int) ([]byte, error) {
-	r.of.Data, r.of.At, r.of.Most, r.of.Err = r.of.Data[:0], 0, limit, nil
-	r.of.Skip()
-	return r.of.Data, r.of.Err
+	r.values.Data, r.values.At, r.values.Max, r.values.Err = r.values.Data[:0], 0, limit, nil
+	r.values.Skip()
+	return r.values.Data, r.values.Err
 }
 
-// more takes so many bytes of the stream.
+// more reads this many bytes from the stream.
 func (r *reader) more(count int) error {
-	from := len(r.of.Data)
-	if count > r.of.Most-from {
+	from := len(r.values.Data)
+	if count > r.values.Max-from {
 		return msgpack.ErrLong
 	}
-	r.of.Data = append(r.of.Data, make([]byte, count)...)
-	_, err := io.ReadFull(r.in, r.of.Data[from:])
+	r.values.Data = append(r.values.Data, make([]byte, count)...)
+	_, err := io.ReadFull(r.in, r.values.Data[from:])
 	return err
 }
 
-// handle is how values are written and read, as Serf has it: text is raw, and bytes are bin. A client that reads a payload or an
-// address as bytes gets no text, then.
+// handle returns the encoding of Serf's protocol: strings are raw, and bytes are bin, so that a client that expects
+// bytes gets no string.
 func handle() *codec.MsgpackHandle {
 	handle := &codec.MsgpackHandle{WriteExt: true}
 	handle.RawToString = true
 	return handle
 }
 
-// encoder writes values behind one another, and keeps what it found out of their types.
+// encoder encodes values. It is pooled because it caches what it learned about types.
 type encoder struct {
-	out  bytes.Buffer
-	into *codec.Encoder
+	out     bytes.Buffer
+	encoder *codec.Encoder
 }
 
-// encoders are those that nobody uses.
+// encoders are the encoders that are not in use.
 var encoders = sync.Pool{New: func() interface{} {
 	e := &encoder{}
-	e.into = codec.NewEncoder(&e.out, handle())
+	e.encoder = codec.NewEncoder(&e.out, handle())
 	return e
 }}
 
-// maxKept is how many bytes an encoder may keep for later.
-const maxKept = 64 << 10
+// maxPooled is the maximum size in bytes of a buffer that stays in the pool.
+const maxPooled = 64 << 10
 
-// encode writes values behind one another.
+// encode encodes values one after another.
 func encode(values ...interface{}) ([]byte, error) {
 	e := encoders.Get().(*encoder)
 	e.out.Reset()
 	for _, value := range values {
-		if err := e.into.Encode(value); err != nil {
+		if err := e.encoder.Encode(value); err != nil {
 			return nil, err
 		}
 	}
-	whole := append([]byte(nil), e.out.Bytes()...)
-	if e.out.Cap() <= maxKept {
+	data := append([]byte(nil), e.out.Bytes()...)
+	if e.out.Cap() <= maxPooled {
 		encoders.Put(e)
 	}
-	return whole, nil
+	return data, nil
 }

@@ -1,4 +1,4 @@
-// Package testkit is what the tests of the agent share.
+// Package testkit has what the agent's tests share.
 package testkit
 
 import (
@@ -10,7 +10,7 @@ import (
 	"time"
 )
 
-// Must ends a test at a fault, and Check goes on behind it.
+// Must ends the test if err is an error, and Check lets it continue.
 func Must(t testing.TB, err error) {
 	t.Helper()
 	if err != nil {
@@ -18,7 +18,7 @@ func Must(t testing.TB, err error) {
 	}
 }
 
-// Check tells of a fault.
+// Check reports an error.
 func Check(t testing.TB, err error) {
 	t.Helper()
 	if err != nil {
@@ -26,7 +26,7 @@ func Check(t testing.TB, err error) {
 	}
 }
 
-// Eventually waits until this holds.
+// Eventually waits until holds returns true. It fails after two minutes.
 func Eventually(t testing.TB, what string, holds func() bool) {
 	t.Helper()
 	for i := 0; i < 12000; i++ {
@@ -38,7 +38,7 @@ func Eventually(t testing.TB, what string, holds func() bool) {
 	t.Fatalf("never: %s", what)
 }
 
-// Read is a file's text, and Write makes a file of a text: its path.
+// Read returns a file's text.
 func Read(t testing.TB, path string) string {
 	t.Helper()
 	data, err := os.ReadFile(path)
@@ -46,30 +46,30 @@ func Read(t testing.TB, path string) string {
 	return string(data)
 }
 
-// Write makes a file.
+// Write writes a file, and returns its path.
 func Write(t testing.TB, path, text string) string {
 	t.Helper()
 	Must(t, os.WriteFile(path, []byte(text), 0o600))
 	return path
 }
 
-// Said is what a program said. Many may write.
-type Said struct {
+// Output is the output of a program. Several goroutines may write to it.
+type Output struct {
 	mu   sync.Mutex
 	text bytes.Buffer
 }
 
-func (s *Said) Write(data []byte) (int, error) {
+func (s *Output) Write(data []byte) (int, error) {
 	s.mu.Lock()
 	defer s.mu.Unlock()
 	return s.text.Write(data)
 }
 
-func (s *Said) String() string {
+func (s *Output) String() string {
 	s.mu.Lock()
 	defer s.mu.Unlock()
 	return s.text.String()
 }
 
-// Has says whether it said this.
-func (s *Said) Has(what string) bool { return strings.Contains(s.String(), what) }
+// Has reports whether the output contains a text.
+func (s *Output) Has(what string) bool { return strings.Contains(s.String(), what) }

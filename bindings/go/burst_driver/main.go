@@ -1,4 +1,4 @@
-// Bursts, of which some run out of memory, as tests/library/embed/burst_driver.c says.
+// Bursts, some of which run out of memory. tests/library/embed/burst_driver.c describes the output.
 package main
 
 import (
@@ -22,62 +22,62 @@ func open(name string) *serfagent.Agent {
 	return agent
 }
 
-func queryWords(name string, handed *serfagent.Handed, ack []byte) string {
-	if handed != nil {
-		name += fmt.Sprintf(" %d %s handed", handed.Time, handed.Name)
+func describeQuery(text string, query *serfagent.PendingQuery, ack []byte) string {
+	if query != nil {
+		text += fmt.Sprintf(" %d %s handed", query.Time, query.Name)
 	}
 	if ack != nil {
-		name += " acked"
+		text += " acked"
 	}
-	return name
+	return text
 }
 
-func wordsOf(outcome serfagent.Outcome) string {
+func describe(outcome serfagent.Outcome) string {
 	if code, ok := outcome.Err.(serfagent.Code); ok {
 		return fmt.Sprintf("refused %d", uint32(code))
 	}
 	if fired := outcome.Fired; fired != nil {
 		return fmt.Sprintf("fired %d %s", fired.Event.Time, fired.Event.Name)
 	}
-	if asked := outcome.Asked; asked != nil {
-		return queryWords("asked", asked.Query, asked.Ack)
+	if query := outcome.FiredQuery; query != nil {
+		return describeQuery("asked", query.Query, query.Ack)
 	}
-	words, received := "", outcome.Received
+	text, received := "", outcome.Received
 	switch received.Kind {
 	case serfagent.NewEvent:
-		words = fmt.Sprintf("event %d %s", received.Event.Time, received.Event.Name)
+		text = fmt.Sprintf("event %d %s", received.Event.Time, received.Event.Name)
 	case serfagent.NewQuery:
-		words = queryWords("query", received.Query, received.Ack)
+		text = describeQuery("query", received.Query, received.Ack)
 	case serfagent.Ack:
-		words = fmt.Sprintf("ack %s", received.Answer.From)
+		text = fmt.Sprintf("ack %s", received.Answer.From)
 	case serfagent.Response:
-		words = fmt.Sprintf("response %s %s", received.Answer.From, received.Answer.Payload)
+		text = fmt.Sprintf("response %s %s", received.Answer.From, received.Answer.Payload)
 	case serfagent.Ignored:
-		words = fmt.Sprintf("ignored %d", received.Reason)
+		text = fmt.Sprintf("ignored %d", received.Reason)
 	case serfagent.Foreign:
-		words = fmt.Sprintf("foreign %d", received.Foreign)
+		text = fmt.Sprintf("foreign %d", received.Foreign)
 	case serfagent.PushPull:
-		words = "state"
+		text = "state"
 	}
 	if received.Rebroadcast {
-		words += " sent on"
+		text += " sent on"
 	}
-	return words
+	return text
 }
 
-// done makes a burst and prints its outcomes.
-func done(agent *serfagent.Agent, burst *serfagent.Burst) []serfagent.Outcome {
+// runBurst makes a burst and prints its outcomes.
+func runBurst(agent *serfagent.Agent, burst *serfagent.Burst) []serfagent.Outcome {
 	outcomes, err := agent.Burst(burst)
-	end := "ok"
+	result := "ok"
 	if err == serfagent.OutOfMemory {
-		end = fmt.Sprintf("out of memory %d", len(outcomes))
-		// (the burst may be filled anew, and no other is made before these outcomes are read)
+		result = fmt.Sprintf("out of memory %d", len(outcomes))
+		// The burst may be filled again. Another one is refused until these outcomes are read.
 		burst.Reset()
-		left, err := agent.UnreadOutcomes()
+		unread, err := agent.UnreadOutcomes()
 		check(err)
-		if left > 0 {
+		if unread > 0 {
 			if _, err := agent.Burst(burst); err != serfagent.ErrUnread {
-				log.Fatal("a burst is made behind one that nobody read: ", err)
+				log.Fatal("a burst was made while outcomes were unread: ", err)
 			}
 		}
 		more, err := agent.Outcomes()
@@ -86,17 +86,17 @@ func done(agent *serfagent.Agent, burst *serfagent.Burst) []serfagent.Outcome {
 	} else {
 		check(err)
 	}
-	if left, err := agent.UnreadOutcomes(); err != nil || left != 0 {
-		log.Fatal("outcomes are left: ", left, err)
+	if unread, err := agent.UnreadOutcomes(); err != nil || unread != 0 {
+		log.Fatal("outcomes are unread: ", unread, err)
 	}
 	for _, outcome := range outcomes {
-		fmt.Println(wordsOf(outcome))
+		fmt.Println(describe(outcome))
 	}
-	fmt.Println(end)
+	fmt.Println(result)
 	return outcomes
 }
 
-func starve(third *serfagent.Agent, events [][]byte, load []byte) {
+func runStarved(third *serfagent.Agent, events [][]byte, load []byte) {
 	for i := 0; i < 2; i++ {
 		var burst serfagent.Burst
 		for _, packet := range events {
@@ -107,13 +107,13 @@ func starve(third *serfagent.Agent, events [][]byte, load []byte) {
 		filters := [][]byte{[]byte("\x00\x91\xa5" + []string{"other", "third"}[i])}
 		burst.Query(5, 9, []byte("load"), nil, serfagent.QueryParams{Timeout: 9, WantAck: true, Filters: filters})
 		burst.Receive(5, events[0], false)
-		done(third, &burst)
+		runBurst(third, &burst)
 	}
 }
 
-func takeAll(one, other *serfagent.Agent, events [][]byte, load, whole []byte) {
+func runAll(sender, receiver *serfagent.Agent, events [][]byte, load, state []byte) {
 	var burst serfagent.Burst
-	for _, packet := range [][]byte{events[0], nil, events[1], events[0], []byte("\x03\x81\xa5LTim"), load, {0}, whole} {
+	for _, packet := range [][]byte{events[0], nil, events[1], events[0], []byte("\x03\x81\xa5LTim"), load, {0}, state} {
 		burst.Receive(5, packet, false)
 	}
 	burst.Fire([]byte("own"), nil, false)
@@ -122,38 +122,38 @@ func takeAll(one, other *serfagent.Agent, events [][]byte, load, whole []byte) {
 	filters := [][]byte{[]byte("\x00\x91\xa5other")}
 	burst.Query(5, 9, []byte("load"), nil, serfagent.QueryParams{Timeout: 9, WantAck: true, Filters: filters})
 	burst.Receive(5, events[2], false)
-	outcomes := done(other, &burst)
-	reply, err := other.Respond(5, outcomes[5].Received.Query.Number, []byte("yes"))
+	outcomes := runBurst(receiver, &burst)
+	reply, err := receiver.Respond(5, outcomes[5].Received.Query.Number, []byte("yes"))
 	check(err)
 	burst.Reset()
-	done(one, &burst)
+	runBurst(sender, &burst)
 	burst.Receive(5, reply, false)
 	burst.Receive(5, reply, false)
 	for i := 0; i < 5; i++ {
 		burst.Fire([]byte("again"), nil, false)
 	}
-	done(one, &burst)
+	runBurst(sender, &burst)
 }
 
 func main() {
 	if len(os.Args) != 2 {
 		log.Fatal("burst_driver FOLDER")
 	}
-	one := open("one")
+	sender := open("one")
 	var events [][]byte
 	for i := 0; i < 5; i++ {
-		_, packet, err := one.Fire([]byte(fmt.Sprintf("e%d", i)), nil, false)
+		_, packet, err := sender.Fire([]byte(fmt.Sprintf("e%d", i)), nil, false)
 		check(err)
 		events = append(events, packet)
 	}
-	load, err := one.Query(1, 8, []byte("load"), nil, serfagent.QueryParams{Timeout: 1000, WantAck: true})
+	load, err := sender.Query(1, 8, []byte("load"), nil, serfagent.QueryParams{Timeout: 1000, WantAck: true})
 	check(err)
-	whole, err := one.LocalState(nil, nil)
+	state, err := sender.LocalState(nil, nil)
 	check(err)
-	third, other := open("third"), open("other")
-	starve(third, events, load.Packet)
-	takeAll(one, other, events, load.Packet, whole)
+	third, receiver := open("third"), open("other")
+	runStarved(third, events, load.Packet)
+	runAll(sender, receiver, events, load.Packet, state)
 	check(third.Close())
-	check(other.Close())
-	check(one.Close())
+	check(receiver.Close())
+	check(sender.Close())
 }

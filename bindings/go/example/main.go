@@ -1,9 +1,9 @@
-// Two agents in one process, joined by hand: an event is fired, comes twice, its agent crashes and comes back, and nothing is
-// handed out twice. A query is answered, and closed.
+// Two agents in one process that are joined by hand. An event is fired and arrives twice, its agent crashes and starts
+// again, and nothing is handed out twice. A query is answered, and closed.
 //
 //	go run ./example FOLDER
 //
-// FOLDER gets the two snapshots. Where they are there already, the agents go on from them.
+// FOLDER gets the two snapshots. If they exist already, the agents resume from them.
 package main
 
 import (
@@ -32,7 +32,7 @@ func open(name string) *node {
 	return &node{name, agent}
 }
 
-// handle is the handler of events: it prints them.
+// handle is the handler of events. It prints them.
 func (n *node) handle(events ...*serfagent.Event) {
 	for _, event := range events {
 		fmt.Printf("%s handed out %s %s at %d\n", n.name, event.Name, event.Payload, event.Time)
@@ -68,11 +68,11 @@ func (n *node) deliver(now uint64, packet []byte) {
 	}
 }
 
-// ask asks, and the other acks and answers.
+// ask fires a query, which the other agent acks and answers.
 func (n *node) ask(other *node, now uint64, name, answer string) {
-	asked, err := n.agent.Query(now, 7, []byte(name), nil, serfagent.QueryParams{Timeout: 1000, WantAck: true})
+	query, err := n.agent.Query(now, 7, []byte(name), nil, serfagent.QueryParams{Timeout: 1000, WantAck: true})
 	check(err)
-	received, err := other.agent.Receive(now, asked.Packet, false)
+	received, err := other.agent.Receive(now, query.Packet, false)
 	check(err)
 	n.deliver(now, received.Ack)
 	response, err := other.agent.Respond(now, received.Query.Number, []byte(answer))
@@ -80,11 +80,11 @@ func (n *node) ask(other *node, now uint64, name, answer string) {
 	n.deliver(now, response)
 }
 
-// closeDue closes what is due, and prints the answers.
+// closeDue closes the queries whose deadline has passed, and prints their answers.
 func (n *node) closeDue(now uint64) {
-	all, err := n.agent.CloseDue(now)
+	queries, err := n.agent.CloseDue(now)
 	check(err)
-	for _, closed := range all {
+	for _, closed := range queries {
 		for _, name := range closed.Acks {
 			fmt.Printf("%s acked the query of %s\n", name, n.name)
 		}
@@ -106,7 +106,7 @@ func main() {
 	beta.deliver(1, packet)
 	beta.deliver(2, packet)
 
-	// nothing is left of it but its file
+	// Only its file is left.
 	beta.agent.Close()
 	beta = open("beta")
 	clocks, err := beta.agent.Clocks()

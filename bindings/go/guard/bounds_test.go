@@ -14,10 +14,10 @@ import (
 	"github.com/hashicorp/memberlist"
 )
 
-// Behind 800 idle streams, and behind those that hold all the memory there is, an honest node joins.
+// An honest node can join while 800 streams are idle, and while streams hold all the memory that they may.
 func TestIdleStreams(t *testing.T) {
 	for _, isKeyed := range []bool{false, true} {
-		c := startChild(t, order{IsKeyed: isKeyed})
+		c := startChild(t, childOptions{IsKeyed: isKeyed})
 		hold := func(count int, bytes []byte) {
 			for n := 0; n < count; n++ {
 				conn, err := net.Dial("tcp", c.address)
@@ -31,7 +31,7 @@ func TestIdleStreams(t *testing.T) {
 		}
 		hold(800, c.sealStream(pushPull(nil, 0))[:1])
 		c.mustJoin()
-		much := append(message(kindPushPull, map[string]any{"Nodes": 0, "UserStateLen": 3 << 20, "Join": false}), zeros(3<<20-100)...)
+		much := append(message(msgPushPull, map[string]any{"Nodes": 0, "UserStateLen": 3 << 20, "Join": false}), zeros(3<<20-100)...)
 		if isKeyed {
 			much = sealStreamWith(testKey, much)
 			much = much[:len(much)-1]
@@ -41,12 +41,12 @@ func TestIdleStreams(t *testing.T) {
 		if drops := c.drops(); drops["crowded"] < 800-128 {
 			t.Errorf("%v", drops)
 		}
-		t.Logf("%d KiB at most", c.peak())
+		t.Logf("%d KiB at most", c.peakKiB())
 	}
 }
 
-// As many push/pulls as may be, or as there is room for their answers, wait for nobody; one more waits for one that ends, and then for the
-// oldest to give way.
+// As many push/pulls as the bounds allow start at once. One more waits until another ends, or until the oldest has had
+// its time and is closed.
 func TestPushPulls(t *testing.T) {
 	three := func(string) (int, bool) { return 3, false }
 	for _, settings := range []Settings{{PushPulls: 2}, {StreamBytes: 8000, AllBytes: 8000, Known: three}} {
@@ -54,15 +54,15 @@ func TestPushPulls(t *testing.T) {
 	}
 }
 
-// One by itself goes on, though its answer takes more than there is room for.
-func TestALongAnswer(t *testing.T) {
+// A push/pull without any others starts even if its answer exceeds the bound.
+func TestLongAnswer(t *testing.T) {
 	g := testGuard(t, false, Settings{StreamBytes: 8000, AllBytes: 8000, Known: func(string) (int, bool) { return 100, false }})
 	if whole := pushPull(nil, 0); !bytes.Equal(readStream(g, whole, false), whole) {
-		t.Errorf("it doesn't come: %v", g.Drops())
+		t.Errorf("it was refused: %v", g.Drops())
 	}
 }
 
-// pushPulls tries a guard that has two of them go on at once.
+// pushPulls tests settings that allow two push/pulls at once.
 func pushPulls(t *testing.T, settings Settings) {
 	g := testGuard(t, false, settings)
 	whole := pushPull(nil, 0)
@@ -70,35 +70,35 @@ func pushPulls(t *testing.T, settings Settings) {
 		here, there := net.Pipe()
 		go there.Write(whole)
 		s, done := g.newStream(here, false), make(chan int, 1)
-		g.streams.enter(s)
+		g.streams.add(s)
 		s.SetDeadline(time.Now().Add(60 * time.Second))
 		go func() {
 			n, _ := s.Read(make([]byte, 1000))
 			done <- n
-			<-s.gone
+			<-s.done
 			s.Close()
 		}()
 		return s, done
 	}
 	first, done := start()
 	if <-done != len(whole) {
-		t.Fatal("the first doesn't come")
+		t.Fatal("the first one isn't read")
 	}
 	second, done := start()
 	<-done
 	third, done := start()
 	second.Close()
 	if <-done != len(whole) {
-		t.Error("nothing comes where one ended")
+		t.Error("none starts after another one ended")
 	}
 	_, done = start()
 	if <-done != len(whole) {
-		t.Error("nothing comes where the oldest has had its time")
+		t.Error("none starts after the oldest one has had its time")
 	}
 	select {
-	case <-first.gone:
+	case <-first.done:
 	default:
-		t.Error("the oldest didn't give way")
+		t.Error("the oldest wasn't closed")
 	}
 	third.Close()
 	if drops := g.Drops(); !reflect.DeepEqual(drops, map[Reason]uint64{Crowded: 1}) {
@@ -106,75 +106,76 @@ func pushPulls(t *testing.T, settings Settings) {
 	}
 }
 
-// Where there is no room for a stream, the unfinished one that holds most gives way.
-func TestRoom(t *testing.T) {
+// If there is no room for a stream, the incomplete one that holds the most is closed.
+func TestEviction(t *testing.T) {
 	g := testGuard(t, false, Settings{StreamBytes: 8000, AllBytes: 8000})
-	user := func(n int) []byte { return append(message(kindUser, map[string]any{"UserMsgLen": n}), zeros(n)...) }
+	user := func(n int) []byte { return append(message(msgUser, map[string]any{"UserMsgLen": n}), zeros(n)...) }
 	here, there := net.Pipe()
 	first := g.newStream(here, false)
-	g.streams.enter(first)
+	g.streams.add(first)
 	go there.Write(user(7000)[:6000])
 	go func() {
 		first.Read(make([]byte, 10))
 		first.Close()
 	}()
-	eventually(t, "the first doesn't come", func() bool {
+	eventually(t, "the first one isn't read", func() bool {
 		g.streams.mu.Lock()
 		defer g.streams.mu.Unlock()
-		return g.streams.all.bytes >= 6000
+		return g.streams.total.bytes >= 6000
 	})
 	if got := readStream(g, user(6000), false); len(got) != len(user(6000)) {
-		t.Errorf("%d bytes come", len(got))
+		t.Errorf("%d bytes were read", len(got))
 	}
-	<-first.gone
+	<-first.done
 	if drops := g.Drops(); !reflect.DeepEqual(drops, map[Reason]uint64{Crowded: 1}) {
 		t.Errorf("%v", drops)
 	}
 }
 
-// All that streams hold is given back.
-func TestHeld(t *testing.T) {
+// Streams give back all that they hold.
+func TestStreamsGiveBackAll(t *testing.T) {
 	g := testGuard(t, true, Settings{})
-	for _, one := range append(streamCases(), oneCase{bytes: pushPull(nil, 100_000)}) {
-		readStream(g, sealStreamWith(testKey, one.bytes), false)
-		readStream(g, sealStreamWith(testKey, one.bytes), true)
+	for _, test := range append(streamCases(), testCase{bytes: pushPull(nil, 100_000)}) {
+		readStream(g, sealStreamWith(testKey, test.bytes), false)
+		readStream(g, sealStreamWith(testKey, test.bytes), true)
 	}
-	if g.streams.all != (load{}) || g.streams.going != (load{}) || len(g.streams.accepted) != 0 {
-		t.Errorf("%v, %v, %d streams", g.streams.all, g.streams.going, len(g.streams.accepted))
+	if g.streams.total != (load{}) || g.streams.evicted != (load{}) || len(g.streams.accepted) != 0 {
+		t.Errorf("%v, %v, %d streams", g.streams.total, g.streams.evicted, len(g.streams.accepted))
 	}
 }
 
-// What streams gave back is collected where they took what they may have, and what answers to push/pulls take of the members.
-func TestCollected(t *testing.T) {
+// The garbage collector runs after streams have taken AllBytes, and the estimated answers to push/pulls count towards
+// that.
+func TestGarbageCollection(t *testing.T) {
 	members := 0
 	g := testGuard(t, false, Settings{StreamBytes: 8000, AllBytes: 8000, Known: func(string) (int, bool) { return members, false }})
-	user := append(message(kindUser, map[string]any{"UserMsgLen": 5000}), zeros(5000)...)
-	ran := func(stream []byte) uint32 {
-		var before, behind runtime.MemStats
+	user := append(message(msgUser, map[string]any{"UserMsgLen": 5000}), zeros(5000)...)
+	collections := func(stream []byte) uint32 {
+		var before, after runtime.MemStats
 		runtime.ReadMemStats(&before)
 		for n := 0; n < 10; n++ {
 			readStream(g, stream, false)
 		}
-		runtime.ReadMemStats(&behind)
-		return behind.NumForcedGC - before.NumForcedGC
+		runtime.ReadMemStats(&after)
+		return after.NumForcedGC - before.NumForcedGC
 	}
-	if of := ran(user); of < 9 || of > 20 {
-		t.Errorf("it ran %d times for users' messages", of)
+	if count := collections(user); count < 9 || count > 20 {
+		t.Errorf("it ran %d times for user messages", count)
 	}
-	alone := ran(pushPull(nil, 0))
-	if members = 10; ran(pushPull(nil, 0)) < alone+9 {
-		t.Errorf("it ran no more than %d times for push/pulls, though there are members", alone)
+	alone := collections(pushPull(nil, 0))
+	if members = 10; collections(pushPull(nil, 0)) < alone+9 {
+		t.Errorf("it ran no more often than %d times for push/pulls, although there are members", alone)
 	}
 }
 
-// Where as many nodes are known as may be, new ones stay out; those that are known are heard, and others come when some have left.
+// When the maximum number of nodes is known, new ones are not admitted, but known ones still are.
 func TestMembers(t *testing.T) {
 	for _, isKeyed := range []bool{false, true} {
-		c := startChild(t, order{IsKeyed: isKeyed, Members: 10})
+		c := startChild(t, childOptions{IsKeyed: isKeyed, Members: 10})
 		for n := 0; n < 30; n++ {
 			c.udp.Write(c.seal(alive(fmt.Sprint("node", n), nil)))
 		}
-		eventually(t, "not as many as may be", func() bool { return c.count("members") == 10 })
+		eventually(t, "fewer members than allowed", func() bool { return c.count("members") == 10 })
 		var nodes []map[string]any
 		for n := 30; n < 60; n++ {
 			nodes = append(nodes, node(fmt.Sprint("node", n), map[string]any{"State": 0}))
@@ -185,35 +186,35 @@ func TestMembers(t *testing.T) {
 			t.Fatal("no answer")
 		}
 		count := c.count("members")
-		// (a packet may be lost on its way, or be on it still)
+		// A packet may be lost, or still be on its way.
 		if drops := c.drops(); count != 10 || drops["full"] <= 30 || drops["full"] > 21+30 {
 			t.Errorf("%d members, dropped: %v", count, drops)
 		}
 	}
 }
 
-func TestKnown(t *testing.T) {
+func TestPlaces(t *testing.T) {
 	members, isKnown := 2, false
 	g := testGuard(t, false, Settings{Members: 4, Known: func(string) (int, bool) { return members, isKnown }})
 	admits := func(name string) bool { return g.members.admit([]byte(name)) }
 	if !admits("a") || !admits("b") || !admits("a") || admits("c") {
-		t.Error("two places are two nodes'")
+		t.Error("two places are not for two nodes")
 	}
-	for name := range g.members.letIn {
-		g.members.letIn[name] = time.Now().Add(-time.Hour)
+	for name := range g.members.admitted {
+		g.members.admitted[name] = time.Now().Add(-time.Hour)
 	}
 	g.members.sweptAt = time.Time{}
 	if !admits("c") {
-		t.Error("a node that never came keeps its place")
+		t.Error("a node that never joined keeps its place")
 	}
 	members, isKnown = 100, true
 	if !admits("d") {
-		t.Error("a node that is known is refused")
+		t.Error("a known node is refused")
 	}
 }
 
-// A node that comes just while another one is looked at keeps its place.
-func TestOneThatComesMeanwhile(t *testing.T) {
+// A node that joins while another one is checked keeps its place.
+func TestJoinDuringAdmission(t *testing.T) {
 	var g *Transport
 	g = testGuard(t, false, Settings{Members: 1, Known: func(name string) (int, bool) {
 		if name == "b" {
@@ -222,12 +223,12 @@ func TestOneThatComesMeanwhile(t *testing.T) {
 		return 0, false
 	}})
 	if !g.members.admit([]byte("a")) || g.members.admit([]byte("b")) {
-		t.Error("one place is two nodes'")
+		t.Error("one place was given to two nodes")
 	}
 }
 
-// Those who joined and those who left have their places, one each.
-func TestEvents(t *testing.T) {
+// A node that joined and one that left take one place each.
+func TestPlacesOfEvents(t *testing.T) {
 	g := testGuard(t, false, Settings{Members: 3})
 	admits := func(name string) bool { return g.members.admit([]byte(name)) }
 	for _, name := range []string{"a", "b", "c"} {
@@ -238,42 +239,42 @@ func TestEvents(t *testing.T) {
 	}
 	g.members.NotifyLeave(&memberlist.Node{Name: "c"})
 	if admits("d") || !admits("c") {
-		t.Error("who left lost its place")
+		t.Error("a node that left lost its place")
 	}
 }
 
-// An ack passes behind its ping alone.
+// An ack passes only after its ping was sent.
 func TestAcks(t *testing.T) {
 	for _, isKeyed := range []bool{false, true} {
-		c := &child{order: order{IsKeyed: isKeyed}}
+		c := &child{childOptions: childOptions{IsKeyed: isKeyed}}
 		g := testGuard(t, isKeyed, Settings{})
 		to := fmt.Sprint("127.0.0.1:", g.Port())
-		out := message(kindPing, with(ping, map[string]any{"SeqNo": 9}))
-		for at, packet := range [][]byte{out, compound(out, []byte{kindUser}), compressed(compound(out, out)), checked(compressed(out))} {
-			ack := c.seal(message(kindAck, map[string]any{"SeqNo": 9, "Payload": nil}))
+		out := message(msgPing, with(ping, map[string]any{"SeqNo": 9}))
+		for i, packet := range [][]byte{out, compound(out, []byte{msgUser}), compressed(compound(out, out)), checked(compressed(out))} {
+			ack := c.seal(message(msgAck, map[string]any{"SeqNo": 9, "Payload": nil}))
 			if pass(g, ack) != nil {
-				t.Errorf("%d: an early ack passes", at)
+				t.Errorf("%d: an early ack passes", i)
 			}
 			if _, err := g.WriteTo(c.seal(packet), to); err != nil {
 				t.Error(err)
 			}
 			if pass(g, ack) == nil {
-				t.Errorf("%d: an ack doesn't pass", at)
+				t.Errorf("%d: an ack doesn't pass", i)
 			}
-			g.pings.out(9 + 4096)
+			g.pings.add(9 + 4096)
 		}
-		ack := c.seal(message(kindAck, map[string]any{"SeqNo": 77, "Payload": nil}))
-		for at, one := range []struct {
+		ack := c.seal(message(msgAck, map[string]any{"SeqNo": 77, "Payload": nil}))
+		for i, test := range []struct {
 			sent   []byte
 			passes bool
 		}{
-			{compressed(zeros(20_000)), false}, {[]byte{kindUser}, false}, {[]byte{kindCompress, 1}, true},
-			{message(kindPing, map[string]any{"SeqNo": 1, "Node": string(zeros(300))}), true},
+			{compressed(zeros(20_000)), false}, {[]byte{msgUser}, false}, {[]byte{msgCompress, 1}, true},
+			{message(msgPing, map[string]any{"SeqNo": 1, "Node": string(zeros(300))}), true},
 		} {
-			g.pings.unread.Store(0)
-			// (behind what can't be read each passes, since a ping may have been in it)
-			if _, err := g.WriteTo(c.seal(one.sent), to); err != nil || (pass(g, ack) != nil) != one.passes {
-				t.Errorf("%d: %v", at, err)
+			g.pings.unreadableAt.Store(0)
+			// After a packet that can't be read every ack passes, since the packet may have contained a ping.
+			if _, err := g.WriteTo(c.seal(test.sent), to); err != nil || (pass(g, ack) != nil) != test.passes {
+				t.Errorf("%d: %v", i, err)
 			}
 		}
 	}
@@ -282,16 +283,16 @@ func TestAcks(t *testing.T) {
 func TestIndirectPings(t *testing.T) {
 	g, began, passed := testGuard(t, false, Settings{IndirectPings: 5}), time.Now(), 0
 	for n := 0; n < 1000; n++ {
-		if pass(g, message(kindIndirect, with(ping, map[string]any{"Target": []byte{127, 0, 0, 1}}))) != nil {
+		if pass(g, message(msgIndirectPing, with(ping, map[string]any{"Target": []byte{127, 0, 0, 1}}))) != nil {
 			passed++
 		}
 	}
-	if most := 5 * (2 + int(time.Since(began)/time.Second)); passed < 5 || passed > most || g.Drops()[Rate] != uint64(1000-passed) {
+	if limit := 5 * (2 + int(time.Since(began)/time.Second)); passed < 5 || passed > limit || g.Drops()[Rate] != uint64(1000-passed) {
 		t.Errorf("%d passed, dropped: %v", passed, g.Drops())
 	}
 }
 
-// Keys that come and go are those that open.
+// Keys that are added or removed take effect at once.
 func TestKeys(t *testing.T) {
 	c := testConfig("child", true)
 	g, err := New(c, Settings{})
@@ -303,21 +304,21 @@ func TestKeys(t *testing.T) {
 	passes := func() string {
 		return fmt.Sprint(pass(g, sealWith(testKey, alive("a", nil))) != nil, pass(g, sealWith(other, alive("a", nil))) != nil)
 	}
-	for at, one := range []struct {
+	for i, test := range []struct {
 		change func() error
 		want   string
 	}{
 		{func() error { return nil }, "true false"}, {func() error { return c.Keyring.AddKey(other) }, "true true"},
 		{func() error { return c.Keyring.UseKey(other) }, "true true"}, {func() error { return c.Keyring.RemoveKey(testKey) }, "false true"},
 	} {
-		if err := one.change(); err != nil || passes() != one.want {
-			t.Errorf("%d: %v %s", at, err, passes())
+		if err := test.change(); err != nil || passes() != test.want {
+			t.Errorf("%d: %v %s", i, err, passes())
 		}
 	}
 }
 
-// Where GossipVerifyIncoming is false, what isn't encrypted is looked at as it is.
-func TestVerify(t *testing.T) {
+// If GossipVerifyIncoming is false, plain packets and streams are inspected too.
+func TestUnverifiedGossip(t *testing.T) {
 	c := testConfig("child", true)
 	c.GossipVerifyIncoming = false
 	g, err := New(c, Settings{})
@@ -327,12 +328,12 @@ func TestVerify(t *testing.T) {
 	defer g.Shutdown()
 	old := sealWith(testKey, append(zeros(40), 1))
 	old[0] = 0
-	for at, one := range []struct {
+	for i, test := range []struct {
 		packet []byte
 		passes bool
-	}{{alive("a", nil), true}, {message(kindPing, ping), true}, {versionsAlive(1), false}, {sealWith(testKey, alive("b", nil)), true}, {old, false}} {
-		if is := pass(g, one.packet) != nil; is != one.passes {
-			t.Errorf("packet %d: passes: %v", at, is)
+	}{{alive("a", nil), true}, {message(msgPing, ping), true}, {versionsAlive(1), false}, {sealWith(testKey, alive("b", nil)), true}, {old, false}} {
+		if passed := pass(g, test.packet) != nil; passed != test.passes {
+			t.Errorf("packet %d: passes: %v", i, passed)
 		}
 	}
 	if len(readStream(g, pushPull(nil, 5), false)) == 0 {
@@ -341,9 +342,9 @@ func TestVerify(t *testing.T) {
 }
 
 func TestSettings(t *testing.T) {
-	for name, one := range map[string]Settings{"below 0": {Streams: -1}, "less together": {AllBytes: 1000}, "a small packet": {PacketBytes: 1000}} {
-		if g, err := New(testConfig("child", false), one); err == nil {
-			t.Errorf("%s: taken", name)
+	for name, settings := range map[string]Settings{"below 0": {Streams: -1}, "AllBytes below StreamBytes": {AllBytes: 1000}, "a small PacketBytes": {PacketBytes: 1000}} {
+		if g, err := New(testConfig("child", false), settings); err == nil {
+			t.Errorf("%s: accepted", name)
 			g.Shutdown()
 		}
 	}
@@ -364,85 +365,85 @@ func TestSettings(t *testing.T) {
 		t.Errorf("%v %d %v", ip, port, err)
 	}
 	if _, _, err := g.FinalAdvertiseAddr("nowhere", 5); err == nil {
-		t.Error("a name is taken for an address")
+		t.Error("a name was accepted as an address")
 	}
 }
 
-// typeOf is a struct as memberlist's, and valueOf a value of it as go-msgpack writes it.
-func typeOf(s shape) reflect.Type {
+// typeOf makes a struct type like memberlist's, and valueOf encodes a value of it with go-msgpack.
+func typeOf(s schema) reflect.Type {
 	var fields []reflect.StructField
-	for _, one := range s {
-		is := reflect.TypeOf([]byte(nil))
+	for _, field := range s {
+		fieldType := reflect.TypeOf([]byte(nil))
 		switch {
-		case one.want == text:
-			is = reflect.TypeOf("")
-		case one.want == flag:
-			is = reflect.TypeOf(true)
-		case one.want == number && one.most == u16:
-			is = reflect.TypeOf(uint16(0))
-		case one.want == number && one.most == u32:
-			is = reflect.TypeOf(uint32(0))
-		case one.want == number:
-			is = reflect.TypeOf(0)
+		case field.kind == kindText:
+			fieldType = reflect.TypeOf("")
+		case field.kind == kindFlag:
+			fieldType = reflect.TypeOf(true)
+		case field.kind == kindNumber && field.max == maxUint16:
+			fieldType = reflect.TypeOf(uint16(0))
+		case field.kind == kindNumber && field.max == maxUint32:
+			fieldType = reflect.TypeOf(uint32(0))
+		case field.kind == kindNumber:
+			fieldType = reflect.TypeOf(0)
 		}
-		fields = append(fields, reflect.StructField{Name: one.name, Type: is})
+		fields = append(fields, reflect.StructField{Name: field.name, Type: fieldType})
 	}
 	return reflect.StructOf(fields)
 }
 
-func valueOf(r *rand.Rand, s shape) []byte {
-	all := map[string]any{"Xtra": 1.5}
-	for _, one := range s {
-		switch one.want {
-		case text:
-			all[one.name] = "some text"[r.Intn(8):]
-		case flag:
-			all[one.name] = r.Intn(2) == 0
-		case number:
-			all[one.name] = r.Int63n(int64(lesser(one.most, 1<<20) + 1))
+func valueOf(r *rand.Rand, s schema) []byte {
+	values := map[string]any{"Xtra": 1.5}
+	for _, field := range s {
+		switch field.kind {
+		case kindText:
+			values[field.name] = "some text"[r.Intn(8):]
+		case kindFlag:
+			values[field.name] = r.Intn(2) == 0
+		case kindNumber:
+			values[field.name] = r.Int63n(int64(min(field.max, 1<<20) + 1))
 		default:
-			all[one.name] = zeros(int(lesser(lesser(one.most, 300), one.least+4*uint64(r.Intn(2)))))
+			values[field.name] = zeros(int(min(min(field.max, 300), field.min+4*uint64(r.Intn(2)))))
 		}
 	}
-	return encode(all)
+	return encode(values)
 }
 
-// What the guard takes go-msgpack reads alike.
-func TestReadAlike(t *testing.T) {
+// go-msgpack decodes what the guard accepts to the same values.
+func TestSameAsGoMsgpack(t *testing.T) {
 	settings := Defaults()
-	shapes, r, taken := makeShapes(&settings), rand.New(rand.NewSource(int64(numberOf("GUARD_SEED", 1)))), 0
-	for kind, s := range append(shapes.of[:], shapes.node) {
+	shapes, r, accepted := newSchemas(&settings), rand.New(rand.NewSource(int64(numberOf("GUARD_SEED", 1)))), 0
+	for kind, s := range append(shapes.byType[:], shapes.node) {
 		for n := numberOf("GUARD_READS", 5000); n > 0 && s != nil; n-- {
-			bytes := change(r, valueOf(r, s))
-			reader := readerOf(bytes)
-			var values [greatestShape]value
-			if reader.object(s, &values) != none {
+			bytes := mutate(r, valueOf(r, s))
+			reader := newReader(bytes)
+			var values [maxFields]value
+			if reader.readFields(s, &values) != none {
 				continue
 			}
-			taken++
+			accepted++
 			into := reflect.New(typeOf(s))
 			decoder := codec.NewDecoderBytes(bytes[:reader.At], &codec.MsgpackHandle{})
 			if err := decoder.Decode(into.Interface()); err != nil {
 				t.Fatalf("type %d, %x: %v", kind, bytes, err)
 			}
-			for at := range s {
-				field := into.Elem().Field(at)
-				if is, want := fmt.Sprint(field.Interface()), shown(values[at], field); is != want {
-					t.Fatalf("type %d, %x: %s is %s, and read as %s", kind, bytes, s[at].name, is, want)
+			for i := range s {
+				field := into.Elem().Field(i)
+				if decoded, want := fmt.Sprint(field.Interface()), formatted(values[i], field); decoded != want {
+					t.Fatalf("type %d, %x: %s is decoded as %s, and the guard read %s", kind, bytes, s[i].name, decoded, want)
 				}
 			}
-			// (it ends where the guard says: what follows isn't read)
+			// go-msgpack has to stop where the guard did.
 			var rest any
 			if err := decoder.Decode(&rest); err == nil {
-				t.Fatalf("type %d, %x: more is read", kind, bytes)
+				t.Fatalf("type %d, %x: go-msgpack read more", kind, bytes)
 			}
 		}
 	}
-	t.Logf("%d were taken", taken)
+	t.Logf("%d were accepted", accepted)
 }
 
-// shown is a value as the field of that kind would print it.
-func shown(v value, like reflect.Value) string {
+// formatted prints a value as the field of this kind would print it.
+func formatted(v value, like reflect.Value) string {
 	switch like.Kind() {
 	case reflect.String:
 		return string(v.bytes)
@@ -455,22 +456,22 @@ func shown(v value, like reflect.Value) string {
 }
 
 func BenchmarkPacket(b *testing.B) {
-	user := append([]byte{kindUser}, zeros(350)...)
-	some := compound(message(kindPing, ping), user, user, user)
-	for _, one := range []struct {
+	user := append([]byte{msgUser}, zeros(350)...)
+	mixed := compound(message(msgPing, ping), user, user, user)
+	for _, bench := range []struct {
 		name    string
 		isKeyed bool
 		packet  []byte
 	}{
-		{"ping", false, message(kindPing, ping)}, {"compound", false, some}, {"compressed", false, compressed(some)},
-		{"ping with a key", true, message(kindPing, ping)}, {"compound with a key", true, some},
+		{"ping", false, message(msgPing, ping)}, {"compound", false, mixed}, {"compressed", false, compressed(mixed)},
+		{"ping with a key", true, message(msgPing, ping)}, {"compound with a key", true, mixed},
 	} {
-		b.Run(one.name, func(b *testing.B) {
-			g, c := testGuard(b, one.isKeyed, Defaults()), &child{order: order{IsKeyed: one.isKeyed}}
-			l, packet := newLooker(g.core), c.seal(one.packet)
+		b.Run(bench.name, func(b *testing.B) {
+			g, c := testGuard(b, bench.isKeyed, Defaults()), &child{childOptions: childOptions{IsKeyed: bench.isKeyed}}
+			ins, packet := newInspector(g.core), c.seal(bench.packet)
 			b.ReportAllocs()
 			for n := 0; n < b.N; n++ {
-				if l.packet(packet) == nil {
+				if ins.inspect(packet) == nil {
 					b.Fatal("dropped")
 				}
 			}

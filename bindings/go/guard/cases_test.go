@@ -11,9 +11,9 @@ import (
 
 var ping = map[string]any{"SeqNo": 7, "Node": "child", "SourceAddr": []byte{127, 0, 0, 1}, "SourcePort": 9, "SourceNode": "other"}
 
-// withExtra is a ping with an unknown field of these bytes.
+// withExtra returns a ping with an unknown field whose value has these bytes.
 func withExtra(value ...byte) []byte {
-	out := message(kindPing, with(ping, map[string]any{"Xtra": 0}))
+	out := message(msgPing, with(ping, map[string]any{"Xtra": 0}))
 	at := bytes.Index(out, []byte("Xtra")) + 4
 	return append(append(append([]byte(nil), out[:at]...), value...), out[at+1:]...)
 }
@@ -22,110 +22,112 @@ func versionsAlive(v ...byte) []byte { return alive("v", map[string]any{"Vsn": v
 
 func zeros(n int) []byte { return make([]byte, n) }
 
-// oneCase is what comes, and why it is dropped. What memberlist alone does: D, it dies of it; M, it takes 40 MiB and more for it; P, it
-// takes it, and passes it on to others. The rest it refuses, or takes without harm.
-type oneCase struct {
-	name  string
-	bytes []byte
-	why   Reason
+// testCase is a packet or a stream, and why the guard drops it. The first letter of its name says what memberlist does
+// without the guard: D, it crashes; M, it allocates 40 MiB or more; P, it accepts it, and passes it on to others.
+// memberlist refuses the others, or accepts them without harm.
+type testCase struct {
+	name   string
+	bytes  []byte
+	reason Reason
 }
 
-func packetCases() []oneCase {
+func packetCases() []testCase {
 	var many [][]byte
 	for len(many) < 128 {
-		many = append(many, []byte{kindUser})
+		many = append(many, []byte{msgUser})
 	}
-	nested := message(kindPing, ping)
+	nested := message(msgPing, ping)
 	for i := 0; i < 3; i++ {
 		nested = compound(nested)
 	}
 	noParts := compound()
-	sum := checked(message(kindPing, ping))
+	sum := checked(message(msgPing, ping))
 	sum[1]++
-	broken := message(kindCompress, map[string]any{"Algo": 0, "Buf": []byte{255, 255, 255}})
-	twice := append([]byte{kindNack, 0x82}, bytes.Repeat(encode("SeqNo"), 1)...)
+	broken := message(msgCompress, map[string]any{"Algo": 0, "Buf": []byte{255, 255, 255}})
+	twice := append([]byte{msgNack, 0x82}, bytes.Repeat(encode("SeqNo"), 1)...)
 	twice = append(append(append(twice, 7), encode("SeqNo")...), 7)
-	cases := []oneCase{
+	cases := []testCase{
 		{"a Vsn of 7", versionsAlive(1, 5, 2, 2, 5, 4, 0), Versions},
-		{"P a Vsn that fits nobody", versionsAlive(5, 5, 5, 2, 5, 4), Versions},
-		{"P a Vsn with a delegate that fits nobody", versionsAlive(1, 5, 2, 5, 5, 5), Versions},
+		{"P a Vsn that no node supports", versionsAlive(5, 5, 5, 2, 5, 4), Versions},
+		{"P a delegate version that no node supports", versionsAlive(1, 5, 2, 5, 5, 5), Versions},
 		{"a Vsn of 0", versionsAlive(0, 0, 0, 0, 0, 0), Versions},
 		{"D an empty part", compound([]byte{}), Empty},
-		{"D an empty body behind a CRC", checked(nil), Empty},
+		{"D an empty body after a CRC", checked(nil), Empty},
 		{"D an empty result of LZW", compressed(nil), Empty},
 		{"128 parts", compound(many...), Parts},
-		{"D 255 parts", append([]byte{kindCompound, 255}, zeros(600)...), Parts},
+		{"D 255 parts", append([]byte{msgCompound, 255}, zeros(600)...), Parts},
 		{"no part", noParts, Parts},
-		{"a compound without a number", []byte{kindCompound}, Parts},
-		{"lengths that are cut off", []byte{kindCompound, 9, 0}, Parts},
-		{"a part that is cut off", []byte{kindCompound, 1, 0, 9, 1}, Parts},
-		{"bytes behind a compound", append(compound([]byte{kindUser, 1}), 0), Trailing},
+		{"a compound without a number", []byte{msgCompound}, Parts},
+		{"lengths that are cut off", []byte{msgCompound, 9, 0}, Parts},
+		{"a part that is cut off", []byte{msgCompound, 1, 0, 9, 1}, Parts},
+		{"bytes after a compound", append(compound([]byte{msgUser, 1}), 0), Trailing},
 		{"D a map of 32-bit length", withExtra(0xdf, 255, 255, 255, 255), Malformed},
 		{"D an array of 32-bit length", withExtra(0xdd, 255, 255, 255, 255), Malformed},
 		{"M a str32", withExtra(0xdb, 127, 255, 255, 255), Malformed},
 		{"M a bin32", withExtra(0xc6, 127, 255, 255, 255), Malformed},
 		{"M an ext32", withExtra(0xc9, 127, 255, 255, 255, 1), Malformed},
-		{"M a str32 in a field", append([]byte{kindAck, 0x81}, append(encode("Payload"), 0xdb, 127, 255, 255, 255)...), Malformed},
+		{"M a str32 in a field", append([]byte{msgAck, 0x81}, append(encode("Payload"), 0xdb, 127, 255, 255, 255)...), Malformed},
 		{"nesting", withExtra(append(bytes.Repeat([]byte{0x91}, 9000), 0xc0)...), Malformed},
 		{"D deep nesting, compressed", compressed(withExtra(append(bytes.Repeat([]byte{0x91}, 10<<20), 0xc0)...)), Inflated},
-		{"M a bomb", compressed(zeros(10 << 20)), Inflated},
+		{"M a decompression bomb", compressed(zeros(10 << 20)), Inflated},
 		{"compounds in a compound", nested, Nested},
-		{"compressed twice", compressed(compressed(message(kindPing, ping))), Nested},
-		{"compressed in a compound", compound(compressed(message(kindPing, ping))), Nested},
-		{"a CRC in a compound", compound(checked(message(kindPing, ping))), Nested},
-		{"encrypted within", []byte{kindEncrypt, 1, 2, 3}, Nested},
+		{"compressed twice", compressed(compressed(message(msgPing, ping))), Nested},
+		{"compressed in a compound", compound(compressed(message(msgPing, ping))), Nested},
+		{"a CRC in a compound", compound(checked(message(msgPing, ping))), Nested},
+		{"encrypted within", []byte{msgEncrypt, 1, 2, 3}, Nested},
 		{"a wrong CRC", sum, Checksum},
-		{"an unknown compression", message(kindCompress, map[string]any{"Algo": 1, "Buf": lzwOf([]byte("x"))}), Compression},
+		{"an unknown compression", message(msgCompress, map[string]any{"Algo": 1, "Buf": lzwOf([]byte("x"))}), Compression},
 		{"broken compression", broken, Compression},
-		{"bytes behind what is compressed", append(compressed(message(kindPing, ping)), 0), Trailing},
-		{"an array for a map", message(kindPing, []any{7, "child"}), Malformed},
+		{"bytes after what is compressed", append(compressed(message(msgPing, ping)), 0), Trailing},
+		{"an array for a map", message(msgPing, []any{7, "child"}), Malformed},
 		{"a field twice", twice, Malformed},
-		{"a text for a number", message(kindPing, with(ping, map[string]any{"SeqNo": "7"})), Malformed},
-		{"a number below 0", message(kindPing, with(ping, map[string]any{"SeqNo": -1})), Range},
+		{"a text for a number", message(msgPing, with(ping, map[string]any{"SeqNo": "7"})), Malformed},
+		{"a number below 0", message(msgPing, with(ping, map[string]any{"SeqNo": -1})), Range},
 		{"a number of 33 bits", alive("n", map[string]any{"Incarnation": uint64(1) << 32}), Range},
 		{"a port of 17 bits", alive("n", map[string]any{"Port": 1 << 16}), Range},
-		{"bytes behind a ping", append(message(kindPing, ping), 0), Trailing},
+		{"bytes after a ping", append(message(msgPing, ping), 0), Trailing},
 		{"no name", alive("", nil), Name},
 		{"a name of 256 bytes", alive(string(zeros(256)), nil), Name},
-		{"a suspect without a name", message(kindSuspect, map[string]any{"Incarnation": 1, "From": "other"}), Name},
-		{"a dead from nobody", message(kindDead, map[string]any{"Incarnation": 1, "Node": "other", "From": ""}), Name},
+		{"a suspect without a name", message(msgSuspect, map[string]any{"Incarnation": 1, "From": "other"}), Name},
+		{"a dead from nobody", message(msgDead, map[string]any{"Incarnation": 1, "Node": "other", "From": ""}), Name},
 		{"P Meta of 513 bytes", alive("m", map[string]any{"Meta": zeros(513)}), Meta},
-		{"P no address", alive("a", map[string]any{"Addr": without}), Address},
+		{"P no address", alive("a", map[string]any{"Addr": absent}), Address},
 		{"P an address of 5 bytes", alive("a", map[string]any{"Addr": zeros(5)}), Address},
 		{"a multicast address", alive("a", map[string]any{"Addr": []byte{224, 0, 0, 1}}), Address},
 		{"a broadcast address", alive("a", map[string]any{"Addr": []byte{255, 255, 255, 255}}), Address},
 		{"a broadcast address in 16 bytes", alive("a", map[string]any{"Addr": []byte(net.IPv4bcast.To16())}), Address},
-		{"a ping from a multicast address", message(kindPing, with(ping, map[string]any{"SourceAddr": []byte{239, 1, 1, 1}})), Address},
-		{"an indirect ping of no address", message(kindIndirect, with(ping, map[string]any{"Port": 9})), Address},
+		{"a ping from a multicast address", message(msgPing, with(ping, map[string]any{"SourceAddr": []byte{239, 1, 1, 1}})), Address},
+		{"an indirect ping of no address", message(msgIndirectPing, with(ping, map[string]any{"Port": 9})), Address},
 		{"an unknown type", []byte{200, 1}, Kind},
 		{"a push/pull in a packet", pushPull(nil, 0), Kind},
-		{"an error in a packet", message(kindErr, map[string]any{"Error": "x"}), Kind},
-		{"an ack that nobody asked for", message(kindAck, map[string]any{"SeqNo": 1 << 30, "Payload": nil}), Unasked},
-		{"a nack that nobody asked for", message(kindNack, map[string]any{"SeqNo": 1 << 30}), Unasked},
-		{"an ack with 2,000 bytes", message(kindAck, map[string]any{"SeqNo": 1, "Payload": zeros(2000)}), Payload},
-		{"a packet of 11,000 bytes", append([]byte{kindUser}, zeros(11000)...), TooLong},
+		{"an error in a packet", message(msgErr, map[string]any{"Error": "x"}), Kind},
+		{"an ack without a ping", message(msgAck, map[string]any{"SeqNo": 1 << 30, "Payload": nil}), Unasked},
+		{"a nack without a ping", message(msgNack, map[string]any{"SeqNo": 1 << 30}), Unasked},
+		{"an ack with 2,000 bytes", message(msgAck, map[string]any{"SeqNo": 1, "Payload": zeros(2000)}), Payload},
+		{"a packet of 11,000 bytes", append([]byte{msgUser}, zeros(11000)...), TooLong},
 	}
 	for n := 1; n < 6; n++ {
-		cases = append(cases, oneCase{fmt.Sprintf("D a Vsn of %d", n), versionsAlive(versionsOf[:n]...), Versions})
+		cases = append(cases, testCase{fmt.Sprintf("D a Vsn of %d", n), versionsAlive(versionsOf[:n]...), Versions})
 	}
 	return cases
 }
 
-// sealedPackets are those of who has no key, and what only one with a key can send. They are sent as they are.
-func sealedPackets() []oneCase {
-	old := sealWith(testKey, append([]byte{kindUser}, bytes.Repeat([]byte{200}, 40)...))
+// sealedPackets are packets from a sender without the key, and packets that only a sender with the key can make. They
+// are sent as they are.
+func sealedPackets() []testCase {
+	old := sealWith(testKey, append([]byte{msgUser}, bytes.Repeat([]byte{200}, 40)...))
 	old[0] = 0
 	padded := sealWith(testKey, bytes.Repeat([]byte{3}, 48))
 	padded[0] = 0
-	later := sealWith(testKey, message(kindPing, ping))
+	later := sealWith(testKey, message(msgPing, ping))
 	later[0] = 2
-	return []oneCase{
-		{"not encrypted, though it looks so", message(kindPing, ping), Sealed},
-		{"not encrypted", append([]byte{kindUser}, zeros(100)...), Plain},
+	return []testCase{
+		{"not encrypted, though it looks so", message(msgPing, ping), Sealed},
+		{"not encrypted", append([]byte{msgUser}, zeros(100)...), Plain},
 		{"D the version made 0", old, OldSeal},
 		{"encryption's version 0, with its padding", padded, OldSeal},
 		{"encryption's version 2", later, Plain},
-		{"another key", sealWith([]byte("another sixteen!"), message(kindPing, ping)), Sealed},
+		{"another key", sealWith([]byte("another sixteen!"), message(msgPing, ping)), Sealed},
 		{"D nothing encrypted", sealWith(testKey, nil), Empty},
 		{"cut off", sealWith(testKey, nil)[:20], Plain},
 	}
@@ -134,75 +136,75 @@ func sealedPackets() []oneCase {
 func TestPacketCases(t *testing.T) {
 	for _, isKeyed := range []bool{false, true} {
 		t.Run(fmt.Sprint("keyed=", isKeyed), func(t *testing.T) {
-			c := startChild(t, order{IsKeyed: isKeyed})
-			for _, one := range packetCases() {
-				c.mustDrop(one, func() { c.udp.Write(c.seal(one.bytes)) })
+			c := startChild(t, childOptions{IsKeyed: isKeyed})
+			for _, test := range packetCases() {
+				c.mustDrop(test, func() { c.udp.Write(c.seal(test.bytes)) })
 			}
 			if isKeyed {
-				for _, one := range sealedPackets() {
-					c.mustDrop(one, func() { c.udp.Write(one.bytes) })
+				for _, test := range sealedPackets() {
+					c.mustDrop(test, func() { c.udp.Write(test.bytes) })
 				}
 			} else {
-				c.mustDrop(oneCase{name: "an empty packet", why: Empty}, func() { c.udp.Write(nil) })
+				c.mustDrop(testCase{name: "an empty packet", reason: Empty}, func() { c.udp.Write(nil) })
 			}
 			c.mustJoin()
-			t.Logf("%d KiB at most", c.peak())
+			t.Logf("%d KiB at most", c.peakKiB())
 		})
 	}
 }
 
-// mustDrop sends a case, and asks for its reason. The process lives.
-func (c *child) mustDrop(one oneCase, send func()) {
+// mustDrop sends a case, and expects that the child drops it for the case's reason and survives.
+func (c *child) mustDrop(test testCase, send func()) {
 	c.Helper()
-	if c.IsKeyed && one.why == Short && one.bytes[0] != kindEncrypt {
-		one.why = Malformed // (what was encrypted is there whole)
+	if c.IsKeyed && test.reason == Short && test.bytes[0] != msgEncrypt {
+		test.reason = Malformed // The encrypted content is complete, so the stream isn't short.
 	}
 	if c.IsAlone {
-		c.alone(one, send)
+		c.alone(test, send)
 		return
 	}
 	before := c.drops()
 	send()
 	if !c.isAlive() {
-		c.Fatalf("%s: no answer", one.name)
+		c.Fatalf("%s: no answer", test.name)
 	}
 	after := c.drops()
-	for why, count := range after {
-		if count != before[why] && why != one.why.String() {
-			c.Errorf("%s: dropped as %s, not as %s", one.name, why, one.why)
+	for reason, count := range after {
+		if count != before[reason] && reason != test.reason.String() {
+			c.Errorf("%s: dropped as %s, not as %s", test.name, reason, test.reason)
 		}
 	}
-	if after[one.why.String()] == before[one.why.String()] {
-		c.Errorf("%s: not dropped as %s", one.name, one.why)
+	if after[test.reason.String()] == before[test.reason.String()] {
+		c.Errorf("%s: not dropped as %s", test.name, test.reason)
 	}
 }
 
-// alone says what memberlist does without the guard (by hand).
-func (c *child) alone(one oneCase, send func()) {
-	other := startChild(c.T, c.order)
+// alone logs what memberlist does without the guard. It is used by hand.
+func (c *child) alone(test testCase, send func()) {
+	other := startChild(c.T, c.childOptions)
 	c.udp, c.address = other.udp, other.address
 	send()
-	time.Sleep(200 * time.Millisecond) // (news of nodes waits in a queue)
+	time.Sleep(200 * time.Millisecond) // memberlist queues news about nodes.
 	what := "lives"
 	if !other.isAlive() {
 		what = "DIES"
 	}
-	c.Logf("%-6s %6d KiB %s", what, other.peak(), one.name)
+	c.Logf("%-6s %6d KiB %s", what, other.peakKiB(), test.name)
 }
 
 func header(nodes, length any) []byte {
-	return message(kindPushPull, map[string]any{"Nodes": nodes, "UserStateLen": length, "Join": true})
+	return message(msgPushPull, map[string]any{"Nodes": nodes, "UserStateLen": length, "Join": true})
 }
 
 func entry(changes map[string]any) []byte {
 	return pushPull([]map[string]any{node("first", nil), node("bad", changes), node("last", nil)}, 50)
 }
 
-func streamCases() []oneCase {
+func streamCases() []testCase {
 	nested := pushPull(nil, 0)
 	at := bytes.Index(nested, []byte("Join"))
-	user := func(n any) []byte { return message(kindUser, map[string]any{"UserMsgLen": n}) }
-	return []oneCase{
+	user := func(n any) []byte { return message(msgUser, map[string]any{"UserMsgLen": n}) }
+	return []testCase{
 		{"D nodes below 0", header(-1, 0), Length},
 		{"D 2^40 nodes", header(1<<40, 0), Length},
 		{"M 10,000,000 nodes", header(10_000_000, 0), Length},
@@ -212,22 +214,22 @@ func streamCases() []oneCase {
 		{"D a user's message of 2^50 bytes", user(1 << 50), Length},
 		{"a user's message of 65,537 bytes", append(user(65537), zeros(65537)...), Length},
 		{"D an empty result of LZW", compressed(nil), Empty},
-		{"M a bomb", compressed(zeros(20 << 20)), Inflated},
+		{"M a decompression bomb", compressed(zeros(20 << 20)), Inflated},
 		{"a push/pull of more than 4 MiB", append(header(0, 4<<20), zeros(4<<20)...), TooLong},
 		{"compressed twice", compressed(compressed(pushPull(nil, 0))), Nested},
-		{"a compound", compound([]byte{kindUser}), Nested},
+		{"a compound", compound([]byte{msgUser}), Nested},
 		{"D a map of 32-bit length", append(nested[:at+4:at+4], 0xdf, 255, 255, 255, 255), Malformed},
-		{"an array for a map", message(kindPushPull, []any{0, 0, true}), Malformed},
+		{"an array for a map", message(msgPushPull, []any{0, 0, true}), Malformed},
 		{"M a text of 2^31 bytes", append(nested[:at+4:at+4], 0xdb, 127, 255, 255, 255), Malformed},
 		{"an entry that is a number", append(header(1, 0), 7), Malformed},
-		{"an ack to nobody", message(kindAck, map[string]any{"SeqNo": 1, "Payload": nil}), Kind},
+		{"an ack to nobody", message(msgAck, map[string]any{"SeqNo": 1, "Payload": nil}), Kind},
 		{"an unknown type", []byte{99, 0}, Kind},
 		{"cut off within an entry", entry(nil)[:100], Short},
 		{"fewer bytes than the state has", header(0, 50), Short},
 		{"D an entry's Vsn of 1", entry(map[string]any{"Vsn": zeros(1)}), Versions},
 		{"D an entry's Vsn of 5", entry(map[string]any{"Vsn": zeros(5)}), Versions},
-		{"an entry's Vsn that fits nobody", entry(map[string]any{"Vsn": []byte{5, 5, 5, 2, 5, 4}}), Versions},
-		{"an entry without a name", entry(map[string]any{"Name": without}), Name},
+		{"an entry's Vsn that no node supports", entry(map[string]any{"Vsn": []byte{5, 5, 5, 2, 5, 4}}), Versions},
+		{"an entry without a name", entry(map[string]any{"Name": absent}), Name},
 		{"an entry's name of 256 bytes", entry(map[string]any{"Name": string(zeros(256))}), Name},
 		{"an entry's address of 5 bytes", entry(map[string]any{"Addr": zeros(5)}), Address},
 		{"an entry's Meta of 60,000 bytes", entry(map[string]any{"Meta": zeros(60000)}), Meta},
@@ -237,53 +239,53 @@ func streamCases() []oneCase {
 	}
 }
 
-func sealedStreams() []oneCase {
-	old := sealStreamWith(testKey, append([]byte{kindUser}, bytes.Repeat([]byte{200}, 40)...))
-	old[streamHead] = 0
-	long := binary.BigEndian.AppendUint32([]byte{kindEncrypt}, 20<<20)
-	return []oneCase{
+func sealedStreams() []testCase {
+	old := sealStreamWith(testKey, append([]byte{msgUser}, bytes.Repeat([]byte{200}, 40)...))
+	old[streamHeader] = 0
+	long := binary.BigEndian.AppendUint32([]byte{msgEncrypt}, 20<<20)
+	return []testCase{
 		{"not encrypted", pushPull(nil, 0), Plain},
 		{"D the version made 0", old, OldSeal},
 		{"another key", sealStreamWith([]byte("another sixteen!"), pushPull(nil, 0)), Sealed},
 		{"D nothing encrypted", sealStreamWith(testKey, nil), Empty},
 		{"M 20 MiB encrypted", long, TooLong},
 		{"cut off", sealStreamWith(testKey, pushPull(nil, 0))[:30], Short},
-		{"bytes behind a push/pull", sealStreamWith(testKey, append(pushPull(nil, 0), 0)), Trailing},
+		{"bytes after a push/pull", sealStreamWith(testKey, append(pushPull(nil, 0), 0)), Trailing},
 	}
 }
 
 func TestStreamCases(t *testing.T) {
 	for _, isKeyed := range []bool{false, true} {
 		t.Run(fmt.Sprint("keyed=", isKeyed), func(t *testing.T) {
-			c := startChild(t, order{IsKeyed: isKeyed})
-			for _, one := range streamCases() {
-				c.mustDrop(one, func() { c.call(c.sealStream(one.bytes), true) })
+			c := startChild(t, childOptions{IsKeyed: isKeyed})
+			for _, test := range streamCases() {
+				c.mustDrop(test, func() { c.call(c.sealStream(test.bytes), true) })
 			}
 			if isKeyed {
-				for _, one := range sealedStreams() {
-					c.mustDrop(one, func() { c.call(one.bytes, true) })
+				for _, test := range sealedStreams() {
+					c.mustDrop(test, func() { c.call(test.bytes, true) })
 				}
 			} else {
-				c.mustDrop(oneCase{name: "encrypted", why: Sealed}, func() { c.call(sealStreamWith(testKey, pushPull(nil, 0)), true) })
+				c.mustDrop(testCase{name: "encrypted", reason: Sealed}, func() { c.call(sealStreamWith(testKey, pushPull(nil, 0)), true) })
 			}
 			c.mustJoin()
-			t.Logf("%d KiB at most", c.peak())
+			t.Logf("%d KiB at most", c.peakKiB())
 		})
 	}
 }
 
-// A node that this one joins answers with what comes behind a push/pull.
+// The same cases are dropped when they are the answer to a push/pull of this node.
 func TestAnswers(t *testing.T) {
 	for _, isKeyed := range []bool{false, true} {
-		c := startChild(t, order{IsKeyed: isKeyed})
-		cases := append(streamCases(), oneCase{"a ping as an answer", message(kindPing, ping), Kind},
-			oneCase{"an error that is long", message(kindErr, map[string]any{"Error": string(zeros(5000))}), Length})
-		for _, one := range cases {
-			if bytes.HasPrefix(one.bytes, []byte{kindAck}) || one.bytes[0] == kindUser {
+		c := startChild(t, childOptions{IsKeyed: isKeyed})
+		cases := append(streamCases(), testCase{"a ping as an answer", message(msgPing, ping), Kind},
+			testCase{"an error that is long", message(msgErr, map[string]any{"Error": string(zeros(5000))}), Length})
+		for _, test := range cases {
+			if bytes.HasPrefix(test.bytes, []byte{msgAck}) || test.bytes[0] == msgUser {
 				continue
 			}
-			c.mustDrop(one, func() {
-				address := serveOnce(t, c.sealStream(one.bytes))
+			c.mustDrop(test, func() {
+				address := serveOnce(t, c.sealStream(test.bytes))
 				var answer string
 				c.ask("join "+address, &answer)
 			})
@@ -292,7 +294,7 @@ func TestAnswers(t *testing.T) {
 	}
 }
 
-// serveOnce answers one connection with these bytes.
+// serveOnce answers one connection with these bytes. It returns the address to dial.
 func serveOnce(t *testing.T, bytes []byte) string {
 	l, err := net.Listen("tcp", "127.0.0.1:0")
 	if err != nil {

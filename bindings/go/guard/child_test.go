@@ -16,54 +16,55 @@ import (
 	"github.com/hashicorp/memberlist"
 )
 
-// childVariable has what a child process is told: it runs memberlist with the guard, and answers lines on its input.
+// childVariable is the environment variable with a child's options. A child process runs memberlist with the guard, and
+// answers lines on its input.
 const childVariable = "GUARD_CHILD"
 
 var testKey = []byte("sixteen bytes is")
 
-// order is what a child is told.
-type order struct {
+// childOptions is how a child runs, in JSON.
+type childOptions struct {
 	Name    string
 	IsKeyed bool
-	// IsAlone leaves the guard out: so do all where GUARD_ALONE is set, to see by hand what memberlist does.
+	// IsAlone leaves the guard out. With GUARD_ALONE set all children do so, to see by hand what memberlist does.
 	IsAlone bool
-	// IsHonest has it do in seconds what takes minutes, and carry more; IsCompressed has it compress.
+	// IsHonest shortens memberlist's intervals and enlarges its states. IsCompressed compresses gossip.
 	IsHonest, IsCompressed bool
 	Members                int
 }
 
-// talker is a delegate that broadcasts, counts what it hears, and whose state has so many bytes.
-type talker struct {
-	queue  *memberlist.TransmitLimitedQueue
-	length int
-	heard  atomic.Int64
+// delegate broadcasts messages, counts those it receives, and has a local state of length bytes.
+type delegate struct {
+	queue    *memberlist.TransmitLimitedQueue
+	length   int
+	received atomic.Int64
 }
 
-// talk is a message that it sends.
-type talk []byte
+// broadcast is a message to broadcast.
+type broadcast []byte
 
-func (t talk) Invalidates(memberlist.Broadcast) bool { return false }
-func (t talk) Message() []byte                       { return t }
-func (t talk) Finished()                             {}
+func (t broadcast) Invalidates(memberlist.Broadcast) bool { return false }
+func (t broadcast) Message() []byte                       { return t }
+func (t broadcast) Finished()                             {}
 
-func (t *talker) NodeMeta(int) []byte             { return []byte("meta") }
-func (t *talker) NotifyMsg([]byte)                { t.heard.Add(1) }
-func (t *talker) LocalState(bool) []byte          { return make([]byte, t.length) }
-func (t *talker) MergeRemoteState([]byte, bool)   {}
-func (t *talker) AckPayload() []byte              { return make([]byte, 150) }
-func (t *talker) GetBroadcasts(o, l int) [][]byte { return t.queue.GetBroadcasts(o, l) }
+func (t *delegate) NodeMeta(int) []byte             { return []byte("meta") }
+func (t *delegate) NotifyMsg([]byte)                { t.received.Add(1) }
+func (t *delegate) LocalState(bool) []byte          { return make([]byte, t.length) }
+func (t *delegate) MergeRemoteState([]byte, bool)   {}
+func (t *delegate) AckPayload() []byte              { return make([]byte, 150) }
+func (t *delegate) GetBroadcasts(o, l int) [][]byte { return t.queue.GetBroadcasts(o, l) }
 
-// NotifyPingComplete is memberlist's.
-func (t *talker) NotifyPingComplete(*memberlist.Node, time.Duration, []byte) {}
+// NotifyPingComplete implements memberlist.PingDelegate.
+func (t *delegate) NotifyPingComplete(*memberlist.Node, time.Duration, []byte) {}
 
-func newTalker(length int) *talker {
-	return &talker{length: length, queue: &memberlist.TransmitLimitedQueue{RetransmitMult: 3, NumNodes: func() int { return 3 }}}
+func newDelegate(length int) *delegate {
+	return &delegate{length: length, queue: &memberlist.TransmitLimitedQueue{RetransmitMult: 3, NumNodes: func() int { return 3 }}}
 }
 
-// say broadcasts, and sends to each member.
-func (t *talker) say(list *memberlist.Memberlist) string {
+// sendAll queues broadcasts, and sends messages to each member.
+func (t *delegate) sendAll(list *memberlist.Memberlist) string {
 	for n := 0; n < 50; n++ {
-		t.queue.QueueBroadcast(talk(fmt.Sprintf("message %d of %s", n, list.LocalNode().Name)))
+		t.queue.QueueBroadcast(broadcast(fmt.Sprintf("message %d of %s", n, list.LocalNode().Name)))
 	}
 	for _, other := range list.Members() {
 		if err := list.SendReliable(other, make([]byte, 60_000)); err != nil {
@@ -78,7 +79,7 @@ func (t *talker) say(list *memberlist.Memberlist) string {
 
 func testConfig(name string, isKeyed bool) *memberlist.Config {
 	c := memberlist.DefaultLANConfig()
-	c.Name, c.BindAddr, c.BindPort, c.LogOutput, c.Delegate = name, "127.0.0.1", 0, io.Discard, newTalker(100)
+	c.Name, c.BindAddr, c.BindPort, c.LogOutput, c.Delegate = name, "127.0.0.1", 0, io.Discard, newDelegate(100)
 	c.DelegateProtocolMin, c.DelegateProtocolMax, c.DelegateProtocolVersion = 2, 5, 4
 	if isKeyed {
 		c.SecretKey = testKey
@@ -87,14 +88,14 @@ func testConfig(name string, isKeyed bool) *memberlist.Config {
 }
 
 func TestMain(m *testing.M) {
-	if told := os.Getenv(childVariable); told != "" {
-		runChild(told)
+	if encoded := os.Getenv(childVariable); encoded != "" {
+		runChild(encoded)
 		return
 	}
 	os.Exit(m.Run())
 }
 
-// local is a transport that sends to this host alone, whatever address a packet claims.
+// local is a transport that sends only to this host, whatever address a packet claims.
 type local struct{ *Transport }
 
 func isLocal(address string) bool { return strings.HasPrefix(address, "127.") }
@@ -108,34 +109,34 @@ func (l local) WriteToAddress(b []byte, to memberlist.Address) (time.Time, error
 
 func (l local) DialAddressTimeout(to memberlist.Address, timeout time.Duration) (net.Conn, error) {
 	if !isLocal(to.Addr) {
-		return nil, fmt.Errorf("%s is elsewhere", to.Addr)
+		return nil, fmt.Errorf("%s is not on this host", to.Addr)
 	}
 	return l.Transport.DialAddressTimeout(to, timeout)
 }
 
 // runChild answers lines until its input ends.
-func runChild(told string) {
-	var o order
-	if err := json.Unmarshal([]byte(told), &o); err != nil {
+func runChild(encoded string) {
+	var options childOptions
+	if err := json.Unmarshal([]byte(encoded), &options); err != nil {
 		panic(err)
 	}
-	c, own, guarded := testConfig(o.Name, o.IsKeyed), newTalker(100), (*Transport)(nil)
-	if o.IsHonest {
-		own.length, c.Ping, c.EnableCompression, c.SuspicionMult = 300_000, own, o.IsCompressed, 100
+	c, delegate, transport := testConfig(options.Name, options.IsKeyed), newDelegate(100), (*Transport)(nil)
+	if options.IsHonest {
+		delegate.length, c.Ping, c.EnableCompression, c.SuspicionMult = 300_000, delegate, options.IsCompressed, 100
 		c.ProbeInterval, c.ProbeTimeout = 300*time.Millisecond, 150*time.Millisecond
 		c.PushPullInterval, c.GossipInterval = 500*time.Millisecond, 20*time.Millisecond
 	}
-	if o.Members > 0 {
-		// (nobody is there who answers a probe: however long it lasts, none of them fails)
+	if options.Members > 0 {
+		// Nobody answers probes, so none may fail while the test lasts.
 		c.ProbeInterval = time.Hour
 	}
-	c.Delegate = own
-	if !o.IsAlone {
+	c.Delegate = delegate
+	if !options.IsAlone {
 		var err error
-		if guarded, err = New(c, Settings{Members: o.Members}); err != nil {
+		if transport, err = New(c, Settings{Members: options.Members}); err != nil {
 			panic(err)
 		}
-		c.Transport = local{guarded}
+		c.Transport = local{transport}
 	}
 	list, err := memberlist.Create(c)
 	if err != nil {
@@ -143,18 +144,18 @@ func runChild(told string) {
 	}
 	fmt.Println(list.LocalNode().Port)
 	for lines := bufio.NewScanner(os.Stdin); lines.Scan(); {
-		out, _ := json.Marshal(answer(list, own, guarded, strings.Fields(lines.Text())))
+		out, _ := json.Marshal(answer(list, delegate, transport, strings.Fields(lines.Text())))
 		fmt.Println(string(out))
 	}
 }
 
-func answer(list *memberlist.Memberlist, own *talker, guarded *Transport, words []string) any {
+func answer(list *memberlist.Memberlist, d *delegate, transport *Transport, words []string) any {
 	switch words[0] {
 	case "drops":
 		named := map[string]uint64{}
-		if guarded != nil {
-			for why, count := range guarded.Drops() {
-				named[why.String()] = count
+		if transport != nil {
+			for reason, count := range transport.Drops() {
+				named[reason.String()] = count
 			}
 		}
 		return named
@@ -162,8 +163,8 @@ func answer(list *memberlist.Memberlist, own *talker, guarded *Transport, words 
 		return list.NumMembers()
 	case "names":
 		var names []string
-		for _, one := range list.Members() {
-			names = append(names, one.Name)
+		for _, member := range list.Members() {
+			names = append(names, member.Name)
 		}
 		return names
 	case "join":
@@ -171,9 +172,9 @@ func answer(list *memberlist.Memberlist, own *talker, guarded *Transport, words 
 			return err.Error()
 		}
 	case "say":
-		return own.say(list)
+		return d.sendAll(list)
 	case "heard":
-		return own.heard.Load()
+		return d.received.Load()
 	case "leave":
 		if err := list.Leave(10 * time.Second); err != nil {
 			return err.Error()
@@ -182,10 +183,10 @@ func answer(list *memberlist.Memberlist, own *talker, guarded *Transport, words 
 	return ""
 }
 
-// child is a process, and a socket of the test to it.
+// child is a child process, and a socket through which the test sends to it.
 type child struct {
 	*testing.T
-	order
+	childOptions
 	process *exec.Cmd
 	in      io.WriteCloser
 	out     *bufio.Scanner
@@ -194,14 +195,14 @@ type child struct {
 	number  uint32
 }
 
-func startChild(t *testing.T, o order) *child {
+func startChild(t *testing.T, options childOptions) *child {
 	t.Helper()
-	if o.Name == "" {
-		o.Name, o.IsAlone = "child", o.IsAlone || os.Getenv("GUARD_ALONE") != ""
+	if options.Name == "" {
+		options.Name, options.IsAlone = "child", options.IsAlone || os.Getenv("GUARD_ALONE") != ""
 	}
-	told, _ := json.Marshal(o)
-	c := &child{T: t, order: o, process: exec.Command(os.Args[0])}
-	c.process.Env = append(os.Environ(), childVariable+"="+string(told), "GOMEMLIMIT=64MiB", "GORACE=exitcode=0")
+	encoded, _ := json.Marshal(options)
+	c := &child{T: t, childOptions: options, process: exec.Command(os.Args[0])}
+	c.process.Env = append(os.Environ(), childVariable+"="+string(encoded), "GOMEMLIMIT=64MiB", "GORACE=exitcode=0")
 	var errors strings.Builder
 	c.process.Stderr = &errors
 	c.in, _ = c.process.StdinPipe()
@@ -212,12 +213,12 @@ func startChild(t *testing.T, o order) *child {
 	}
 	t.Cleanup(func() {
 		c.in.Close()
-		if err := c.process.Wait(); err != nil || isRacing(errors.String()) {
+		if err := c.process.Wait(); err != nil || hasRace(errors.String()) {
 			t.Errorf("the child: %v %.4000s", err, errors.String())
 		}
 	})
 	if !c.out.Scan() {
-		t.Fatal("no child")
+		t.Fatal("the child did not start")
 	}
 	c.address = "127.0.0.1:" + c.out.Text()
 	var err error
@@ -228,10 +229,11 @@ func startChild(t *testing.T, o order) *child {
 	return c
 }
 
-// isRacing says whether the race detector found one of the guard's. memberlist has some of its own, as of a node's address.
-func isRacing(said string) bool {
+// hasRace reports whether the race detector found a race of the guard's. memberlist has races of its own, for example
+// in a node's address.
+func hasRace(output string) bool {
 	isAccess := false
-	for _, line := range strings.Split(said, "\n") {
+	for _, line := range strings.Split(output, "\n") {
 		switch {
 		case strings.Contains(line, " at 0x"):
 			isAccess = true
@@ -244,7 +246,7 @@ func isRacing(said string) bool {
 	return false
 }
 
-// ask has the child answer a line.
+// ask sends a line to the child, and decodes its answer.
 func (c *child) ask(line string, answer any) {
 	c.Helper()
 	fmt.Fprintln(c.in, line)
@@ -256,13 +258,13 @@ func (c *child) ask(line string, answer any) {
 	}
 }
 
-func (c *child) drops() (all map[string]uint64) {
+func (c *child) drops() (drops map[string]uint64) {
 	c.Helper()
-	c.ask("drops", &all)
-	return all
+	c.ask("drops", &drops)
+	return drops
 }
 
-// seal encrypts a packet where there is a key.
+// seal encrypts a packet if there is a key.
 func (c *child) seal(packet []byte) []byte {
 	if c.IsKeyed {
 		return sealWith(testKey, packet)
@@ -277,12 +279,12 @@ func (c *child) sealStream(message []byte) []byte {
 	return message
 }
 
-// isAlive pings until an ack comes. All packets that were sent before are looked at then.
+// isAlive pings the child until an ack arrives. By then it has inspected all packets that were sent before.
 func (c *child) isAlive() bool {
 	buf := make([]byte, 65536)
 	for try := 0; try < 20; try++ {
 		c.number++
-		c.udp.Write(c.seal(message(kindPing, map[string]any{"SeqNo": c.number, "Node": c.Name})))
+		c.udp.Write(c.seal(message(msgPing, map[string]any{"SeqNo": c.number, "Node": c.Name})))
 		c.udp.SetReadDeadline(time.Now().Add(500 * time.Millisecond))
 		for {
 			n, err := c.udp.Read(buf)
@@ -301,7 +303,7 @@ func (c *child) isAlive() bool {
 	return false
 }
 
-// call sends a stream, and gives what comes back until the child closes it.
+// call sends a stream, and returns what the child answers until it closes the stream.
 func (c *child) call(bytes []byte, isClosed bool) []byte {
 	conn, err := net.Dial("tcp", c.address)
 	if err != nil {
@@ -313,26 +315,26 @@ func (c *child) call(bytes []byte, isClosed bool) []byte {
 	if isClosed {
 		conn.(*net.TCPConn).CloseWrite()
 	}
-	back, _ := io.ReadAll(conn)
-	return back
+	answer, _ := io.ReadAll(conn)
+	return answer
 }
 
-// mustJoin has an honest node's push/pull answered.
+// mustJoin expects an answer to an honest node's push/pull.
 func (c *child) mustJoin() {
 	c.Helper()
-	back := c.call(c.sealStream(pushPull([]map[string]any{node("honest", nil)}, 10)), false)
-	if c.IsKeyed && len(back) > streamHead {
-		back = openStreamWith(testKey, back)
+	answer := c.call(c.sealStream(pushPull([]map[string]any{node("honest", nil)}, 10)), false)
+	if c.IsKeyed && len(answer) > streamHeader {
+		answer = openStreamWith(testKey, answer)
 	}
-	if len(back) == 0 || back[0] != kindCompress && back[0] != kindPushPull {
-		c.Errorf("no answer to a push/pull: %.40x", back)
+	if len(answer) == 0 || answer[0] != msgCompress && answer[0] != msgPushPull {
+		c.Errorf("no answer to a push/pull: %.40x", answer)
 	}
 }
 
-// peak is the most memory that the child had, in KiB.
-func (c *child) peak() (kib int) {
-	all, _ := os.ReadFile(fmt.Sprintf("/proc/%d/status", c.process.Process.Pid))
-	for _, line := range strings.Split(string(all), "\n") {
+// peakKiB returns the maximum memory that the child had, in KiB.
+func (c *child) peakKiB() (kib int) {
+	status, _ := os.ReadFile(fmt.Sprintf("/proc/%d/status", c.process.Process.Pid))
+	for _, line := range strings.Split(string(status), "\n") {
 		fmt.Sscanf(line, "VmHWM: %d kB", &kib)
 	}
 	return kib

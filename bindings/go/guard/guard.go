@@ -1,16 +1,20 @@
-// Package guard is a transport for HashiCorp's memberlist 0.2.2 that looks at each packet and each stream before memberlist does.
-// memberlist believes lengths, versions and nesting as they come: one packet may end any program on it. A program says
+// Package guard is a transport for HashiCorp's memberlist 0.2.2 that inspects each packet and each stream before
+// memberlist reads it. memberlist trusts the lengths, versions and nesting that the network sends, so a single packet
+// can crash any program that uses it. A program sets
 //
 //	config.Transport, err = guard.New(config, guard.Defaults())
 //
-// before memberlist.Create, and changes nothing else; Shutdown of memberlist ends the transport too. It is tested, and not proved.
+// before it calls memberlist.Create, and changes nothing else. memberlist's Shutdown also stops the transport. The
+// package is tested, not proved.
 //
-// What is wrong is dropped, and counted by a fixed set of reasons. A wrong part of a compound, and a wrong entry of a push/pull, is cut
-// out, and the rest passed on: honest nodes pass on what they heard. All else memberlist reads byte for byte as it came. Where there is
-// a key, the guard decrypts to look, and encrypts anew what it changed alone.
+// The guard drops what is malformed or out of bounds, and counts it by a fixed set of reasons. If only a part of a
+// compound message or an entry of a push/pull is bad, the guard cuts out that part and passes on the rest, because
+// honest nodes relay what they received. Everything else reaches memberlist byte for byte. If gossip is encrypted, the
+// guard decrypts it for the inspection, and encrypts anew only what it changed.
 //
-// No transport can guard against who may speak at all: forged news of nodes, replays, and floods. What is in users' messages and states,
-// and in the payload of an ack, is the program's to look at. One that has to stay within some memory sets GOMEMLIMIT too.
+// No transport can decide who may send: forged news about nodes, replays and floods pass the guard. The program itself
+// has to check the contents of user messages, user states and ack payloads. A program that has to stay within a memory
+// limit sets GOMEMLIMIT as well.
 package guard
 
 import (
@@ -23,35 +27,40 @@ import (
 	"github.com/hashicorp/memberlist"
 )
 
-// Settings are bounds. One that is 0 is that of Defaults.
+// Settings are the guard's bounds. A bound of 0 stands for the value of Defaults.
 type Settings struct {
-	// PacketBytes is how many bytes a packet has at most, as it comes and decompressed.
+	// PacketBytes is the maximum size of a packet in bytes, both as received and after decompression.
 	PacketBytes int
-	// StreamBytes is how many bytes the message of a stream has at most, as it comes, decrypted, and decompressed. AllBytes is how many
-	// all streams hold together.
+	// StreamBytes is the maximum size in bytes of a stream's message as received, after decryption, and after
+	// decompression. AllBytes is the maximum that all streams hold together.
 	StreamBytes, AllBytes int
-	// Streams is how many that came are open at once: for one more the oldest goes whose message isn't there. PushPulls is how many of
-	// them memberlist answers with its own state at once, and where it knows many nodes as many as take AllBytes, with 1 KiB for a node. The
-	// others wait, within memberlist's time for a stream.
+	// Streams is the maximum number of accepted streams that are open at once. When one more arrives, the oldest stream
+	// whose message is incomplete is closed. PushPulls is the maximum number of push/pulls that memberlist answers with
+	// its own state at once. If it knows many nodes, the answers also have to fit into AllBytes, at 1 KiB for each node.
+	// Other push/pulls wait, for at most memberlist's deadline for a stream.
 	Streams, PushPulls int
-	// Nodes is how many entries a push/pull has at most.
+	// Nodes is the maximum number of entries in a push/pull.
 	Nodes int
-	// UserBytes is how many bytes a user's message by stream has at most, and AckBytes what an ack carries, as a coordinate.
+	// UserBytes is the maximum size in bytes of a user message sent by stream, and AckBytes that of an ack's payload,
+	// such as a coordinate.
 	UserBytes, AckBytes int
-	// IndirectPings is how many of them go on in a second.
+	// IndirectPings is the maximum number of indirect pings that reach memberlist in a second.
 	IndirectPings int
-	// Members is how many nodes may be known. Where there are as many, new ones stay out.
+	// Members is the maximum number of known nodes. When it is reached, new nodes are not admitted.
 	Members int
-	// Known tells how many nodes are known, and whether one of that name is. It is called for each node that is said to be alive, by
-	// several goroutines. Where it is nil, those count that memberlist's events told of, and the dead until memberlist forgets them.
+	// Known returns how many nodes are known, and whether a node of that name is among them. Several goroutines call
+	// it, once for each node that a message reports as alive. If it is nil, the guard counts the nodes that
+	// memberlist's events reported, and dead nodes until memberlist forgets them.
 	Known func(name string) (members int, isKnown bool)
-	// Protocols and Delegates are the versions of memberlist's protocol, and of the delegate's, that each node has to understand, and
-	// one of which it speaks: so no two that come in refuse each other. Where their Greatest is 0 they are 1 to 5, and
-	// DelegateProtocolMin to DelegateProtocolMax of the configuration. A cluster that moves to other ones sets what its oldest node has.
+	// Protocols and Delegates are the ranges of memberlist's protocol version and of the delegate's protocol version.
+	// Every node has to understand the whole range and speak a version within it, so no two admitted nodes refuse each
+	// other. If the maximum of Protocols is 0, its range is 1 to 5; if that of Delegates is 0, its range is
+	// DelegateProtocolMin to DelegateProtocolMax of memberlist's configuration. To move a cluster to other versions,
+	// set what its oldest node understands.
 	Protocols, Delegates VersionRange
 }
 
-// Defaults are the bounds where nothing else is said.
+// Defaults returns the default bounds.
 func Defaults() Settings {
 	return Settings{
 		PacketBytes: 10 << 10, StreamBytes: 4 << 20, AllBytes: 8 << 20, Streams: 128, PushPulls: 16, Nodes: 16384, UserBytes: 64 << 10,
@@ -60,59 +69,73 @@ func Defaults() Settings {
 	}
 }
 
-// complete has the bounds of a configuration, with what stands where nothing is said.
-func (s Settings) complete(c *memberlist.Config) (Settings, error) {
-	least := Defaults()
-	for _, one := range []struct{ own, least *int }{
-		{&s.PacketBytes, &least.PacketBytes}, {&s.StreamBytes, &least.StreamBytes}, {&s.AllBytes, &least.AllBytes}, {&s.Streams, &least.Streams},
-		{&s.PushPulls, &least.PushPulls}, {&s.Nodes, &least.Nodes}, {&s.UserBytes, &least.UserBytes}, {&s.AckBytes, &least.AckBytes},
-		{&s.IndirectPings, &least.IndirectPings}, {&s.Members, &least.Members},
+// withDefaults fills in the bounds that are 0. The error names the first setting that is out of its bounds.
+func (s Settings) withDefaults(c *memberlist.Config) (Settings, error) {
+	defaults := Defaults()
+	for _, bound := range []struct {
+		name            string
+		value, fallback *int
+	}{
+		{"PacketBytes", &s.PacketBytes, &defaults.PacketBytes},
+		{"StreamBytes", &s.StreamBytes, &defaults.StreamBytes},
+		{"AllBytes", &s.AllBytes, &defaults.AllBytes},
+		{"Streams", &s.Streams, &defaults.Streams},
+		{"PushPulls", &s.PushPulls, &defaults.PushPulls},
+		{"Nodes", &s.Nodes, &defaults.Nodes},
+		{"UserBytes", &s.UserBytes, &defaults.UserBytes},
+		{"AckBytes", &s.AckBytes, &defaults.AckBytes},
+		{"IndirectPings", &s.IndirectPings, &defaults.IndirectPings},
+		{"Members", &s.Members, &defaults.Members},
 	} {
-		if *one.own == 0 {
-			*one.own = *one.least
+		if *bound.value == 0 {
+			*bound.value = *bound.fallback
 		}
-		if *one.own < 0 {
-			return s, fmt.Errorf("guard: a bound is %d", *one.own)
+		if *bound.value < 0 {
+			return s, fmt.Errorf("guard: %s is %d, below 0", bound.name, *bound.value)
 		}
 	}
-	if s.Protocols.Greatest == 0 {
-		s.Protocols = least.Protocols
+	if s.Protocols.Max == 0 {
+		s.Protocols = defaults.Protocols
 	}
-	if s.Delegates.Greatest == 0 {
+	if s.Delegates.Max == 0 {
 		s.Delegates = VersionRange{c.DelegateProtocolMin, c.DelegateProtocolMax}
 	}
 	switch {
-	case s.StreamBytes < leastStream || s.AllBytes < s.StreamBytes:
-		return s, fmt.Errorf("guard: streams of %d bytes, and %d together", s.StreamBytes, s.AllBytes)
+	case s.StreamBytes < minStreamBuffer:
+		return s, fmt.Errorf("guard: StreamBytes is %d, below the minimum of %d", s.StreamBytes, minStreamBuffer)
+	case s.AllBytes < s.StreamBytes:
+		return s, fmt.Errorf("guard: AllBytes is %d, below StreamBytes, which is %d", s.AllBytes, s.StreamBytes)
 	case c.UDPBufferSize > s.PacketBytes:
-		return s, fmt.Errorf("guard: UDPBufferSize is %d, and a packet has at most %d bytes", c.UDPBufferSize, s.PacketBytes)
-	case c.Name == "" || len(c.Name) > greatestName:
-		return s, fmt.Errorf("guard: a name has 1 to %d bytes, and this node's has %d", greatestName, len(c.Name))
+		return s, fmt.Errorf("guard: UDPBufferSize is %d, above PacketBytes, which is %d", c.UDPBufferSize, s.PacketBytes)
+	case c.Name == "" || len(c.Name) > maxName:
+		return s, fmt.Errorf("guard: Name has %d bytes, and must have 1 to %d", len(c.Name), maxName)
 	case c.ProtocolVersion < 2 && (c.Keyring != nil || len(c.SecretKey) > 0):
-		return s, fmt.Errorf("guard: with keys memberlist's protocol is 2 or above, and not %d", c.ProtocolVersion)
+		return s, fmt.Errorf("guard: ProtocolVersion is %d, and encryption needs 2 or above", c.ProtocolVersion)
 	}
 	return s, nil
 }
 
-// core is what all that looks has in common.
+// core is the state that all inspectors share.
 type core struct {
 	bounds              Settings
-	shapes              *shapes
+	schemas             *schemas
 	ring                ring
 	verifyIn, verifyOut bool
 	drops               drops
 	members             *members
 	pings               pings
 	streams             streams
-	// indirect is how fast indirect pings come, and told how fast streams are refused aloud.
-	indirect, told rate
+	// indirectPings limits indirect pings, and loggedRefusals how often a refused stream returns an error, which
+	// memberlist logs.
+	indirectPings, loggedRefusals rate
 }
 
-// New makes a transport that listens at the BindAddr and BindPort of a configuration. As memberlist does for its own transport, it sets
-// BindPort and AdvertisePort where BindPort is 0, and Keyring where there is a SecretKey alone. It puts itself before Events. So these
-// have to be there before: Name, the addresses, the versions, SecretKey or Keyring, Events, and where the log goes.
+// New makes a transport that listens at BindAddr and BindPort of config. Like memberlist with its own transport, it
+// sets BindPort and AdvertisePort if BindPort is 0, and Keyring if only SecretKey is set. It also wraps config.Events.
+// So set these fields before the call: Name, the addresses, the versions, SecretKey or Keyring, Events, and Logger or
+// LogOutput.
 func New(config *memberlist.Config, settings Settings) (*Transport, error) {
-	bounds, err := settings.complete(config)
+	bounds, err := settings.withDefaults(config)
 	if err != nil {
 		return nil, err
 	}
@@ -122,7 +145,7 @@ func New(config *memberlist.Config, settings Settings) (*Transport, error) {
 		}
 	}
 	c := &core{
-		bounds: bounds, shapes: makeShapes(&bounds), ring: ring{source: config.Keyring}, verifyIn: config.GossipVerifyIncoming,
+		bounds: bounds, schemas: newSchemas(&bounds), ring: ring{source: config.Keyring}, verifyIn: config.GossipVerifyIncoming,
 		verifyOut: config.GossipVerifyOutgoing,
 	}
 	c.streams = streams{bounds: &c.bounds, drops: &c.drops, changed: make(chan struct{})}
@@ -158,5 +181,5 @@ func logger(c *memberlist.Config) *log.Logger {
 	return log.New(to, "", log.LstdFlags)
 }
 
-// Drops counts what was dropped since New, by reason. A reason for which nothing was dropped isn't there.
+// Drops returns how much was dropped since New, by reason. It leaves out the reasons for which nothing was dropped.
 func (t *Transport) Drops() map[Reason]uint64 { return t.drops.counts() }

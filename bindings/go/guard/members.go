@@ -8,67 +8,70 @@ import (
 	"github.com/hashicorp/memberlist"
 )
 
-// letInTime is how long a new node is awaited in memberlist's list before its place is another's.
-const letInTime = 10 * time.Second
+// admitTime is how long the place of an admitted node is kept until memberlist reports that it joined.
+const admitTime = 10 * time.Second
 
-// members is the bound of nodes. It hears of them as memberlist's EventDelegate, beside the program's own.
+// members limits the number of nodes. As memberlist's EventDelegate it learns which nodes join and leave, and passes
+// each event on to the program's own delegate.
 type members struct {
-	most  int
+	max   int
 	known func(name string) (int, bool)
 	next  memberlist.EventDelegate
-	// tick and stay are how often memberlist probes a node, and how long it tells of a dead one. It forgets a dead one when it has
-	// probed each other one (state.go, resetNodes).
-	tick, stay time.Duration
+	// probeInterval is how often memberlist probes a node, and deadTime how long it gossips to a dead one. memberlist
+	// forgets a dead node after it has probed every other one (state.go, resetNodes).
+	probeInterval, deadTime time.Duration
 
-	// admitting is held while it is found whether there is room.
-	admitting sync.Mutex
+	// admitMu is held while admit checks whether there is room.
+	admitMu sync.Mutex
 
-	mu          sync.Mutex
-	there       map[string]bool
-	left, letIn map[string]time.Time
-	sweptAt     time.Time
+	mu             sync.Mutex
+	alive          map[string]bool
+	left, admitted map[string]time.Time
+	sweptAt        time.Time
 }
 
 func newMembers(s *Settings, c *memberlist.Config) *members {
 	m := &members{
-		most: s.Members, known: s.Known, tick: c.ProbeInterval, stay: c.GossipToTheDeadTime, there: map[string]bool{},
-		left: map[string]time.Time{}, letIn: map[string]time.Time{},
+		max: s.Members, known: s.Known, probeInterval: c.ProbeInterval, deadTime: c.GossipToTheDeadTime, alive: map[string]bool{},
+		left: map[string]time.Time{}, admitted: map[string]time.Time{},
 	}
 	m.next, c.Events = c.Events, m
 	if m.known == nil {
-		m.known = m.heardOf
+		m.known = m.seen
 	}
 	return m
 }
 
-// admit says whether a node may be, and keeps a place for one that memberlist doesn't know yet.
+// admit reports whether a node may become or stay a member, and reserves a place for a node that memberlist doesn't
+// know yet.
 func (m *members) admit(name []byte) bool {
-	m.admitting.Lock()
-	defer m.admitting.Unlock()
+	m.admitMu.Lock()
+	defer m.admitMu.Unlock()
 	now := time.Now()
 	m.sweep(now)
-	// (who is awaited and comes just now counts twice, and so is never missed)
+	// A node that joins at this moment is counted twice rather than not at all.
 	m.mu.Lock()
-	awaited := len(m.letIn)
-	_, isLetIn := m.letIn[string(name)]
+	pending := len(m.admitted)
+	_, isAdmitted := m.admitted[string(name)]
 	m.mu.Unlock()
 	count, isKnown := m.known(string(name))
 	m.mu.Lock()
 	defer m.mu.Unlock()
 	if isKnown {
-		delete(m.letIn, string(name))
+		delete(m.admitted, string(name))
 		return true
 	}
-	if !isLetIn && count+awaited >= m.most {
+	if !isAdmitted && count+pending >= m.max {
 		return false
 	}
-	if !isLetIn {
-		m.letIn[string(name)] = now
+	if !isAdmitted {
+		m.admitted[string(name)] = now
 	}
 	return true
 }
 
-// sweep lets go of the places of nodes that never came, and of those that memberlist has forgotten. It does so once a second.
+// sweep frees the places of nodes that never joined, and of those that memberlist has forgotten. It runs at most once a
+// second.
 func (m *members) sweep(now time.Time) {
 	m.mu.Lock()
 	defer m.mu.Unlock()
@@ -76,11 +79,11 @@ func (m *members) sweep(now time.Time) {
 		return
 	}
 	m.sweptAt = now
-	forget(m.letIn, now.Add(-letInTime))
-	forget(m.left, now.Add(-m.stay-time.Duration(len(m.there)+2)*m.tick))
+	removeBefore(m.admitted, now.Add(-admitTime))
+	removeBefore(m.left, now.Add(-m.deadTime-time.Duration(len(m.alive)+2)*m.probeInterval))
 }
 
-func forget(times map[string]time.Time, before time.Time) {
+func removeBefore(times map[string]time.Time, before time.Time) {
 	for name, at := range times {
 		if at.Before(before) {
 			delete(times, name)
@@ -88,30 +91,30 @@ func forget(times map[string]time.Time, before time.Time) {
 	}
 }
 
-// heardOf is the default of Settings.Known: memberlist's list as its events tell it.
-func (m *members) heardOf(name string) (int, bool) {
+// seen is the default for Settings.Known: it counts the nodes that memberlist's events reported.
+func (m *members) seen(name string) (int, bool) {
 	m.mu.Lock()
 	defer m.mu.Unlock()
 	_, hasLeft := m.left[name]
-	return len(m.there) + len(m.left), m.there[name] || hasLeft
+	return len(m.alive) + len(m.left), m.alive[name] || hasLeft
 }
 
-// NotifyJoin is memberlist's.
+// NotifyJoin implements memberlist.EventDelegate.
 func (m *members) NotifyJoin(n *memberlist.Node) {
 	if m.next != nil {
 		m.next.NotifyJoin(n)
 	}
 	m.mu.Lock()
 	delete(m.left, n.Name)
-	delete(m.letIn, n.Name)
-	m.there[n.Name] = true
+	delete(m.admitted, n.Name)
+	m.alive[n.Name] = true
 	m.mu.Unlock()
 }
 
-// NotifyLeave is memberlist's.
+// NotifyLeave implements memberlist.EventDelegate.
 func (m *members) NotifyLeave(n *memberlist.Node) {
 	m.mu.Lock()
-	delete(m.there, n.Name)
+	delete(m.alive, n.Name)
 	m.left[n.Name] = time.Now()
 	m.mu.Unlock()
 	if m.next != nil {
@@ -119,45 +122,46 @@ func (m *members) NotifyLeave(n *memberlist.Node) {
 	}
 }
 
-// NotifyUpdate is memberlist's.
+// NotifyUpdate implements memberlist.EventDelegate.
 func (m *members) NotifyUpdate(n *memberlist.Node) {
 	if m.next != nil {
 		m.next.NotifyUpdate(n)
 	}
 }
 
-// pings are the sequence numbers of those that went out last. Memberlist publishes what takes an ack before it sets what that stops
-// (state.go, setProbeChannels), and sends the ping behind both: an ack that comes before may end the program.
+// pings holds the sequence numbers of the last pings that were sent. memberlist publishes the handler of an ack before
+// it sets the timer that the handler stops (state.go, setProbeChannels), and sends the ping after both. So an ack that
+// arrives before its ping was sent may crash the program.
 type pings struct {
 	sent [4096]atomic.Uint32
-	// unread is when a packet went out that couldn't be read: behind that nothing is said to be unasked for a while.
-	unread atomic.Int64
+	// unreadableAt is when a packet was sent that the guard could not read, in nanoseconds since 1970. It may have
+	// contained a ping, so for unreadableTime after that every ack is expected.
+	unreadableAt atomic.Int64
 }
 
-// unreadTime is how long that while is.
-const unreadTime = time.Minute
+const unreadableTime = time.Minute
 
-func (p *pings) at(number uint32) *atomic.Uint32 { return &p.sent[number%uint32(len(p.sent))] }
-func (p *pings) out(number uint32)               { p.at(number).Store(number) }
-func (p *pings) outUnread()                      { p.unread.Store(time.Now().UnixNano()) }
+func (p *pings) slot(number uint32) *atomic.Uint32 { return &p.sent[number%uint32(len(p.sent))] }
+func (p *pings) add(number uint32)                 { p.slot(number).Store(number) }
+func (p *pings) addUnreadable()                    { p.unreadableAt.Store(time.Now().UnixNano()) }
 
-func (p *pings) isAsked(number uint32) bool {
-	return p.at(number).Load() == number || time.Since(time.Unix(0, p.unread.Load())) < unreadTime
+func (p *pings) isExpected(number uint32) bool {
+	return p.slot(number).Load() == number || time.Since(time.Unix(0, p.unreadableAt.Load())) < unreadableTime
 }
 
-// rate allows so many a second.
+// rate allows a number of calls in a second.
 type rate struct {
 	mu    sync.Mutex
 	began time.Time
 	count int
 }
 
-func (r *rate) allows(most int) bool {
+func (r *rate) allows(limit int) bool {
 	r.mu.Lock()
 	defer r.mu.Unlock()
 	if now := time.Now(); now.Sub(r.began) >= time.Second {
 		r.began, r.count = now, 0
 	}
 	r.count++
-	return r.count <= most
+	return r.count <= limit
 }

@@ -6,92 +6,93 @@ import (
 	"kitchenrue.example/guard/msgpack"
 )
 
-// reader takes what go-msgpack writes of memberlist's types, and reads it as go-msgpack does: nothing is within a value.
+// reader accepts only what go-msgpack writes for memberlist's types, where no field's value contains other values, and
+// reads it as go-msgpack does.
 type reader struct{ msgpack.Reader }
 
-func readerOf(data []byte) reader { return reader{msgpack.Reader{Data: data}} }
+func newReader(data []byte) reader { return reader{msgpack.Reader{Data: data}} }
 
-// lost is why nothing can be read any more.
-func (r *reader) lost() Reason {
-	switch why := r.Err.(type) {
+// failure returns why nothing more can be read, or none.
+func (r *reader) failure() Reason {
+	switch err := r.Err.(type) {
 	case nil:
 		return none
-	case refusal:
-		return Reason(why)
+	case refusalError:
+		return Reason(err)
 	}
 	return Malformed
 }
 
-// lose notes why nothing can be read any more, where there is a reason.
-func (r *reader) lose(why Reason) {
-	if why != none {
-		r.Fail(refusal(why))
+// failWith notes why nothing more can be read. It does nothing if reason is none.
+func (r *reader) failWith(reason Reason) {
+	if reason != none {
+		r.Fail(refusalError(reason))
 	}
 }
 
 type value struct {
-	sort   msgpack.Sort
+	kind   msgpack.Kind
 	number uint64
 	bytes  []byte
 }
 
-// scalar reads any value that has none within.
+// scalar reads a value that contains no other values.
 func (r *reader) scalar() value {
-	sort, is := r.Next()
-	switch sort {
+	kind, size := r.Next()
+	switch kind {
 	case msgpack.Text, msgpack.Bytes:
-		if is > 1<<30 {
-			r.lose(Malformed)
+		if size > 1<<30 {
+			r.failWith(Malformed)
 		}
-		return value{sort: sort, bytes: r.Take(int(is))}
+		return value{kind: kind, bytes: r.Take(int(size))}
 	case msgpack.Array, msgpack.Map:
-		r.lose(Malformed)
+		r.failWith(Malformed)
 	}
-	return value{sort: sort, number: is}
+	return value{kind: kind, number: size}
 }
 
-// greatestKey and greatestExtra are how many bytes the name of a field, and the value of an unknown one, have at most.
+// maxKey is the maximum length in bytes of a field's name, and maxUnknownValue that of an unknown field's value.
 const (
-	greatestKey   = 64
-	greatestExtra = 1024
+	maxKey          = 64
+	maxUnknownValue = 1024
 )
 
-// object reads a map of the fields of a shape into values, each once at most, and unknown ones beside. Where one is wrong, the rest is
-// read all the same, as long as it can be.
-func (r *reader) object(s shape, values *[greatestShape]value) Reason {
+// readFields reads a map whose keys are the schema's fields, each at most once, into values. Unknown fields are
+// skipped. If a value is wrong, the rest is read as far as possible, so that the caller knows where the map ends.
+func (r *reader) readFields(s schema, values *[maxFields]value) Reason {
 	head := r.Uint(1)
 	if head&0xf0 != 0x80 {
-		r.lose(Malformed)
+		r.failWith(Malformed)
 	}
 	var seen uint
-	var fault Reason
+	var firstReason Reason
 	for n := head & 0x0f; n > 0 && r.Err == nil; n-- {
 		key := r.scalar()
-		if key.sort != msgpack.Text || len(key.bytes) > greatestKey {
-			r.lose(Malformed)
+		if key.kind != msgpack.Text || len(key.bytes) > maxKey {
+			r.failWith(Malformed)
 		}
-		at, v := s.index(key.bytes), r.scalar()
-		why := none
+		index, v := s.indexOf(key.bytes), r.scalar()
+		reason := none
 		switch {
-		case at < 0 && len(v.bytes) > greatestExtra, at >= 0 && seen&(1<<at) != 0:
-			why = Malformed
-		case at >= 0:
-			seen |= 1 << at
-			values[at] = v
-			why = s[at].check(v)
+		case index < 0 && len(v.bytes) > maxUnknownValue, index >= 0 && seen&(1<<index) != 0:
+			reason = Malformed
+		case index >= 0:
+			seen |= 1 << index
+			values[index] = v
+			reason = s[index].check(v)
 		}
-		fault = fault.or(why)
+		firstReason = firstReason.or(reason)
 	}
-	for at, f := range s {
-		if seen&(1<<at) == 0 && f.least > 0 {
-			fault = fault.or(f.why)
+	for i, f := range s {
+		if seen&(1<<i) == 0 && f.min > 0 {
+			firstReason = firstReason.or(f.reason)
 		}
 	}
-	return r.lost().or(fault)
+	return r.failure().or(firstReason)
 }
 
-// writeNumber and writeText write as go-msgpack does.
-func writeNumber(out []byte, n uint64) []byte {
+// appendNumber and appendText encode as go-msgpack does.
+func appendNumber(out []byte, n uint64) []byte {
 	switch {
 	case n < 0x80:
 		return append(out, byte(n))
@@ -101,6 +102,6 @@ func writeNumber(out []byte, n uint64) []byte {
 	return binary.BigEndian.AppendUint32(append(out, 0xce), uint32(n))
 }
 
-func writeText(out []byte, text string) []byte {
+func appendText(out []byte, text string) []byte {
 	return append(append(out, 0xa0|byte(len(text))), text...)
 }

@@ -10,7 +10,7 @@ import (
 	"time"
 )
 
-// What a program on Serf reads in users' messages and in states.
+// The types of Serf's messages within user messages and user states.
 const (
 	leaveIntent = iota
 	joinIntent
@@ -19,26 +19,27 @@ const (
 	queryOfSerf
 )
 
-// TestOutside sends to a process that isn't this test's, an agent of Serf's kind (tests/by_hand/hostile_hour.py starts it): each single
-// case, changed packets and streams, answers where it dials, and floods of members, intents, events, queries and states. GUARD_AT is its
-// address, GUARD_NAME its name, GUARD_KEYED says that it has this test's key, and GUARD_SECONDS how long it lasts.
+// TestOutside sends to another process, an agent of a Serf cluster, which tests/by_hand/hostile_hour.py starts: each
+// single case, changed packets and streams, answers when the agent dials, and floods of members, intents, events,
+// queries and states. GUARD_AT is its address and GUARD_NAME its name. GUARD_KEYED is set if it has this test's key.
+// GUARD_SECONDS is how long the test lasts.
 func TestOutside(t *testing.T) {
-	at := os.Getenv("GUARD_AT")
-	if at == "" {
-		t.Skip("it needs an agent, whose address GUARD_AT has")
+	address := os.Getenv("GUARD_AT")
+	if address == "" {
+		t.Skip("set GUARD_AT to the address of an agent")
 	}
-	c := &child{T: t, order: order{Name: os.Getenv("GUARD_NAME"), IsKeyed: os.Getenv("GUARD_KEYED") != ""}, address: at}
+	c := &child{T: t, childOptions: childOptions{Name: os.Getenv("GUARD_NAME"), IsKeyed: os.Getenv("GUARD_KEYED") != ""}, address: address}
 	var err error
-	if c.udp, err = net.Dial("udp", at); err != nil {
+	if c.udp, err = net.Dial("udp", address); err != nil {
 		t.Fatal(err)
 	}
-	c.answerChanged()
+	c.answerWithChangedStreams()
 	rounds, counts := int64(0), map[string]int{}
 	for end := time.Now().Add(time.Duration(numberOf("GUARD_SECONDS", 10)) * time.Second); time.Now().Before(end); rounds++ {
 		r := rand.New(rand.NewSource(rounds + int64(numberOf("GUARD_SEED", 1))))
 		c.round(r, counts)
-		for at, count := range c.flood(20*time.Second, r.Int63()) {
-			counts[[]string{"changed packets", "changed streams", "idle streams"}[at]] += int(count)
+		for i, count := range c.flood(20*time.Second, r.Int63()) {
+			counts[[]string{"changed packets", "changed streams", "idle streams"}[i]] += int(count)
 		}
 		if !c.isAlive() {
 			t.Fatalf("no answer in round %d", rounds)
@@ -48,35 +49,35 @@ func TestOutside(t *testing.T) {
 	t.Logf("%d rounds: %v", rounds, counts)
 }
 
-// round sends each single case once, and each flood.
+// round sends each single case and each flood once.
 func (c *child) round(r *rand.Rand, counts map[string]int) {
-	for _, one := range packetCases() {
-		c.udp.Write(c.seal(one.bytes))
+	for _, test := range packetCases() {
+		c.udp.Write(c.seal(test.bytes))
 		counts["single packets"]++
 	}
-	for _, one := range streamCases() {
-		c.send(c.sealStream(one.bytes))
+	for _, test := range streamCases() {
+		c.send(c.sealStream(test.bytes))
 		counts["single streams"]++
 	}
 	if c.IsKeyed {
-		for _, one := range sealedPackets() {
-			c.udp.Write(one.bytes)
-			c.udp.Write(change(r, c.seal(message(kindPing, ping))))
-			counts["packets by who has no key"] += 2
+		for _, test := range sealedPackets() {
+			c.udp.Write(test.bytes)
+			c.udp.Write(mutate(r, c.seal(message(msgPing, ping))))
+			counts["packets without the key"] += 2
 		}
-		for _, one := range sealedStreams() {
-			c.send(one.bytes)
-			counts["streams by who has no key"]++
+		for _, test := range sealedStreams() {
+			c.send(test.bytes)
+			counts["streams without the key"]++
 		}
 	}
-	for _, one := range floodsOf(c.Name) {
-		for n := 0; n < one.most; n++ {
-			c.udp.Write(c.seal(one.make(r)))
+	for _, flood := range floodsOf(c.Name) {
+		for n := 0; n < flood.count; n++ {
+			c.udp.Write(c.seal(flood.make(r)))
 			if n%500 == 499 && !c.isAlive() {
-				c.Fatalf("%s: no answer behind %d", one.name, n)
+				c.Fatalf("%s: no answer after %d", flood.name, n)
 			}
 		}
-		counts[one.name] += one.most
+		counts[flood.name] += flood.count
 	}
 	for n := 0; n < 100; n++ {
 		c.send(c.sealStream(stateFlood(r)))
@@ -84,8 +85,8 @@ func (c *child) round(r *rand.Rand, counts map[string]int) {
 	}
 }
 
-// answerChanged has all false members, who share one address, answer with changed streams.
-func (c *child) answerChanged() {
+// answerWithChangedStreams answers for all forged members, which share one address, with changed streams.
+func (c *child) answerWithChangedStreams() {
 	l, err := net.Listen("tcp", "127.0.0.9:9")
 	if err != nil {
 		c.Fatal(err)
@@ -111,13 +112,13 @@ func (c *child) answerChanged() {
 	}()
 }
 
-type flooder struct {
-	maker
-	most int
+type flood struct {
+	generator
+	count int
 }
 
-// someTime is a time near this one, or any, or one that no honest clock reaches, or one around the bound from which the package serf drops
-// times: 2^62 and the time of day in nanoseconds, which the clocks are brought to.
+// someTime returns a Lamport time: a small one, any, one that is implausibly far ahead, or one around the bound above
+// which package serf drops times, which is 2^62 plus the time of day in nanoseconds.
 func someTime(r *rand.Rand) uint64 {
 	switch r.Intn(5) {
 	case 0:
@@ -132,10 +133,10 @@ func someTime(r *rand.Rand) uint64 {
 	return uint64(r.Intn(1 << 20))
 }
 
-func serfs(kind byte, what any) []byte { return append([]byte{kindUser, kind}, encode(what)...) }
+func serfMessage(kind byte, what any) []byte { return append([]byte{msgUser, kind}, encode(what)...) }
 
-// floodsOf are what nobody's length or version shows to be wrong, for a node of this name.
-func floodsOf(name string) []flooder {
+// floodsOf returns floods of messages that are well-formed, for a node with this name.
+func floodsOf(name string) []flood {
 	stranger := func(r *rand.Rand) string { return fmt.Sprint("stranger", r.Intn(1<<20)) }
 	someone := func(r *rand.Rand) string {
 		if r.Intn(100) == 0 {
@@ -144,31 +145,31 @@ func floodsOf(name string) []flooder {
 		return stranger(r)
 	}
 	intent := func(r *rand.Rand) []byte {
-		return serfs([]byte{leaveIntent, joinIntent}[r.Intn(2)], map[string]any{"LTime": someTime(r), "Node": someone(r), "Prune": r.Intn(2) == 0})
+		return serfMessage([]byte{leaveIntent, joinIntent}[r.Intn(2)], map[string]any{"LTime": someTime(r), "Node": someone(r), "Prune": r.Intn(2) == 0})
 	}
 	event := func(r *rand.Rand) []byte {
-		return serfs(eventOfSerf, map[string]any{"LTime": someTime(r), "Name": "flood", "Payload": zeros(r.Intn(500)), "CC": false})
+		return serfMessage(eventOfSerf, map[string]any{"LTime": someTime(r), "Name": "flood", "Payload": zeros(r.Intn(500)), "CC": false})
 	}
 	query := func(r *rand.Rand) []byte {
-		return serfs(queryOfSerf, map[string]any{
+		return serfMessage(queryOfSerf, map[string]any{
 			"LTime": someTime(r), "ID": r.Uint32(), "Addr": []byte{127, 0, 0, 9}, "Port": 9, "Filters": [][]byte{}, "Flags": r.Intn(2),
 			"Timeout": r.Int63(), "Name": []string{"flood", "_serf_conflict", "_serf_list-keys"}[r.Intn(3)], "Payload": []byte(stranger(r)),
 		})
 	}
-	return []flooder{
-		{maker{"members", func(r *rand.Rand) []byte { return alive(stranger(r), map[string]any{"Incarnation": r.Intn(100)}) }}, 20_000},
-		{maker{"deaths", func(r *rand.Rand) []byte {
-			return message([]byte{kindSuspect, kindDead}[r.Intn(2)], map[string]any{"Incarnation": r.Intn(100), "Node": someone(r), "From": stranger(r)})
+	return []flood{
+		{generator{"members", func(r *rand.Rand) []byte { return alive(stranger(r), map[string]any{"Incarnation": r.Intn(100)}) }}, 20_000},
+		{generator{"deaths", func(r *rand.Rand) []byte {
+			return message([]byte{msgSuspect, msgDead}[r.Intn(2)], map[string]any{"Incarnation": r.Intn(100), "Node": someone(r), "From": stranger(r)})
 		}}, 2_000},
-		{maker{"intents", intent}, 60_000}, {maker{"events", event}, 20_000}, {maker{"queries", query}, 5_000},
-		{maker{"changed messages of Serf's", func(r *rand.Rand) []byte {
+		{generator{"intents", intent}, 60_000}, {generator{"events", event}, 20_000}, {generator{"queries", query}, 5_000},
+		{generator{"changed messages of Serf's", func(r *rand.Rand) []byte {
 			body := [](func(*rand.Rand) []byte){intent, event, query}[r.Intn(3)](r)
-			return append([]byte{kindUser}, change(r, body[1:])...)
+			return append([]byte{msgUser}, mutate(r, body[1:])...)
 		}}, 20_000},
 	}
 }
 
-// stateFlood is a push/pull with new members and a state of Serf's, whose times are as those of packets, and now and then changed.
+// stateFlood returns a push/pull with new members and a Serf state. A third of the states are changed.
 func stateFlood(r *rand.Rand) []byte {
 	var nodes []map[string]any
 	for n := r.Intn(200); n > 0; n-- {
@@ -184,7 +185,7 @@ func stateFlood(r *rand.Rand) []byte {
 		"LTime": someTime(r), "StatusLTimes": times, "LeftMembers": []string{}, "EventLTime": someTime(r), "Events": slots, "QueryLTime": someTime(r),
 	})...)
 	if r.Intn(3) == 0 {
-		state = change(r, state)
+		state = mutate(r, state)
 	}
 	return pushPullOf(nodes, state)
 }

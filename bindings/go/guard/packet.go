@@ -6,143 +6,147 @@ import (
 	"hash/crc32"
 )
 
-// looker looks at packets, one at a time.
-type looker struct {
+// inspector inspects packets, one at a time.
+type inspector struct {
 	*core
-	// plain and inflated are room for what a packet has within, and parts for those that are kept of a compound.
+	// plain and inflated are buffers for decrypted and decompressed content. parts are the parts of a compound that are
+	// kept.
 	plain, inflated []byte
 	parts           [][]byte
 }
 
-func newLooker(c *core) *looker {
-	return &looker{core: c, plain: make([]byte, 0, c.bounds.PacketBytes), inflated: make([]byte, 0, c.bounds.PacketBytes+1)}
+func newInspector(c *core) *inspector {
+	return &inspector{core: c, plain: make([]byte, 0, c.bounds.PacketBytes), inflated: make([]byte, 0, c.bounds.PacketBytes+1)}
 }
 
-// checksumHead is the type and the CRC before what a packet has (net.go, ingestPacket).
-const checksumHead = 5
+// checksumHeader is the length in bytes of the type and the CRC before a packet's content (net.go, ingestPacket).
+const checksumHeader = 5
 
-// layers opens a packet: what it has is a compound, or one message. Memberlist takes one thing within another in one order
-// alone: encrypted, with a checksum, compressed, a compound. Where isVerified is false it needs no encryption, though there are keys.
-func (l *looker) layers(packet []byte, isVerified bool) (body []byte, ciphers []cipher.AEAD, why Reason) {
+// unwrap removes a packet's wrappers, and returns a compound or a single message. memberlist accepts wrappers in only
+// one order: encryption, checksum, compression, compound. If needsEncryption is false, plain packets are accepted
+// although there are keys.
+func (ins *inspector) unwrap(packet []byte, needsEncryption bool) (body []byte, ciphers []cipher.AEAD, reason Reason) {
 	if len(packet) == 0 {
 		return nil, nil, Empty
 	}
 	body = packet
-	if ciphers = l.ring.all(); len(ciphers) > 0 {
-		body, why = open(ciphers, packet, nil, l.plain)
+	if ciphers = ins.ring.current(); len(ciphers) > 0 {
+		body, reason = open(ciphers, packet, nil, ins.plain)
 		switch {
-		case why == Sealed && !isVerified:
-			// (memberlist takes it as it is)
-			body, ciphers, why = packet, nil, none
-		case why == Sealed && !l.mayBeSealed(packet):
+		case reason == Sealed && !needsEncryption:
+			// memberlist reads the packet as it is.
+			body, ciphers, reason = packet, nil, none
+		case reason == Sealed && !ins.looksEncrypted(packet):
 			return nil, nil, Plain
-		case why != none:
-			return nil, nil, why
+		case reason != none:
+			return nil, nil, reason
 		}
 	}
-	if body[0] == kindChecksum && len(body) >= checksumHead {
-		if binary.BigEndian.Uint32(body[1:]) != crc32.ChecksumIEEE(body[checksumHead:]) {
+	if body[0] == msgChecksum && len(body) >= checksumHeader {
+		if binary.BigEndian.Uint32(body[1:]) != crc32.ChecksumIEEE(body[checksumHeader:]) {
 			return nil, nil, Checksum
 		}
-		body = body[checksumHead:]
+		body = body[checksumHeader:]
 	}
 	if len(body) == 0 {
 		return nil, nil, Empty
 	}
-	if body[0] == kindCompress {
-		body, why = l.expand(body[1:])
+	if body[0] == msgCompress {
+		body, reason = ins.decompress(body[1:])
 	}
-	return body, ciphers, why
+	return body, ciphers, reason
 }
 
-// mayBeSealed says whether a packet that no key opens looks like an encrypted one.
-func (l *looker) mayBeSealed(packet []byte) bool {
+// looksEncrypted reports whether a packet that no key decrypts has the form of an encrypted one.
+func (ins *inspector) looksEncrypted(packet []byte) bool {
 	return len(packet) >= sealOverhead && packet[0] <= sealVersion
 }
 
-func (l *looker) expand(in []byte) ([]byte, Reason) {
-	r := readerOf(in)
-	var values [greatestShape]value
-	if why := r.object(l.shapes.of[kindCompress], &values); why != none {
-		return nil, why
+func (ins *inspector) decompress(in []byte) ([]byte, Reason) {
+	r := newReader(in)
+	var values [maxFields]value
+	if reason := r.readFields(ins.schemas.byType[msgCompress], &values); reason != none {
+		return nil, reason
 	}
 	if r.At < len(in) {
 		return nil, Trailing
 	}
-	return inflate(values[compressBuf].bytes, l.inflated, l.bounds.PacketBytes, nil)
+	return inflate(values[fieldCompressBuf].bytes, ins.inflated, ins.bounds.PacketBytes, nil)
 }
 
-// packet looks at one, and gives what memberlist may read: the same bytes, or others where a part of a compound was cut out; nil where
-// nothing is left. Each drop is counted.
-func (l *looker) packet(packet []byte) []byte {
-	if len(packet) > l.bounds.PacketBytes {
-		l.drops.add(TooLong)
+// inspect returns what memberlist may read of a packet: the same bytes, or a compound without its bad parts, or nil if
+// nothing is left. It counts each drop.
+func (ins *inspector) inspect(packet []byte) []byte {
+	if len(packet) > ins.bounds.PacketBytes {
+		ins.drops.add(TooLong)
 		return nil
 	}
-	body, ciphers, why := l.layers(packet, l.verifyIn)
-	if why == none && body[0] != kindCompound {
-		why = l.message(body)
+	body, ciphers, reason := ins.unwrap(packet, ins.verifyIn)
+	if reason == none && body[0] != msgCompound {
+		reason = ins.inspectMessage(body)
 	}
-	if why != none {
-		l.drops.add(why)
+	if reason != none {
+		ins.drops.add(reason)
 		return nil
 	}
-	if body[0] != kindCompound {
+	if body[0] != msgCompound {
 		return packet
 	}
-	isCut, why := l.compound(body[1:])
+	isChanged, reason := ins.inspectCompound(body[1:])
 	switch {
-	case why != none:
-		l.drops.add(why)
+	case reason != none:
+		ins.drops.add(reason)
 		return nil
-	case !isCut:
+	case !isChanged:
 		return packet
-	case len(l.parts) == 0:
+	case len(ins.parts) == 0:
 		return nil
 	}
-	out := joinParts(l.parts)
+	out := encodeCompound(ins.parts)
 	if len(ciphers) > 0 {
 		out = seal(ciphers[0], make([]byte, 0, sealOverhead+len(out)), out, nil)
 	}
 	return out
 }
 
-// greatestParts: memberlist doubles their number in a byte (util.go, decodeCompoundMessage).
-const greatestParts = 127
+// maxParts is the maximum number of parts of a compound: memberlist doubles the number within a byte (util.go,
+// decodeCompoundMessage).
+const maxParts = 127
 
-// compound has those of its parts that may be read in l.parts, and says whether some may not.
-func (l *looker) compound(body []byte) (isCut bool, why Reason) {
-	l.parts = l.parts[:0]
-	if len(body) == 0 || body[0] == 0 || body[0] > greatestParts || len(body) < 1+2*int(body[0]) {
+// inspectCompound collects the parts that memberlist may read in ins.parts. isChanged reports whether some are left
+// out.
+func (ins *inspector) inspectCompound(body []byte) (isChanged bool, reason Reason) {
+	ins.parts = ins.parts[:0]
+	if len(body) == 0 || body[0] == 0 || body[0] > maxParts || len(body) < 1+2*int(body[0]) {
 		return false, Parts
 	}
 	count := int(body[0])
 	lengths, rest := body[1:1+2*count], body[1+2*count:]
-	for at := 0; at < count; at++ {
-		length := int(binary.BigEndian.Uint16(lengths[2*at:]))
+	for i := 0; i < count; i++ {
+		length := int(binary.BigEndian.Uint16(lengths[2*i:]))
 		if length > len(rest) {
-			l.drops.add(Parts)
+			ins.drops.add(Parts)
 			return true, none
 		}
 		part := rest[:length]
 		rest = rest[length:]
-		if why := l.message(part); why != none {
-			l.drops.add(why)
-			isCut = true
+		if reason := ins.inspectMessage(part); reason != none {
+			ins.drops.add(reason)
+			isChanged = true
 			continue
 		}
-		l.parts = append(l.parts, part)
+		ins.parts = append(ins.parts, part)
 	}
 	if len(rest) > 0 {
-		l.drops.add(Trailing)
-		isCut = true
+		ins.drops.add(Trailing)
+		isChanged = true
 	}
-	return isCut, none
+	return isChanged, none
 }
 
-// joinParts makes a compound.
-func joinParts(parts [][]byte) []byte {
-	out := []byte{kindCompound, byte(len(parts))}
+// encodeCompound makes a compound of the parts.
+func encodeCompound(parts [][]byte) []byte {
+	out := []byte{msgCompound, byte(len(parts))}
 	for _, part := range parts {
 		out = binary.BigEndian.AppendUint16(out, uint16(len(part)))
 	}
@@ -152,50 +156,50 @@ func joinParts(parts [][]byte) []byte {
 	return out
 }
 
-// message looks at one message of a packet (net.go, handleCommand).
-func (l *looker) message(m []byte) Reason {
-	if len(m) == 0 {
+// inspectMessage inspects one message of a packet (net.go, handleCommand).
+func (ins *inspector) inspectMessage(message []byte) Reason {
+	if len(message) == 0 {
 		return Empty
 	}
-	switch kind := m[0]; {
-	case kind == kindUser:
+	switch msgType := message[0]; {
+	case msgType == msgUser:
 		return none
-	case isWrapper(kind):
+	case isWrapper(msgType):
 		return Nested
-	case kind >= kindErr || kind == kindPushPull:
+	case msgType >= msgErr || msgType == msgPushPull:
 		return Kind
 	}
-	r := readerOf(m[1:])
-	var values [greatestShape]value
-	if why := r.object(l.shapes.of[m[0]], &values); why != none {
-		return why
+	r := newReader(message[1:])
+	var values [maxFields]value
+	if reason := r.readFields(ins.schemas.byType[message[0]], &values); reason != none {
+		return reason
 	}
 	if r.At < len(r.Data) {
 		return Trailing
 	}
-	return l.isDue(m[0], &values)
+	return ins.checkState(message[0], &values)
 }
 
-// isDue looks at what depends on more than the message.
-func (l *looker) isDue(kind byte, values *[greatestShape]value) Reason {
-	switch kind {
-	case kindAck, kindNack:
-		if !l.pings.isAsked(uint32(values[atNumber].number)) {
+// checkState checks what depends on more than the message: pings sent, the rate of indirect pings, and known members.
+func (ins *inspector) checkState(msgType byte, values *[maxFields]value) Reason {
+	switch msgType {
+	case msgAck, msgNack:
+		if !ins.pings.isExpected(uint32(values[fieldSeqNo].number)) {
 			return Unasked
 		}
-	case kindIndirect:
-		if !l.indirect.allows(l.bounds.IndirectPings) {
+	case msgIndirectPing:
+		if !ins.indirectPings.allows(ins.bounds.IndirectPings) {
 			return Rate
 		}
-	case kindAlive:
-		return l.mayBe(values[aliveNode], values[aliveVersions])
+	case msgAlive:
+		return ins.checkAlive(values[fieldAliveNode], values[fieldAliveVsn])
 	}
 	return none
 }
 
-// mayBe says whether a node of that name and these versions may be alive.
-func (c *core) mayBe(name, versions value) Reason {
-	if !c.bounds.takes(versions.bytes) {
+// checkAlive checks whether a node with this name and these versions may become a member.
+func (c *core) checkAlive(name, versions value) Reason {
+	if !c.bounds.acceptsVersions(versions.bytes) {
 		return Versions
 	}
 	if !c.members.admit(name.bytes) {
@@ -204,26 +208,26 @@ func (c *core) mayBe(name, versions value) Reason {
 	return none
 }
 
-// sent notes the ping that goes out in a packet, which is its first message.
-func (l *looker) sent(packet []byte) {
-	body, _, why := l.layers(packet, l.verifyOut)
-	if why == none && body[0] == kindCompound && len(body) > 4 && len(body) > 2+2*int(body[1]) {
+// recordSentPing notes the sequence number of a ping in a packet that is sent. The ping is the packet's first message.
+func (ins *inspector) recordSentPing(packet []byte) {
+	body, _, reason := ins.unwrap(packet, ins.verifyOut)
+	if reason == none && body[0] == msgCompound && len(body) > 4 && len(body) > 2+2*int(body[1]) {
 		body = body[2+2*int(body[1]):]
 	}
-	if why != none {
-		if why != Inflated { // (no ping is as long)
-			l.pings.outUnread()
+	if reason != none {
+		if reason != Inflated { // No ping is that long.
+			ins.pings.addUnreadable()
 		}
 		return
 	}
-	if body[0] > kindIndirect {
+	if body[0] > msgIndirectPing {
 		return
 	}
-	r := readerOf(body[1:])
-	var values [greatestShape]value
-	if why := r.object(l.shapes.of[body[0]], &values); why != none {
-		l.pings.outUnread()
+	r := newReader(body[1:])
+	var values [maxFields]value
+	if reason := r.readFields(ins.schemas.byType[body[0]], &values); reason != none {
+		ins.pings.addUnreadable()
 		return
 	}
-	l.pings.out(uint32(values[atNumber].number))
+	ins.pings.add(uint32(values[fieldSeqNo].number))
 }

@@ -5,36 +5,40 @@ import (
 	"sync/atomic"
 )
 
-// Reason is why something was dropped. The set is fixed, so that nothing that comes can make a new one.
+// Reason is why something was dropped. The set is fixed, so nothing that the network sends can add a reason.
 type Reason uint8
 
 // Why a packet, a part of one, a stream or an entry of a push/pull was dropped.
 const (
 	none Reason = iota
-	// TooLong is more bytes than the bound of a packet or of a stream; Inflated is more than that once decompressed.
+	// TooLong: more bytes than the bound for a packet or a stream. Inflated: more than that after decompression.
 	TooLong
 	Inflated
-	// Empty is nothing where memberlist takes the first byte of something.
+	// Empty: no bytes, although memberlist would read the first one.
 	Empty
-	// Short is a stream that ended, or whose time was over, within its message. One of which nothing came isn't counted.
+	// Short: a stream that ended, or reached its deadline, within its message. A stream without any bytes isn't
+	// counted.
 	Short
-	// Plain isn't encrypted and has to be. Sealed is encrypted by no key that is known here. OldSeal is of encryption's version 0.
+	// Plain: not encrypted, although it has to be. Sealed: not encrypted with any key that this node has. OldSeal:
+	// encrypted with version 0.
 	Plain
 	Sealed
 	OldSeal
-	// Checksum is a CRC that isn't that of the packet, and Compression is what can't be decompressed.
+	// Checksum: the CRC doesn't match. Compression: it can't be decompressed.
 	Checksum
 	Compression
-	// Nested is a wrapper where none may be, and Kind is no type of a message that may come there.
+	// Nested: a wrapper where none is allowed. Kind: a message type that is not allowed here.
 	Nested
 	Kind
-	// Parts is a compound of no part or of 128 or more, or one that is cut off; of that, the parts before are kept.
+	// Parts: a compound with no parts or more than 127, or one that is cut off. Of one that is cut off, the parts
+	// before the cut are kept.
 	Parts
-	// Malformed isn't MessagePack as memberlist writes it: a map, each field once and of its type. Trailing has bytes behind its end.
+	// Malformed: not MessagePack as memberlist writes it, which is a map with each field at most once and of its type.
+	// Trailing: bytes after the end.
 	Malformed
 	Trailing
-	// Name, Address, Meta, Versions and Range are a field that can't be; Length is how many entries or bytes follow, and Payload is
-	// what an ack carries.
+	// Name, Address, Meta, Versions and Range: a field has a value that is not allowed. Length: too many entries or
+	// bytes are announced. Payload: an ack's payload is too long.
 	Name
 	Address
 	Meta
@@ -42,13 +46,13 @@ const (
 	Range
 	Length
 	Payload
-	// Unasked is the ack or nack of no ping that went out, and Rate is an indirect ping too many.
+	// Unasked: an ack or nack to a ping that this node did not send. Rate: too many indirect pings in a second.
 	Unasked
 	Rate
-	// Full is a node that is new where there are as many as may be.
+	// Full: a new node, although the maximum number of nodes is known.
 	Full
-	// Crowded is a stream that gave way to others: the oldest unfinished one, or one for whose bytes, or whose push/pull, there was no
-	// room in time.
+	// Crowded: a stream that was closed in favor of others. It was the oldest incomplete one, or there was no room in
+	// time for its bytes or its push/pull.
 	Crowded
 
 	reasons
@@ -66,7 +70,7 @@ func (r Reason) String() string {
 	return reasonNames[r]
 }
 
-// or is the first of two that there is.
+// or returns r, or next if r is none.
 func (r Reason) or(next Reason) Reason {
 	if r != none {
 		return r
@@ -74,27 +78,27 @@ func (r Reason) or(next Reason) Reason {
 	return next
 }
 
-// refusal is the error of a stream that is dropped.
-type refusal Reason
+// refusalError is the error that memberlist reads from a refused stream.
+type refusalError Reason
 
-func (r refusal) Error() string { return "guard: " + Reason(r).String() }
+func (r refusalError) Error() string { return "guard: " + Reason(r).String() }
 
-// drops counts by reason.
+// drops counts what was dropped, by reason.
 type drops [reasons]atomic.Uint64
 
-func (d *drops) add(why Reason) {
-	if why != none {
-		d[why].Add(1)
+func (d *drops) add(reason Reason) {
+	if reason != none {
+		d[reason].Add(1)
 	}
 }
 
-// counts are those that aren't 0.
+// counts returns the counts that aren't 0.
 func (d *drops) counts() map[Reason]uint64 {
-	all := map[Reason]uint64{}
-	for why := none + 1; why < reasons; why++ {
-		if count := d[why].Load(); count > 0 {
-			all[why] = count
+	nonzero := map[Reason]uint64{}
+	for reason := none + 1; reason < reasons; reason++ {
+		if count := d[reason].Load(); count > 0 {
+			nonzero[reason] = count
 		}
 	}
-	return all
+	return nonzero
 }

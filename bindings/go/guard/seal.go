@@ -14,28 +14,30 @@ import (
 	"github.com/hashicorp/memberlist"
 )
 
-// Memberlist's encryption (security.go): a byte of the version, a nonce, and what AES-GCM makes, with its tag. Version 0 pads, and the
-// byte isn't signed: who changes it to 0 has memberlist take a padding away that isn't there, which ends the program.
+// memberlist's encryption (security.go): a version byte, a nonce, and the output of AES-GCM with its tag. Version 0
+// adds padding, and the version byte isn't authenticated: if somebody changes it to 0, memberlist removes padding that
+// isn't there, which crashes the program.
 const (
 	sealVersion  = 1
 	nonceSize    = 12
 	sealOverhead = 1 + nonceSize + 16
-	// streamHead is the type and the length before what is encrypted in a stream. It is signed.
-	streamHead = 5
+	// streamHeader is the length in bytes of the type and the length before a stream's encrypted content. Both are
+	// authenticated.
+	streamHeader = 5
 )
 
-// ring has the ciphers of memberlist's keys. The first is that which encrypts.
+// ring holds the ciphers of memberlist's keys. The first one encrypts.
 type ring struct {
 	source *memberlist.Keyring
 
 	mu sync.Mutex
-	// keys are those of the ciphers. Memberlist makes a new slice for each change.
+	// keys are the keys of the ciphers. memberlist makes a new slice for each change.
 	keys    [][]byte
 	ciphers []cipher.AEAD
 }
 
-// all are the ciphers; none where nothing is encrypted.
-func (r *ring) all() []cipher.AEAD {
+// current returns the ciphers of the current keys, or nil if gossip isn't encrypted.
+func (r *ring) current() []cipher.AEAD {
 	if r.source == nil {
 		return nil
 	}
@@ -48,21 +50,21 @@ func (r *ring) all() []cipher.AEAD {
 	r.keys, r.ciphers = keys, nil
 	for _, key := range keys {
 		if block, err := aes.NewCipher(key); err == nil {
-			if one, err := cipher.NewGCM(block); err == nil {
-				r.ciphers = append(r.ciphers, one)
+			if aead, err := cipher.NewGCM(block); err == nil {
+				r.ciphers = append(r.ciphers, aead)
 			}
 		}
 	}
 	return r.ciphers
 }
 
-// open decrypts into room, which has to be another's than that of what is sealed.
+// open decrypts sealed into room. The two must not share memory.
 func open(ciphers []cipher.AEAD, sealed, signed, room []byte) ([]byte, Reason) {
 	if len(sealed) < sealOverhead || sealed[0] > sealVersion {
 		return nil, Sealed
 	}
-	for _, one := range ciphers {
-		plain, err := one.Open(room[:0], sealed[1:1+nonceSize], sealed[1+nonceSize:], signed)
+	for _, aead := range ciphers {
+		plain, err := aead.Open(room[:0], sealed[1:1+nonceSize], sealed[1+nonceSize:], signed)
 		switch {
 		case err == nil && sealed[0] != sealVersion:
 			return nil, OldSeal
@@ -75,25 +77,25 @@ func open(ciphers []cipher.AEAD, sealed, signed, room []byte) ([]byte, Reason) {
 	return nil, Sealed
 }
 
-// seal encrypts behind what out has, as memberlist would.
-func seal(one cipher.AEAD, out, plain, signed []byte) []byte {
+// seal encrypts plain as memberlist does, and appends the result to out.
+func seal(aead cipher.AEAD, out, plain, signed []byte) []byte {
 	out = append(out, sealVersion)
 	nonce := make([]byte, nonceSize)
 	if _, err := rand.Read(nonce); err != nil {
-		panic(err) // (the system has no randomness: memberlist couldn't send either)
+		panic(err) // The system has no randomness, so memberlist couldn't send either.
 	}
-	return one.Seal(append(out, nonce...), nonce, plain, signed)
+	return aead.Seal(append(out, nonce...), nonce, plain, signed)
 }
 
 // sealStream encrypts the message of a stream.
-func sealStream(one cipher.AEAD, plain []byte) []byte {
-	out := make([]byte, streamHead, streamHead+sealOverhead+len(plain))
-	out[0] = kindEncrypt
+func sealStream(aead cipher.AEAD, plain []byte) []byte {
+	out := make([]byte, streamHeader, streamHeader+sealOverhead+len(plain))
+	out[0] = msgEncrypt
 	binary.BigEndian.PutUint32(out[1:], uint32(sealOverhead+len(plain)))
-	return seal(one, out, plain, out[:streamHead])
+	return seal(aead, out, plain, out[:streamHeader])
 }
 
-// inflater decompresses. It is used again, since it has 20 KiB.
+// inflater decompresses. It is pooled, since it takes 20 KiB.
 type inflater struct {
 	lzw  *lzw.Reader
 	from bytes.Reader
@@ -101,28 +103,29 @@ type inflater struct {
 
 var inflaters = sync.Pool{New: func() any { return &inflater{lzw: lzw.NewReader(nil, lzw.LSB, 8).(*lzw.Reader)} }}
 
-// inflate decompresses into room, up to a bound. Where there is no more room, hold says whether it may grow by so many bytes.
-func inflate(in, room []byte, bound int, hold func(more int) Reason) ([]byte, Reason) {
-	one := inflaters.Get().(*inflater)
+// inflate decompresses into room, to at most max bytes. If room is too small, hold decides whether it may grow by that
+// many bytes.
+func inflate(in, room []byte, max int, hold func(growth int) Reason) ([]byte, Reason) {
+	inf := inflaters.Get().(*inflater)
 	defer func() {
-		one.from.Reset(nil)
-		inflaters.Put(one)
+		inf.from.Reset(nil)
+		inflaters.Put(inf)
 	}()
-	one.from.Reset(in)
-	one.lzw.Reset(&one.from, lzw.LSB, 8)
+	inf.from.Reset(in)
+	inf.lzw.Reset(&inf.from, lzw.LSB, 8)
 	out := room[:0]
 	for {
 		if len(out) == cap(out) {
-			more := lesser(cap(out)+512, bound+1-len(out))
-			if why := hold(more); why != none {
-				return nil, why
+			growth := min(cap(out)+512, max+1-len(out))
+			if reason := hold(growth); reason != none {
+				return nil, reason
 			}
-			out = append(make([]byte, 0, len(out)+more), out...)
+			out = append(make([]byte, 0, len(out)+growth), out...)
 		}
-		n, err := one.lzw.Read(out[len(out):cap(out)])
+		n, err := inf.lzw.Read(out[len(out):cap(out)])
 		out = out[:len(out)+n]
 		switch {
-		case len(out) > bound:
+		case len(out) > max:
 			return nil, Inflated
 		case err == io.EOF && len(out) == 0:
 			return nil, Empty
@@ -134,7 +137,7 @@ func inflate(in, room []byte, bound int, hold func(more int) Reason) ([]byte, Re
 	}
 }
 
-func lesser[T int | uint64 | time.Duration](a, b T) T {
+func min[T int | uint64 | time.Duration](a, b T) T {
 	if a < b {
 		return a
 	}

@@ -8,282 +8,289 @@ import (
 	"time"
 )
 
-// stream is a connection whose one message is looked at, within memberlist's first Read of it, before a byte of it is given.
+// stream is a connection with one message. memberlist's first Read inspects the whole message before it returns a byte
+// of it.
 type stream struct {
 	net.Conn
 	*core
-	// isDialed says that this node dialed: what comes back is an answer.
+	// isDialed is true if this node opened the connection, so what it reads is an answer.
 	isDialed bool
-	// gone is closed at the end of it.
-	gone chan struct{}
-	// deadline is memberlist's, in nanoseconds since 1970.
+	// done is closed when the stream ends.
+	done chan struct{}
+	// deadline is the one that memberlist set, in nanoseconds since 1970.
 	deadline atomic.Int64
 
-	// What came, what memberlist may read of it, what comes behind that, and what the network said.
-	in       reader
-	isLooked bool
-	out      []byte
-	end, err error
+	// in holds the bytes that were received, readable the bytes that memberlist may still read, endErr the error that it
+	// reads after them, and readErr the network's error.
+	in              reader
+	isInspected     bool
+	readable        []byte
+	endErr, readErr error
 
-	// streams.mu guards these: whether the message is there whole, whether it is over, what it holds, and since when it is a push/pull
-	// that memberlist has.
-	isWhole, isEnded bool
-	load             load
-	pushed           time.Time
+	// streams.mu guards these fields. isComplete: the whole message is here. isClosed: the stream was evicted or
+	// closed. load: what it holds. pushPullSince: when memberlist began to answer its push/pull.
+	isComplete, isClosed bool
+	load                 load
+	pushPullSince        time.Time
 }
 
-// leastStream is how much room a stream has at first, and longestWait how long one without a deadline waits for room.
+// minStreamBuffer is the first size of a stream's buffer in bytes. maxStreamWait is how long a stream without a
+// deadline waits for room.
 const (
-	leastStream = 512
-	longestWait = 10 * time.Second
+	minStreamBuffer = 512
+	maxStreamWait   = 10 * time.Second
 )
 
 func (c *core) newStream(conn net.Conn, isDialed bool) *stream {
-	s := &stream{Conn: conn, core: c, isDialed: isDialed, gone: make(chan struct{})}
+	s := &stream{Conn: conn, core: c, isDialed: isDialed, done: make(chan struct{})}
 	s.in.More = s.more
-	s.keepDeadline(time.Time{})
+	s.storeDeadline(time.Time{})
 	return s
 }
 
-func (s *stream) keepDeadline(at time.Time) {
+func (s *stream) storeDeadline(at time.Time) {
 	if at.IsZero() {
-		at = time.Now().Add(longestWait)
+		at = time.Now().Add(maxStreamWait)
 	}
 	s.deadline.Store(at.UnixNano())
 }
 
-// SetDeadline is net.Conn's.
+// SetDeadline implements net.Conn.
 func (s *stream) SetDeadline(at time.Time) error {
-	s.keepDeadline(at)
+	s.storeDeadline(at)
 	return s.Conn.SetDeadline(at)
 }
 
-// SetReadDeadline is net.Conn's.
+// SetReadDeadline implements net.Conn.
 func (s *stream) SetReadDeadline(at time.Time) error {
-	s.keepDeadline(at)
+	s.storeDeadline(at)
 	return s.Conn.SetReadDeadline(at)
 }
 
-// Close is net.Conn's.
+// Close implements net.Conn.
 func (s *stream) Close() error {
-	s.streams.leave(s)
+	s.streams.release(s)
 	return s.Conn.Close()
 }
 
-// Read is net.Conn's. What is refused is an error, or, where that happens often, the end of the stream: so it doesn't fill the log.
+// Read implements net.Conn. It returns an error if the stream is refused. Of the streams that others open, only one in a
+// second returns an error, and the rest end with io.EOF, so that refusals don't fill memberlist's log.
 func (s *stream) Read(p []byte) (int, error) {
-	if !s.isLooked {
-		s.isLooked, s.end = true, io.EOF
-		out, why := s.look()
-		if why == none {
-			s.out = out
+	if !s.isInspected {
+		s.isInspected, s.endErr = true, io.EOF
+		out, reason := s.inspect()
+		if reason == none {
+			s.readable = out
 		} else {
-			s.refuse(why)
+			s.refuse(reason)
 		}
 		s.in.Data = nil
 	}
-	if len(s.out) == 0 {
-		return 0, s.end
+	if len(s.readable) == 0 {
+		return 0, s.endErr
 	}
-	n := copy(p, s.out)
-	s.out = s.out[n:]
+	n := copy(p, s.readable)
+	s.readable = s.readable[n:]
 	return n, nil
 }
 
-// refuse has the stream end.
-func (s *stream) refuse(why Reason) {
+// refuse counts a refusal, and sets the error that Read returns.
+func (s *stream) refuse(reason Reason) {
 	select {
-	case <-s.gone:
-		return // (it gave way, and is counted)
+	case <-s.done:
+		return // It was evicted, and evict counted it.
 	default:
 	}
-	// (where nothing came, nothing is dropped)
-	if why != Short || len(s.in.Data) > 0 {
-		s.drops.add(why)
+	// If no byte was received, nothing was dropped.
+	if reason != Short || len(s.in.Data) > 0 {
+		s.drops.add(reason)
 	}
 	switch {
-	case why == Short && s.err != io.EOF:
-		s.end = s.err
-	case why != Short && (s.isDialed || s.told.allows(1)):
-		s.end = refusal(why)
+	case reason == Short && s.readErr != io.EOF:
+		s.endErr = s.readErr
+	case reason != Short && (s.isDialed || s.loggedRefusals.allows(1)):
+		s.endErr = refusalError(reason)
 	}
 }
 
-// more reads from the network. The room at most doubles what came, whatever length was claimed.
-func (s *stream) more(least int) error {
-	for least > 0 {
+// more reads at least count bytes from the network. The buffer at most doubles with each step, whatever length the
+// message claims.
+func (s *stream) more(count int) error {
+	for count > 0 {
 		have := len(s.in.Data)
-		if have+least > s.bounds.StreamBytes {
-			return refusal(TooLong)
+		if have+count > s.bounds.StreamBytes {
+			return refusalError(TooLong)
 		}
 		if have == cap(s.in.Data) {
-			room := lesser(2*have+leastStream, s.bounds.StreamBytes)
-			if least > leastStream {
-				room = lesser(room, have+least)
+			size := min(2*have+minStreamBuffer, s.bounds.StreamBytes)
+			if count > minStreamBuffer {
+				size = min(size, have+count)
 			}
-			if why := s.streams.hold(s, room-have); why != none {
-				return refusal(why)
+			if reason := s.streams.reserve(s, size-have); reason != none {
+				return refusalError(reason)
 			}
-			s.in.Data = append(make([]byte, 0, room), s.in.Data...)
+			s.in.Data = append(make([]byte, 0, size), s.in.Data...)
 		}
 		n, err := s.Conn.Read(s.in.Data[have:cap(s.in.Data)])
 		s.in.Data = s.in.Data[:have+n]
-		least -= n
-		if err != nil && least > 0 {
-			s.err = err
-			return refusal(Short)
+		count -= n
+		if err != nil && count > 0 {
+			s.readErr = err
+			return refusalError(Short)
 		}
 	}
 	return nil
 }
 
-// look reads the message, and gives what memberlist may read (net.go, readStream).
-func (s *stream) look() ([]byte, Reason) {
-	first, ciphers := byte(s.in.Uint(1)), s.ring.all()
+// inspect reads the message, and returns what memberlist may read (net.go, readStream).
+func (s *stream) inspect() ([]byte, Reason) {
+	msgType, ciphers := byte(s.in.Uint(1)), s.ring.current()
 	var changed []byte
-	var isPush bool
+	var isPushPull bool
 	switch {
 	case s.in.Err != nil:
-	case first == kindEncrypt && len(ciphers) == 0:
+	case msgType == msgEncrypt && len(ciphers) == 0:
 		return nil, Sealed
-	case first == kindEncrypt:
-		changed, isPush = s.sealed(ciphers)
+	case msgType == msgEncrypt:
+		changed, isPushPull = s.inspectEncrypted(ciphers)
 	case len(ciphers) > 0 && s.verifyIn:
 		return nil, Plain
 	default:
 		s.in.At = 0
-		changed, isPush = s.message(&s.in, true)
+		changed, isPushPull = s.inspectMessage(&s.in, true)
 	}
 	if s.in.Err != nil {
-		return nil, s.in.lost()
+		return nil, s.in.failure()
 	}
 	out := s.in.Data[:s.in.At]
 	if changed != nil {
 		out = changed
 	}
-	// (what is passed on is held until memberlist closes it)
-	s.streams.whole(s)
-	s.streams.hold(s, cap(out)-s.load.bytes)
-	if isPush && !s.isDialed {
+	// memberlist's copy is held until it closes the stream.
+	s.streams.markComplete(s)
+	s.streams.reserve(s, cap(out)-s.load.bytes)
+	if isPushPull && !s.isDialed {
 		count, _ := s.members.known("")
-		return out, s.streams.push(s, count*nodeBytes)
+		return out, s.streams.startPushPull(s, count*answerBytesPerNode)
 	}
 	return out, none
 }
 
-// sealed looks into what is encrypted (net.go, decryptRemoteState), and encrypts again what it changes.
-func (s *stream) sealed(ciphers []cipher.AEAD) (changed []byte, isPush bool) {
-	length := s.in.Uint(streamHead - 1)
+// inspectEncrypted inspects an encrypted message (net.go, decryptRemoteState), and encrypts it again if it changed.
+func (s *stream) inspectEncrypted(ciphers []cipher.AEAD) (changed []byte, isPushPull bool) {
+	length := s.in.Uint(streamHeader - 1)
 	if length > uint64(s.bounds.StreamBytes) {
-		s.in.lose(TooLong)
+		s.in.failWith(TooLong)
 	}
 	body := s.in.Take(int(length))
-	s.in.lose(s.streams.hold(s, len(body)))
+	s.in.failWith(s.streams.reserve(s, len(body)))
 	if s.in.Err != nil {
 		return nil, false
 	}
-	data, why := open(ciphers, body, s.in.Data[:streamHead], make([]byte, 0, len(body)))
-	s.in.lose(why)
-	plain := readerOf(data)
-	changed, isPush = s.within(&plain, true)
+	data, reason := open(ciphers, body, s.in.Data[:streamHeader], make([]byte, 0, len(body)))
+	s.in.failWith(reason)
+	plain := newReader(data)
+	changed, isPushPull = s.inspectWrapped(&plain, true)
 	if changed != nil && s.in.Err == nil {
-		s.in.lose(s.streams.hold(s, len(changed)))
+		s.in.failWith(s.streams.reserve(s, len(changed)))
 		changed = sealStream(ciphers[0], changed)
 	}
-	return changed, isPush
+	return changed, isPushPull
 }
 
-// within looks at a whole message that was in a wrapper.
-func (s *stream) within(r *reader, mayExpand bool) (changed []byte, isPush bool) {
+// inspectWrapped inspects a whole message that was inside a wrapper.
+func (s *stream) inspectWrapped(r *reader, mayBeCompressed bool) (changed []byte, isPushPull bool) {
 	if s.in.Err == nil {
-		changed, isPush = s.message(r, mayExpand)
-		s.in.lose(r.lost())
+		changed, isPushPull = s.inspectMessage(r, mayBeCompressed)
+		s.in.failWith(r.failure())
 		if r.At < len(r.Data) {
-			s.in.lose(Trailing)
+			s.in.failWith(Trailing)
 		}
 	}
-	return changed, isPush
+	return changed, isPushPull
 }
 
-// message looks at the one of a stream; where it is refused, the reader has why. What it gives is nil where nothing has to be changed.
-func (s *stream) message(r *reader, mayExpand bool) (changed []byte, isPush bool) {
-	kind := byte(r.Uint(1))
-	isOne, isAnswer := kind == kindUser || kind == kindPing, kind == kindAck || kind == kindErr
-	isPush = kind == kindPushPull
-	var values [greatestShape]value
+// inspectMessage inspects the message of a stream. It returns nil if memberlist may read the message unchanged. If the
+// message is refused, the reader has the reason.
+func (s *stream) inspectMessage(r *reader, mayBeCompressed bool) (changed []byte, isPushPull bool) {
+	msgType := byte(r.Uint(1))
+	isRequest, isAnswer := msgType == msgUser || msgType == msgPing, msgType == msgAck || msgType == msgErr
+	isPushPull = msgType == msgPushPull
+	var values [maxFields]value
 	switch {
 	case r.Err != nil:
-	case kind == kindCompress && mayExpand:
+	case msgType == msgCompress && mayBeCompressed:
 		var data []byte
-		why := r.object(s.shapes.of[kind], &values)
-		if why == none {
-			hold := func(more int) Reason { return s.streams.hold(s, more) }
-			data, why = inflate(values[compressBuf].bytes, nil, s.bounds.StreamBytes, hold)
+		reason := r.readFields(s.schemas.byType[msgType], &values)
+		if reason == none {
+			hold := func(growth int) Reason { return s.streams.reserve(s, growth) }
+			data, reason = inflate(values[fieldCompressBuf].bytes, nil, s.bounds.StreamBytes, hold)
 		}
-		if r.lose(why); r.Err == nil {
-			all := readerOf(data)
-			return s.within(&all, false)
+		if r.failWith(reason); r.Err == nil {
+			inner := newReader(data)
+			return s.inspectWrapped(&inner, false)
 		}
-	case isWrapper(kind):
-		r.lose(Nested)
-	case !isPush && !(isOne && !s.isDialed) && !(isAnswer && s.isDialed):
-		r.lose(Kind)
-	case isPush:
-		changed = s.state(r)
+	case isWrapper(msgType):
+		r.failWith(Nested)
+	case !isPushPull && !(isRequest && !s.isDialed) && !(isAnswer && s.isDialed):
+		r.failWith(Kind)
+	case isPushPull:
+		changed = s.inspectPushPull(r)
 	default:
-		if r.lose(r.object(s.shapes.of[kind], &values)); kind == kindUser {
-			r.Take(int(values[userLength].number))
+		if r.failWith(r.readFields(s.schemas.byType[msgType], &values)); msgType == msgUser {
+			r.Take(int(values[fieldUserLen].number))
 		}
 	}
-	return changed, isPush
+	return changed, isPushPull
 }
 
-// state looks at a push/pull (net.go, readRemoteState). Entries that are wrong are cut out of it: a stock node passes on what it has
-// heard.
-func (s *stream) state(r *reader) []byte {
-	var values [greatestShape]value
+// inspectPushPull inspects a push/pull (net.go, readRemoteState), and cuts bad entries out of it, since a stock node
+// relays what it received. It returns nil if no entry is bad.
+func (s *stream) inspectPushPull(r *reader) []byte {
+	var values [maxFields]value
 	start := r.At - 1
-	if r.lose(r.object(s.shapes.of[kindPushPull], &values)); r.Err != nil {
+	if r.failWith(r.readFields(s.schemas.byType[msgPushPull], &values)); r.Err != nil {
 		return nil
 	}
-	count, length, join := int(values[headerNodes].number), int(values[headerState].number), values[headerJoin].number
+	count, length, join := int(values[fieldPushPullNodes].number), int(values[fieldPushPullStateLen].number), values[fieldPushPullJoin].number
 	first := r.At
-	var cut [][2]int
-	for at := 0; at < count && r.Err == nil; at++ {
+	var removed [][2]int
+	for i := 0; i < count && r.Err == nil; i++ {
 		begin := r.At
-		values = [greatestShape]value{}
-		why := r.object(s.shapes.node, &values)
-		if why == none {
-			why = s.entry(&values)
+		values = [maxFields]value{}
+		reason := r.readFields(s.schemas.node, &values)
+		if reason == none {
+			reason = s.checkEntry(&values)
 		}
-		if why != none && r.Err == nil {
-			s.drops.add(why)
-			cut = append(cut, [2]int{begin, r.At})
+		if reason != none && r.Err == nil {
+			s.drops.add(reason)
+			removed = append(removed, [2]int{begin, r.At})
 		}
 	}
 	r.Take(length)
-	if len(cut) > 0 {
-		r.lose(s.streams.hold(s, r.At-start))
+	if len(removed) > 0 {
+		r.failWith(s.streams.reserve(s, r.At-start))
 	}
-	if r.Err != nil || len(cut) == 0 {
+	if r.Err != nil || len(removed) == 0 {
 		return nil
 	}
-	out := writeNumber(append(writeText(append(make([]byte, 0, r.At-start+16), kindPushPull, 0x83), "Nodes")), uint64(count-len(cut)))
-	out = writeNumber(writeText(out, "UserStateLen"), uint64(length))
-	out = append(writeText(out, "Join"), 0xc2|byte(join))
-	for _, one := range cut {
-		out = append(out, r.Data[first:one[0]]...)
-		first = one[1]
+	out := append(make([]byte, 0, r.At-start+16), msgPushPull, 0x83)
+	out = appendNumber(appendText(out, "Nodes"), uint64(count-len(removed)))
+	out = appendNumber(appendText(out, "UserStateLen"), uint64(length))
+	out = append(appendText(out, "Join"), 0xc2|byte(join))
+	for _, span := range removed {
+		out = append(out, r.Data[first:span[0]]...)
+		first = span[1]
 	}
 	return append(out, r.Data[first:r.At]...)
 }
 
-// entry looks at a node of a push/pull. Memberlist asks for the versions of those that are dead too.
-func (s *stream) entry(values *[greatestShape]value) Reason {
-	if values[nodeState].number == 0 {
-		return s.mayBe(values[nodeName], values[nodeVersions])
+// checkEntry checks a node in a push/pull. memberlist checks the versions of dead nodes too.
+func (s *stream) checkEntry(values *[maxFields]value) Reason {
+	if values[fieldNodeState].number == 0 {
+		return s.checkAlive(values[fieldNodeName], values[fieldNodeVsn])
 	}
-	if !s.bounds.takes(values[nodeVersions].bytes) {
+	if !s.bounds.acceptsVersions(values[fieldNodeVsn].bytes) {
 		return Versions
 	}
 	return none

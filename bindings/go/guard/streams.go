@@ -6,188 +6,198 @@ import (
 	"time"
 )
 
-// pushTime is how long a push/pull has its place for certain. Behind that it gives way where others wait.
-const pushTime = time.Second
+// pushPullTime is how long a push/pull keeps its place for certain. After that it is closed if others wait.
+const pushPullTime = time.Second
 
-// nodeBytes is how many bytes memberlist is taken to need for each node that it knows, where it answers a push/pull: the nodes, their text as
-// it grows, and that compressed and encrypted. (A node with long tags needs more.)
-const nodeBytes = 1 << 10
+// answerBytesPerNode is an estimate of the memory in bytes that memberlist needs for each known node when it answers a
+// push/pull: the list of nodes, their encoding while its buffer grows, and the compressed and encrypted copies. A node
+// with long tags needs more.
+const answerBytesPerNode = 1 << 10
 
-// load is what a stream holds: bytes; and of a push/pull that memberlist has 1, and the bytes that its answer takes.
-type load struct{ bytes, pushes, answers int }
+// load is what a stream holds: bytes of buffers; and, if memberlist answers its push/pull, pushPulls is 1 and
+// answerBytes is the estimated size of the answer.
+type load struct{ bytes, pushPulls, answerBytes int }
 
 func (l *load) add(other load, sign int) {
 	l.bytes += sign * other.bytes
-	l.pushes += sign * other.pushes
-	l.answers += sign * other.answers
+	l.pushPulls += sign * other.pushPulls
+	l.answerBytes += sign * other.answerBytes
 }
 
-// streams are those that are open, and what they hold.
+// streams are the open streams, and what they hold together.
 type streams struct {
 	bounds *Settings
 	drops  *drops
 
 	mu sync.Mutex
-	// accepted are those that came, the oldest first.
+	// accepted are the streams that others opened, the oldest first.
 	accepted []*stream
-	// all is what all hold, and going what those hold that gave way, until memberlist closes them.
-	all, going load
-	// changed is closed, and made anew, where there is more room.
+	// total is the load of all streams. evicted is the part of it that belongs to streams the guard has closed, until
+	// memberlist closes them too.
+	total, evicted load
+	// changed is closed and replaced when there may be more room.
 	changed chan struct{}
 
-	// taken is how many bytes were taken, and for answers too, since the collector ran for it; collecting is held meanwhile.
-	collecting sync.Mutex
-	taken      int
+	// allocated counts the bytes that streams and answers took since the last garbage collection that the guard
+	// started. gcMu is held during the collection.
+	gcMu      sync.Mutex
+	allocated int
 }
 
-// enter has one more come. The oldest goes for it, where it has to: an unfinished one, if there is one.
-func (s *streams) enter(one *stream) {
+// add registers an accepted stream. If there are too many, it closes the oldest incomplete stream, or else the oldest
+// one.
+func (s *streams) add(added *stream) {
 	s.mu.Lock()
 	defer s.mu.Unlock()
 	for len(s.accepted) >= s.bounds.Streams {
 		oldest := s.accepted[0]
 		for _, other := range s.accepted {
-			if !other.isWhole {
+			if !other.isComplete {
 				oldest = other
 				break
 			}
 		}
-		s.forget(oldest)
-		s.end(oldest)
+		s.remove(oldest)
+		s.evict(oldest)
 	}
-	s.accepted = append(s.accepted, one)
+	s.accepted = append(s.accepted, added)
 }
 
-func (s *streams) forget(one *stream) {
-	for at, other := range s.accepted {
-		if other == one {
-			s.accepted = append(s.accepted[:at], s.accepted[at+1:]...)
+func (s *streams) remove(removed *stream) {
+	for i, other := range s.accepted {
+		if other == removed {
+			s.accepted = append(s.accepted[:i], s.accepted[i+1:]...)
 			return
 		}
 	}
 }
 
-// end has a stream give way.
-func (s *streams) end(one *stream) {
-	if one != nil && !one.isEnded {
-		one.isEnded = true
+// evict closes a stream to make room for others.
+func (s *streams) evict(victim *stream) {
+	if victim != nil && !victim.isClosed {
+		victim.isClosed = true
 		s.drops.add(Crowded)
-		s.going.add(one.load, 1)
-		close(one.gone)
-		one.Conn.Close()
+		s.evicted.add(victim.load, 1)
+		close(victim.done)
+		victim.Conn.Close()
 	}
 }
 
-// leave takes back all that a stream has.
-func (s *streams) leave(one *stream) {
+// release frees all that a stream holds. memberlist has closed it.
+func (s *streams) release(closed *stream) {
 	s.mu.Lock()
 	defer s.mu.Unlock()
-	if one.isEnded {
-		s.going.add(one.load, -1)
+	if closed.isClosed {
+		s.evicted.add(closed.load, -1)
 	} else {
-		one.isEnded = true
-		close(one.gone)
+		closed.isClosed = true
+		close(closed.done)
 	}
-	s.forget(one)
-	s.all.add(one.load, -1)
-	one.load = load{}
-	s.tell()
+	s.remove(closed)
+	s.total.add(closed.load, -1)
+	closed.load = load{}
+	s.signal()
 }
 
-func (s *streams) tell() {
+func (s *streams) signal() {
 	close(s.changed)
 	s.changed = make(chan struct{})
 }
 
-// pick is the stream that comes before all others, of those that could give way.
+// pick returns, of the streams that may be evicted, the one that comes before all others; nil if there is none. mu is
+// held.
 func (s *streams) pick(may func(*stream) bool, isBefore func(a, b *stream) bool) (best *stream) {
 	for _, other := range s.accepted {
-		if !other.isEnded && may(other) && (best == nil || isBefore(other, best)) {
+		if !other.isClosed && may(other) && (best == nil || isBefore(other, best)) {
 			best = other
 		}
 	}
 	return best
 }
 
-// hold has a stream hold so many bytes more, or fewer. Where there is no room, the unfinished one that holds most goes.
-func (s *streams) hold(one *stream, more int) Reason {
-	// (a buffer that grows takes twice its length)
-	s.collect(2 * more)
-	return s.await(one, func() bool {
-		if more > 0 && s.all.bytes+more > s.bounds.AllBytes {
-			if s.all.bytes-s.going.bytes+more > s.bounds.AllBytes {
-				s.end(s.pick(func(other *stream) bool { return other != one && !other.isWhole && other.load.bytes > 0 },
+// reserve adds bytes to what a stream holds, or subtracts them if more is negative. If there is no room, the incomplete
+// stream that holds the most is evicted.
+func (s *streams) reserve(holder *stream, more int) Reason {
+	// A buffer that grows needs both its old and its new length.
+	s.collectGarbage(2 * more)
+	return s.waitFor(holder, func() bool {
+		if more > 0 && s.total.bytes+more > s.bounds.AllBytes {
+			if s.total.bytes-s.evicted.bytes+more > s.bounds.AllBytes {
+				s.evict(s.pick(func(other *stream) bool { return other != holder && !other.isComplete && other.load.bytes > 0 },
 					func(a, b *stream) bool { return a.load.bytes > b.load.bytes }))
 			}
 			return false
 		}
-		s.all.bytes += more
-		one.load.bytes += more
+		s.total.bytes += more
+		holder.load.bytes += more
 		if more < 0 {
-			s.tell()
+			s.signal()
 		}
 		return true
 	})
 }
 
-// collect has Go's collector run, and waits for it, where streams and answers took AllBytes since it last did. On a busy machine the
-// collector comes late, and what they gave back would grow meanwhile.
-func (s *streams) collect(more int) {
+// collectGarbage runs Go's garbage collector, and waits for it, whenever streams and answers took AllBytes since the
+// last time. On a busy machine the collector runs late, and the memory that was freed would keep growing meanwhile.
+func (s *streams) collectGarbage(more int) {
 	if more <= 0 {
 		return
 	}
-	s.collecting.Lock()
-	defer s.collecting.Unlock()
-	if s.taken += more; s.taken > s.bounds.AllBytes {
-		s.taken = 0
+	s.gcMu.Lock()
+	defer s.gcMu.Unlock()
+	if s.allocated += more; s.allocated > s.bounds.AllBytes {
+		s.allocated = 0
 		runtime.GC()
 	}
 }
 
-// hasRoom says whether a push/pull may go on beside these, whose answer takes so many bytes. One by itself may.
-func (s *streams) hasRoom(beside load, answer int) bool {
-	return beside.pushes == 0 || beside.pushes < s.bounds.PushPulls && beside.answers+answer <= s.bounds.AllBytes
+// hasRoom reports whether a push/pull whose answer takes this many bytes may start next to the others. One without any
+// others always may.
+func (s *streams) hasRoom(others load, answer int) bool {
+	return others.pushPulls == 0 || others.pushPulls < s.bounds.PushPulls && others.answerBytes+answer <= s.bounds.AllBytes
 }
 
-// push has a push/pull go on, which memberlist answers with so many bytes. Where there is no room for it, it waits; the oldest goes for it,
-// once it has had its time.
-func (s *streams) push(one *stream, answer int) Reason {
-	s.collect(answer)
-	return s.await(one, func() bool {
-		staying := s.all
-		staying.add(s.going, -1)
+// startPushPull lets memberlist answer a push/pull; answer is the estimated size in bytes. If there is no room, the
+// push/pull waits, and the oldest one that has had its pushPullTime is evicted.
+func (s *streams) startPushPull(started *stream, answer int) Reason {
+	s.collectGarbage(answer)
+	return s.waitFor(started, func() bool {
+		staying := s.total
+		staying.add(s.evicted, -1)
 		switch {
-		case s.hasRoom(s.all, answer):
-			one.load.pushes, one.load.answers, one.pushed = 1, answer, time.Now()
-			s.all.add(load{pushes: 1, answers: answer}, 1)
+		case s.hasRoom(s.total, answer):
+			started.load.pushPulls, started.load.answerBytes, started.pushPullSince = 1, answer, time.Now()
+			s.total.add(load{pushPulls: 1, answerBytes: answer}, 1)
 			return true
 		case !s.hasRoom(staying, answer):
-			s.end(s.pick(func(other *stream) bool { return other.load.pushes > 0 && time.Since(other.pushed) > pushTime },
-				func(a, b *stream) bool { return a.pushed.Before(b.pushed) }))
+			s.evict(s.pick(func(other *stream) bool {
+				return other.load.pushPulls > 0 && time.Since(other.pushPullSince) > pushPullTime
+			},
+				func(a, b *stream) bool { return a.pushPullSince.Before(b.pushPullSince) }))
 		}
 		return false
 	})
 }
 
-// await tries until it succeeds, or the stream's time is over.
-func (s *streams) await(one *stream, try func() bool) Reason {
+// waitFor repeats try until it succeeds. It returns Crowded if the stream is evicted or its deadline passes first.
+func (s *streams) waitFor(waiting *stream, try func() bool) Reason {
 	for {
 		s.mu.Lock()
-		isDone := !one.isEnded && try()
+		isDone := !waiting.isClosed && try()
 		changed := s.changed
 		s.mu.Unlock()
 		if isDone {
 			return none
 		}
-		left := time.Until(time.Unix(0, one.deadline.Load()))
+		left := time.Until(time.Unix(0, waiting.deadline.Load()))
 		if left <= 0 {
 			return Crowded
 		}
-		timer := time.NewTimer(lesser(left, pushTime/4))
+		timer := time.NewTimer(min(left, pushPullTime/4))
 		select {
 		case <-changed:
 		case <-timer.C:
-		case <-one.gone:
+		case <-waiting.done:
 			timer.Stop()
 			return Crowded
 		}
@@ -195,9 +205,9 @@ func (s *streams) await(one *stream, try func() bool) Reason {
 	}
 }
 
-// whole says that the message of a stream is there.
-func (s *streams) whole(one *stream) {
+// markComplete notes that the stream's message is complete, so the stream is the last to be evicted.
+func (s *streams) markComplete(complete *stream) {
 	s.mu.Lock()
-	one.isWhole = true
+	complete.isComplete = true
 	s.mu.Unlock()
 }

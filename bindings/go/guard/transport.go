@@ -13,35 +13,37 @@ import (
 	"github.com/hashicorp/memberlist"
 )
 
-// Transport is memberlist's, by UDP and TCP. What comes is looked at first.
+// Transport implements memberlist.NodeAwareTransport over UDP and TCP. It inspects everything it receives before
+// memberlist reads it.
 type Transport struct {
 	*core
-	log     *log.Logger
-	host    string
-	tcp     *net.TCPListener
-	udp     *net.UDPConn
-	packets chan *memberlist.Packet
-	calls   chan net.Conn
-	lookers sync.Pool
-	over    chan struct{}
-	ending  sync.Once
-	running sync.WaitGroup
+	log        *log.Logger
+	host       string
+	tcp        *net.TCPListener
+	udp        *net.UDPConn
+	packets    chan *memberlist.Packet
+	conns      chan net.Conn
+	inspectors sync.Pool
+	closed     chan struct{}
+	closeOnce  sync.Once
+	running    sync.WaitGroup
 }
 
 var _ memberlist.NodeAwareTransport = &Transport{}
 
-func newTransport(c *core, log *log.Logger, host string) *Transport {
+func newTransport(shared *core, log *log.Logger, host string) *Transport {
 	t := &Transport{
-		core: c, log: log, host: host, packets: make(chan *memberlist.Packet), calls: make(chan net.Conn), over: make(chan struct{}),
+		core: shared, log: log, host: host, packets: make(chan *memberlist.Packet), conns: make(chan net.Conn), closed: make(chan struct{}),
 	}
-	t.lookers.New = func() any { return newLooker(c) }
+	t.inspectors.New = func() any { return newInspector(shared) }
 	return t
 }
 
-// greatestReceive is how much the system keeps of what comes, as memberlist asks it; less where it refuses.
-const greatestReceive = 2 << 20
+// maxReceiveBuffer is the size in bytes of the socket's receive buffer that memberlist requests too. If the system
+// refuses it, half of it is tried, and so on.
+const maxReceiveBuffer = 2 << 20
 
-// listen opens both sockets at one port; any that is free where it is 0.
+// listen opens both sockets at the same port; if port is 0, at any free one.
 func (t *Transport) listen(port int) (err error) {
 	ip := net.ParseIP(t.host)
 	if t.tcp, err = net.ListenTCP("tcp", &net.TCPAddr{IP: ip, Port: port}); err != nil {
@@ -51,7 +53,7 @@ func (t *Transport) listen(port int) (err error) {
 		t.tcp.Close()
 		return err
 	}
-	for size := greatestReceive; size > 0; size /= 2 {
+	for size := maxReceiveBuffer; size > 0; size /= 2 {
 		if err = t.udp.SetReadBuffer(size); err == nil {
 			return nil
 		}
@@ -63,36 +65,36 @@ func (t *Transport) listen(port int) (err error) {
 
 func (t *Transport) start() {
 	t.running.Add(2)
-	l, buf := newLooker(t.core), make([]byte, t.bounds.PacketBytes+1)
+	ins, buf := newInspector(t.core), make([]byte, t.bounds.PacketBytes+1)
 	go t.run("reading a packet", func() error {
 		n, from, err := t.udp.ReadFromUDP(buf)
 		if err == nil {
-			t.pass(l, buf[:n], from, time.Now())
+			t.deliver(ins, buf[:n], from, time.Now())
 		}
 		return err
 	})
 	go t.run("accepting a stream", func() error {
 		conn, err := t.tcp.AcceptTCP()
 		if err == nil {
-			t.call(conn)
+			t.deliverStream(conn)
 		}
 		return err
 	})
 }
 
-// Port is where it listens.
+// Port returns the port at which the transport listens.
 func (t *Transport) Port() int { return t.tcp.Addr().(*net.TCPAddr).Port }
 
-// PacketCh is memberlist's.
+// PacketCh implements memberlist.Transport.
 func (t *Transport) PacketCh() <-chan *memberlist.Packet { return t.packets }
 
-// StreamCh is memberlist's.
-func (t *Transport) StreamCh() <-chan net.Conn { return t.calls }
+// StreamCh implements memberlist.Transport.
+func (t *Transport) StreamCh() <-chan net.Conn { return t.conns }
 
-// Shutdown is memberlist's.
+// Shutdown implements memberlist.Transport.
 func (t *Transport) Shutdown() error {
-	t.ending.Do(func() {
-		close(t.over)
+	t.closeOnce.Do(func() {
+		close(t.closed)
 		t.tcp.Close()
 		t.udp.Close()
 	})
@@ -100,103 +102,106 @@ func (t *Transport) Shutdown() error {
 	return nil
 }
 
-// pass looks at a packet, and gives memberlist a copy of what it may read.
-func (t *Transport) pass(l *looker, packet []byte, from net.Addr, at time.Time) {
-	kept := l.packet(packet)
-	if kept == nil {
+// deliver inspects a packet, and gives memberlist a copy of what it may read.
+func (t *Transport) deliver(ins *inspector, packet []byte, from net.Addr, at time.Time) {
+	allowed := ins.inspect(packet)
+	if allowed == nil {
 		return
 	}
 	select {
-	case t.packets <- &memberlist.Packet{Buf: append([]byte(nil), kept...), From: from, Timestamp: at}:
-	case <-t.over:
+	case t.packets <- &memberlist.Packet{Buf: append([]byte(nil), allowed...), From: from, Timestamp: at}:
+	case <-t.closed:
 	}
 }
 
-// Behind a socket's error, as without a free handle, it waits, and longer each time.
+// After an error of a socket, for example because the process has no free file descriptor, run waits minWait, and twice
+// as long after each further error, up to maxWait.
 const (
-	leastWait    = 5 * time.Millisecond
-	greatestWait = time.Second
+	minWait = 5 * time.Millisecond
+	maxWait = time.Second
 )
 
-// run takes what comes, one after another, until the end.
-func (t *Transport) run(what string, take func() error) {
+// run repeats step until the transport is shut down. action describes the step in the log.
+func (t *Transport) run(action string, step func() error) {
 	defer t.running.Done()
-	for wait := leastWait; ; {
-		err := take()
+	for wait := minWait; ; {
+		err := step()
 		if err == nil {
-			wait = leastWait
+			wait = minWait
 			continue
 		}
 		select {
-		case <-t.over:
+		case <-t.closed:
 			return
 		default:
 		}
-		t.log.Printf("[ERR] guard: %s: %v", what, err)
+		t.log.Printf("[ERR] guard: %s: %v", action, err)
 		select {
 		case <-time.After(wait):
-		case <-t.over:
+		case <-t.closed:
 		}
-		wait = lesser(2*wait, greatestWait)
+		wait = min(2*wait, maxWait)
 	}
 }
 
-// call has memberlist take a stream.
-func (t *Transport) call(conn net.Conn) {
+// deliverStream hands a connection to memberlist as a stream that is inspected when memberlist first reads from it.
+func (t *Transport) deliverStream(conn net.Conn) {
 	s := t.newStream(conn, false)
-	t.streams.enter(s)
+	t.streams.add(s)
 	select {
-	case t.calls <- s:
-	case <-t.over:
+	case t.conns <- s:
+	case <-t.closed:
 		s.Close()
 	}
 }
 
-// IngestPacket is memberlist's: the whole of a connection is a packet.
+// IngestPacket implements memberlist.IngestionAwareTransport. The connection's whole content is one packet.
 func (t *Transport) IngestPacket(conn net.Conn, from net.Addr, at time.Time, shouldClose bool) error {
 	if shouldClose {
 		defer conn.Close()
 	}
-	var all bytes.Buffer
-	if _, err := io.Copy(&all, io.LimitReader(conn, int64(t.bounds.PacketBytes)+1)); err != nil {
+	var packet bytes.Buffer
+	if _, err := io.Copy(&packet, io.LimitReader(conn, int64(t.bounds.PacketBytes)+1)); err != nil {
 		return fmt.Errorf("guard: reading a packet: %w", err)
 	}
-	l := t.lookers.Get().(*looker)
-	defer t.lookers.Put(l)
-	t.pass(l, all.Bytes(), from, at)
+	ins := t.inspectors.Get().(*inspector)
+	defer t.inspectors.Put(ins)
+	t.deliver(ins, packet.Bytes(), from, at)
 	return nil
 }
 
-// IngestStream is memberlist's.
+// IngestStream implements memberlist.IngestionAwareTransport.
 func (t *Transport) IngestStream(conn net.Conn) error {
-	t.call(conn)
+	t.deliverStream(conn)
 	return nil
 }
 
-// WriteTo is memberlist's.
+// WriteTo implements memberlist.Transport.
 func (t *Transport) WriteTo(b []byte, to string) (time.Time, error) {
 	return t.WriteToAddress(b, memberlist.Address{Addr: to})
 }
 
-// WriteToAddress is memberlist's. A transport that stands over this one has to send by it: acks of pings that it doesn't see are dropped.
+// WriteToAddress implements memberlist.NodeAwareTransport. A transport that wraps this one has to send through it: the
+// guard drops acks to pings that it did not see.
 func (t *Transport) WriteToAddress(b []byte, to memberlist.Address) (time.Time, error) {
 	udp, err := net.ResolveUDPAddr("udp", to.Addr)
 	if err != nil {
 		return time.Time{}, err
 	}
-	l := t.lookers.Get().(*looker)
-	l.sent(b)
-	t.lookers.Put(l)
+	ins := t.inspectors.Get().(*inspector)
+	ins.recordSentPing(b)
+	t.inspectors.Put(ins)
 	_, err = t.udp.WriteTo(b, udp)
 	return time.Now(), err
 }
 
-// DialTimeout is memberlist's.
+// DialTimeout implements memberlist.Transport.
 func (t *Transport) DialTimeout(to string, timeout time.Duration) (net.Conn, error) {
 	return t.DialAddressTimeout(memberlist.Address{Addr: to}, timeout)
 }
 
-// DialAddressTimeout is memberlist's. What comes back is looked at too, since a forged member has this node dial.
+// DialAddressTimeout implements memberlist.NodeAwareTransport. The answer is inspected too, since a forged member can
+// make this node dial it.
 func (t *Transport) DialAddressTimeout(to memberlist.Address, timeout time.Duration) (net.Conn, error) {
 	conn, err := (&net.Dialer{Timeout: timeout}).Dial("tcp", to.Addr)
 	if err != nil {
@@ -205,15 +210,16 @@ func (t *Transport) DialAddressTimeout(to memberlist.Address, timeout time.Durat
 	return t.newStream(conn, true), nil
 }
 
-// FinalAdvertiseAddr is memberlist's: what is given, or what this is bound to, or, where that is 0.0.0.0, a private address of the host.
+// FinalAdvertiseAddr implements memberlist.Transport. It returns the address that is given, or else the address at
+// which the transport listens, or, if that is 0.0.0.0, a private address of the host.
 func (t *Transport) FinalAdvertiseAddr(given string, port int) (net.IP, int, error) {
 	if given != "" {
 		ip := net.ParseIP(given)
 		if ip == nil {
-			return nil, 0, fmt.Errorf("guard: %q is no address", given)
+			return nil, 0, fmt.Errorf("guard: %q is not an IP address", given)
 		}
-		if short := ip.To4(); short != nil {
-			ip = short
+		if ipv4 := ip.To4(); ipv4 != nil {
+			ip = ipv4
 		}
 		return ip, port, nil
 	}
@@ -224,9 +230,9 @@ func (t *Transport) FinalAdvertiseAddr(given string, port int) (net.IP, int, err
 	return ip, t.Port(), err
 }
 
-// privateAddress is one of the host by which it reaches others; where there is none, the first private one.
+// privateAddress returns the private address from which the host reaches others, or else its first private address.
 func privateAddress() (net.IP, error) {
-	// (nothing is sent: the address is one for documents)
+	// This sends nothing. The address is reserved for documentation.
 	if conn, err := net.Dial("udp4", "192.0.2.1:9"); err == nil {
 		ip := conn.LocalAddr().(*net.UDPAddr).IP
 		conn.Close()
@@ -234,14 +240,14 @@ func privateAddress() (net.IP, error) {
 			return ip, nil
 		}
 	}
-	all, err := net.InterfaceAddrs()
+	addrs, err := net.InterfaceAddrs()
 	if err != nil {
 		return nil, err
 	}
-	for _, one := range all {
-		if in, isNet := one.(*net.IPNet); isNet && in.IP.IsPrivate() && in.IP.To4() != nil {
-			return in.IP.To4(), nil
+	for _, addr := range addrs {
+		if ipNet, ok := addr.(*net.IPNet); ok && ipNet.IP.IsPrivate() && ipNet.IP.To4() != nil {
+			return ipNet.IP.To4(), nil
 		}
 	}
-	return nil, errors.New("guard: the host has no private address, so AdvertiseAddr is needed")
+	return nil, errors.New("guard: this host has no private IP address: set AdvertiseAddr")
 }

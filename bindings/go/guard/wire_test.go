@@ -19,34 +19,34 @@ func encode(what any) []byte {
 	return out.Bytes()
 }
 
-// message is a type, and what go-msgpack makes of a value.
+// message returns a message of this type, encoded by go-msgpack.
 func message(kind byte, what any) []byte { return append([]byte{kind}, encode(what)...) }
 
 func with(base, changes map[string]any) map[string]any {
-	all := map[string]any{}
-	for _, some := range []map[string]any{base, changes} {
-		for key, value := range some {
-			all[key] = value
-			if value == without {
-				delete(all, key)
+	merged := map[string]any{}
+	for _, fields := range []map[string]any{base, changes} {
+		for key, value := range fields {
+			merged[key] = value
+			if value == absent {
+				delete(merged, key)
 			}
 		}
 	}
-	return all
+	return merged
 }
 
-// without leaves a field out.
-const without = "without"
+// absent as a field's value leaves the field out.
+const absent = "without"
 
 var versionsOf = []byte{1, 5, 2, 2, 5, 4}
 
 func alive(name string, changes map[string]any) []byte {
-	return message(kindAlive, with(map[string]any{
+	return message(msgAlive, with(map[string]any{
 		"Incarnation": 1, "Node": name, "Addr": []byte{127, 0, 0, 9}, "Port": 9, "Meta": []byte("meta"), "Vsn": versionsOf,
 	}, changes))
 }
 
-// node is an entry of a push/pull; a dead one, so that the child doesn't probe it.
+// node returns an entry of a push/pull. The node is dead, so that the child doesn't probe it.
 func node(name string, changes map[string]any) map[string]any {
 	return with(map[string]any{
 		"Name": name, "Addr": []byte{127, 0, 0, 9}, "Port": 9, "Meta": []byte("meta"), "Incarnation": 1, "State": 2, "Vsn": versionsOf,
@@ -57,19 +57,19 @@ func pushPull(nodes []map[string]any, length int) []byte {
 	return pushPullOf(nodes, make([]byte, length))
 }
 
-// pushPullOf has this state of the program's behind its nodes.
+// pushPullOf returns a push/pull with these nodes and this user state.
 func pushPullOf(nodes []map[string]any, state []byte) []byte {
-	out := message(kindPushPull, map[string]any{"Nodes": len(nodes), "UserStateLen": len(state), "Join": true})
-	for _, one := range nodes {
-		out = append(out, encode(one)...)
+	out := message(msgPushPull, map[string]any{"Nodes": len(nodes), "UserStateLen": len(state), "Join": true})
+	for _, entry := range nodes {
+		out = append(out, encode(entry)...)
 	}
 	return append(out, state...)
 }
 
-func compound(parts ...[]byte) []byte { return joinParts(parts) }
+func compound(parts ...[]byte) []byte { return encodeCompound(parts) }
 
 func checked(body []byte) []byte {
-	return append(binary.BigEndian.AppendUint32([]byte{kindChecksum}, crc32.ChecksumIEEE(body)), body...)
+	return append(binary.BigEndian.AppendUint32([]byte{msgChecksum}, crc32.ChecksumIEEE(body)), body...)
 }
 
 func lzwOf(body []byte) []byte {
@@ -81,13 +81,13 @@ func lzwOf(body []byte) []byte {
 }
 
 func compressed(body []byte) []byte {
-	return message(kindCompress, map[string]any{"Algo": 0, "Buf": lzwOf(body)})
+	return message(msgCompress, map[string]any{"Algo": 0, "Buf": lzwOf(body)})
 }
 
 func cipherOf(key []byte) cipher.AEAD {
 	block, _ := aes.NewCipher(key)
-	one, _ := cipher.NewGCM(block)
-	return one
+	aead, _ := cipher.NewGCM(block)
+	return aead
 }
 
 func sealWith(key, plain []byte) []byte       { return seal(cipherOf(key), nil, plain, nil) }
@@ -99,25 +99,25 @@ func openWith(key, sealed []byte) []byte {
 }
 
 func openStreamWith(key, sealed []byte) []byte {
-	plain, _ := open([]cipher.AEAD{cipherOf(key)}, sealed[streamHead:], sealed[:streamHead], nil)
+	plain, _ := open([]cipher.AEAD{cipherOf(key)}, sealed[streamHeader:], sealed[:streamHeader], nil)
 	return plain
 }
 
-// ackNumber is the sequence number of an ack, wherever it is in a packet.
+// ackNumber returns the sequence number of an ack inside a packet's wrappers.
 func ackNumber(plain []byte) (uint32, bool) {
-	if len(plain) > checksumHead && plain[0] == kindChecksum {
-		plain = plain[checksumHead:]
+	if len(plain) > checksumHeader && plain[0] == msgChecksum {
+		plain = plain[checksumHeader:]
 	}
-	if len(plain) > 0 && plain[0] == kindCompress {
+	if len(plain) > 0 && plain[0] == msgCompress {
 		var c struct{ Buf []byte }
 		codec.NewDecoderBytes(plain[1:], &codec.MsgpackHandle{}).Decode(&c)
 		plain, _ = inflate(c.Buf, make([]byte, 0, 65537), 65536, nil)
 	}
-	if len(plain) > 2 && plain[0] == kindCompound {
+	if len(plain) > 2 && plain[0] == msgCompound {
 		plain = plain[2+2*int(plain[1]):]
 	}
 	var ack struct{ SeqNo uint32 }
-	if len(plain) < 2 || plain[0] != kindAck {
+	if len(plain) < 2 || plain[0] != msgAck {
 		return 0, false
 	}
 	err := codec.NewDecoderBytes(plain[1:], &codec.MsgpackHandle{}).Decode(&ack)

@@ -8,39 +8,43 @@ import (
 	"kitchenrue.example/serfagent"
 )
 
-// Burst is how many packets are taken behind one flush at most, and how many firings. A burst has what waits already, so a node with little to do
-// flushes each event at once. A kill between the flush and EventCh costs at most the events of one burst, and those that wait.
+// Burst is the maximum number of packets that are processed with one flush, and the maximum number of firings. A burst has what is already
+// waiting, so a node with little to do flushes each event at once. A kill between the flush and EventCh loses at most the events of one
+// burst, and those that wait for EventCh.
 const Burst = 256
 
-// unreadWait is how long is waited for memory, before the outcomes of packets that were taken are asked for again.
-const unreadWait = 10 * time.Millisecond
+// outcomeRetryDelay is how long to wait for memory before reading the outcomes of a burst again.
+const outcomeRetryDelay = 10 * time.Millisecond
 
-// Packet is a packet as the proved agent gets it, with whether this node's tags pass each tag filter of its query.
+// Packet is a packet as the proved agent receives it. TagsPass says whether this node's tags pass each tag filter of the query in it.
 type Packet struct {
 	Data     []byte
 	TagsPass bool
 }
 
-// Firing is an event that is to be fired.
+// Firing is an event to fire.
 type Firing struct {
 	Name, Payload []byte
 	Coalesce      bool
 }
 
-// Agent is the proved agent, as a node calls it: one call at a time changes it. A Config's Wrap may stand between.
+// Agent is the proved agent, as a node calls it. Calls that change it are made one at a time. Config.Wrap may put another implementation in
+// front of it.
 type Agent interface {
-	// TakeAll takes packets, and then fires events, behind one flush: an outcome for each, in order. Where memory is wanting the
-	// outcomes beside that error are of the calls before it, and the others were not made. Where the file fails there is none.
+	// TakeAll receives packets and then fires events, with one flush for all of them. It returns an outcome for each, in order. If memory
+	// runs out, the outcomes that it returns with that error are those of the first calls, and the remaining calls were not made. If the
+	// file fails, it returns no outcome.
 	TakeAll(now uint64, packets []Packet, firings []Firing) ([]serfagent.Outcome, error)
 	Merge(packet []byte, isJoin bool) ([]*serfagent.Event, error)
 	LocalState(statuses []serfagent.Status, left []string) ([]byte, error)
-	Query(now uint64, id uint32, name, payload []byte, params serfagent.QueryParams) (*serfagent.Asked, error)
+	Query(now uint64, id uint32, name, payload []byte, params serfagent.QueryParams) (*serfagent.FiredQuery, error)
 	Respond(now, number uint64, payload []byte) ([]byte, error)
-	// Forget forgets a query that was handed out and won't be answered. CloseDue forgets those whose deadline is past.
+	// Forget forgets a query that was handed out and won't be answered. CloseDue forgets the queries whose deadline has passed.
 	Forget(number uint64) error
 	CloseDue(now uint64) ([]*serfagent.Closed, error)
 	Clocks() (serfagent.Clocks, error)
-	// ObserveMember brings the member clock above the time of a member's word; NextMemberTime is the time of this node's own.
+	// ObserveMember raises the member clock above the time of a received intent or status. NextMemberTime returns the time of the next
+	// intent of this node.
 	ObserveMember(time uint64) error
 	NextMemberTime() (uint64, error)
 	SaveMemberClock() error
@@ -48,7 +52,7 @@ type Agent interface {
 	Close() error
 }
 
-// proved is the proved agent itself, and the burst that is made of it: one at a time.
+// proved is the proved agent with its burst, which is used for one call at a time.
 type proved struct {
 	*serfagent.Agent
 	burst serfagent.Burst
@@ -56,65 +60,65 @@ type proved struct {
 
 var _ Agent = &proved{}
 
-// Proved is a proved agent as a node calls it: for who wraps one.
+// Proved returns a proved agent as a node calls it, for programs that wrap one.
 func Proved(agent *serfagent.Agent) Agent { return &proved{Agent: agent} }
 
-// TakeAll makes one burst of the calls. What was taken is read, however long memory for it is wanting: its lines are on the disk, so no
-// later life hands it out.
+// TakeAll makes all calls as one burst. It reads the outcomes of all calls that were made, even if it has to wait for memory: their lines
+// are on the disk, so no later life would hand these events out.
 func (p *proved) TakeAll(now uint64, packets []Packet, firings []Firing) ([]serfagent.Outcome, error) {
 	p.burst.Reset()
-	for _, one := range packets {
-		p.burst.Receive(now, one.Data, one.TagsPass)
+	for _, packet := range packets {
+		p.burst.Receive(now, packet.Data, packet.TagsPass)
 	}
-	for _, one := range firings {
-		p.burst.Fire(one.Name, one.Payload, one.Coalesce)
+	for _, firing := range firings {
+		p.burst.Fire(firing.Name, firing.Payload, firing.Coalesce)
 	}
-	outcomes, fault := p.Burst(&p.burst)
-	return readAll(p, outcomes, fault)
+	outcomes, err := p.Burst(&p.burst)
+	return readOutcomes(p, outcomes, err)
 }
 
-// unread has the outcomes that nobody has read for want of memory.
-type unread interface {
+// outcomeSource has outcomes that could not be read because memory ran out.
+type outcomeSource interface {
 	UnreadOutcomes() (int, error)
 	Outcomes() ([]serfagent.Outcome, error)
 }
 
-// readAll reads the outcomes that are left, where memory was wanting for them.
-func readAll(from unread, outcomes []serfagent.Outcome, fault error) ([]serfagent.Outcome, error) {
-	for fault == serfagent.OutOfMemory {
-		left, err := from.UnreadOutcomes()
-		if err != nil || left == 0 {
+// readOutcomes reads the remaining outcomes if memory ran out while they were read.
+func readOutcomes(source outcomeSource, outcomes []serfagent.Outcome, burstErr error) ([]serfagent.Outcome, error) {
+	for burstErr == serfagent.OutOfMemory {
+		unread, err := source.UnreadOutcomes()
+		if err != nil || unread == 0 {
 			break
 		}
-		time.Sleep(unreadWait)
-		more, err := from.Outcomes()
+		time.Sleep(outcomeRetryDelay)
+		more, err := source.Outcomes()
 		outcomes = append(outcomes, more...)
 		if isClosed(err) {
-			fault = err
+			burstErr = err
 		}
 	}
-	return outcomes, fault
+	return outcomes, burstErr
 }
 
-// isClosed says whether this error means that the proved agent is closed: its file failed.
-func isClosed(err error) bool { return err != nil && saysClosed(err) }
+// isClosed reports whether this error means that the proved agent is closed because its file failed.
+func isClosed(err error) bool { return err != nil && meansClosed(err) }
 
-func saysClosed(err error) bool {
+func meansClosed(err error) bool {
 	var code serfagent.Code
-	var own Error
-	if errors.As(err, &own) || errors.Is(err, serfagent.ErrUnread) {
+	var refusal Error
+	if errors.As(err, &refusal) || errors.Is(err, serfagent.ErrUnread) {
 		return false
 	}
 	return !errors.As(err, &code) || code == serfagent.Empty
 }
 
-// lockWait is how long a file that another has is waited for. A node that was killed as it began a program, such as a handler, leaves the
-// lock to that process until it is the program: for a moment, or longer on a machine with much to do.
-const lockWait = time.Second
+// lockTimeout is how long to wait for a file that another process has locked. If a node is killed while it starts another program, such as
+// a handler, that process holds the lock until it has become the program: for a moment, or longer on a busy machine.
+const lockTimeout = time.Second
 
-// openWhenFree opens the proved agent on a file.
-func openWhenFree(name, path string, settings serfagent.Settings) (*serfagent.Agent, error) {
-	for end := time.Now().Add(lockWait); ; time.Sleep(lockWait / 50) {
+// openWhenUnlocked opens the proved agent on a file. It waits up to lockTimeout if the file is locked.
+func openWhenUnlocked(name, path string, settings serfagent.Settings) (*serfagent.Agent, error) {
+	for end := time.Now().Add(lockTimeout); ; time.Sleep(lockTimeout / 50) {
 		agent, err := serfagent.Open(name, path, settings)
 		if !errors.Is(err, serfagent.ErrLocked) || time.Now().After(end) {
 			return agent, err
@@ -122,18 +126,18 @@ func openWhenFree(name, path string, settings serfagent.Settings) (*serfagent.Ag
 	}
 }
 
-// openAgent opens the proved agent on the file of a configuration, or in memory. It gives the lines of members of the file, and the
-// members of the last life.
+// openAgent opens the proved agent on the file that the configuration names, or in memory. It also returns the file for the lines of
+// members, and the members of the last life; both are nil in memory.
 func openAgent(c *Config) (Agent, *snapshotFile, []PreviousNode, error) {
 	if c.SnapshotPath == "" {
-		agent, err := serfagent.OpenInMemory(c.NodeName, c.settings())
+		agent, err := serfagent.OpenInMemory(c.NodeName, c.agentSettings())
 		return &proved{Agent: agent}, nil, nil, err
 	}
 	path, err := filepath.Abs(c.SnapshotPath)
 	if err != nil {
 		return nil, nil, nil, err
 	}
-	agent, err := openWhenFree(c.NodeName, path, c.settings())
+	agent, err := openWhenUnlocked(c.NodeName, path, c.agentSettings())
 	if err != nil {
 		return nil, nil, nil, &FieldError{"SnapshotPath", err}
 	}

@@ -11,11 +11,11 @@ import (
 )
 
 // respond answers a query that was handed out.
-func (s *Serf) respond(query *serfagent.Handed, payload []byte) error {
+func (s *Serf) respond(query *serfagent.PendingQuery, payload []byte) error {
 	packet, err := s.agent.Respond(s.now(), query.Number, payload)
 	switch {
 	case errors.Is(err, serfagent.NotHanded) && s.now() > query.Deadline:
-		// (the proved agent forgets what is past its deadline)
+		// (the proved agent has forgotten queries whose deadline has passed)
 		return errTooLate
 	case errors.Is(err, serfagent.NotHanded):
 		return errAnswered
@@ -26,51 +26,52 @@ func (s *Serf) respond(query *serfagent.Handed, payload []byte) error {
 	case err != nil:
 		return err
 	}
-	s.send(query, packet)
+	s.sendReply(query, packet)
 	return nil
 }
 
-// send sends an ack or a response to who asked, and by as many other nodes as the query says.
-func (s *Serf) send(query *serfagent.Handed, packet []byte) {
+// sendReply sends an ack or a response to the node that fired the query, and through as many other nodes as its relay factor says.
+func (s *Serf) sendReply(query *serfagent.PendingQuery, packet []byte) {
 	source := string(query.Source)
-	own := s.memberlist().LocalNode()
-	if source == own.Name && own.Addr.Equal(query.Addr) && own.Port == query.Port {
+	self := s.memberlist().LocalNode()
+	if source == self.Name && self.Addr.Equal(query.Addr) && self.Port == query.Port {
 		delegate{s}.NotifyMsg(packet)
 		return
 	}
-	s.sendTo(source, query.Addr, query.Port, packet)
+	s.sendToNode(source, query.Addr, query.Port, packet)
 	if query.RelayFactor == 0 {
 		return
 	}
-	passed := writeRelay(relay{addr: query.Addr, port: query.Port, name: source, message: packet})
-	for _, member := range s.members.others(int(query.RelayFactor), source) {
-		s.sendTo(member.Name, member.Addr, member.Port, passed)
+	relayed := encodeRelay(relay{addr: query.Addr, port: query.Port, name: source, message: packet})
+	for _, member := range s.members.pickOthers(int(query.RelayFactor), source) {
+		s.sendToNode(member.Name, member.Addr, member.Port, relayed)
 	}
 }
 
-func (s *Serf) sendTo(name string, addr net.IP, port uint16, packet []byte) {
+// sendToNode sends a packet to a node's address. It only logs a failure: packets may be lost anyway.
+func (s *Serf) sendToNode(name string, addr net.IP, port uint16, packet []byte) {
 	if len(addr) != net.IPv4len && len(addr) != net.IPv6len {
-		// (its name would be looked up)
-		s.log.Printf("[WARN] serf: an answer to %s was not sent: %x is no address", name, []byte(addr))
+		// (memberlist would look it up as a name)
+		s.log.Printf("[WARN] serf: the answer to %s was not sent: %x is not an IP address", name, []byte(addr))
 		return
 	}
-	to := net.UDPAddr{IP: addr, Port: int(port)}
-	if err := s.memberlist().SendToAddress(memberlist.Address{Addr: to.String(), Name: name}, packet); err != nil {
-		s.log.Printf("[WARN] serf: an answer to %s was not sent: %v", name, err)
+	udpAddr := net.UDPAddr{IP: addr, Port: int(port)}
+	if err := s.memberlist().SendToAddress(memberlist.Address{Addr: udpAddr.String(), Name: name}, packet); err != nil {
+		s.log.Printf("[WARN] serf: the answer to %s was not sent: %v", name, err)
 	}
 }
 
-// passOn passes a message on to the member that it is for. One for somebody else goes nowhere.
-func (s *Serf) passOn(packet []byte) {
-	found, err := readRelay(packet)
+// relayPacket forwards a message to the member that it is for. If no member has this name and address, the message is dropped.
+func (s *Serf) relayPacket(packet []byte) {
+	relayed, err := decodeRelay(packet)
 	if err != nil {
-		s.log.Printf("[DEBUG] serf: a packet was not taken: %v", err)
+		s.log.Printf("[DEBUG] serf: a packet was ignored: %v", err)
 		return
 	}
-	member, is := s.members.get(found.name)
-	if !is || !member.Addr.Equal(found.addr) || member.Port != found.port {
-		s.log.Printf("[DEBUG] serf: a message for %q was not passed on: no member has this address", found.name)
+	member, ok := s.members.get(relayed.name)
+	if !ok || !member.Addr.Equal(relayed.addr) || member.Port != relayed.port {
+		s.log.Printf("[DEBUG] serf: a message for %q was not relayed: no member has this name and the address in the relay", relayed.name)
 		return
 	}
-	s.sendTo(found.name, found.addr, found.port, found.message)
+	s.sendToNode(relayed.name, relayed.addr, relayed.port, relayed.message)
 }

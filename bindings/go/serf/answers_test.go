@@ -9,12 +9,12 @@ import (
 	"kitchenrue.example/serfagent"
 )
 
-// Acks that nobody asked for are no answers.
-func TestAcksAreNoAnswers(t *testing.T) {
+// Acks that were not requested are not delivered.
+func TestUnrequestedAcksAreIgnored(t *testing.T) {
 	for _, acks := range []chan string{nil, make(chan string, 1)} {
 		r := &QueryResponse{acks: acks, responses: make(chan NodeResponse, 2)}
-		if !r.take(&serfagent.Answer{From: []byte("a")}, true) || !r.take(&serfagent.Answer{From: []byte("b")}, false) {
-			t.Error("there is room")
+		if !r.deliver(&serfagent.Answer{From: []byte("a")}, true) || !r.deliver(&serfagent.Answer{From: []byte("b")}, false) {
+			t.Error("an answer was not delivered, although there is room")
 		}
 		if len(r.responses) != 1 || (<-r.responses).From != "b" || len(acks) != cap(acks) {
 			t.Error(len(r.responses), len(acks))
@@ -22,48 +22,48 @@ func TestAcksAreNoAnswers(t *testing.T) {
 	}
 }
 
-func TestMajorities(t *testing.T) {
-	for said, wants := range map[[2]int]bool{{0, 1}: false, {1, 1}: true, {1, 2}: false, {2, 2}: true, {1, 3}: false, {2, 3}: true, {2, 4}: false, {3, 4}: true} {
-		if isMajority(said[0], said[1]) != wants {
-			t.Error(said)
+func TestIsMajority(t *testing.T) {
+	for counts, want := range map[[2]int]bool{{0, 1}: false, {1, 1}: true, {1, 2}: false, {2, 2}: true, {1, 3}: false, {2, 3}: true, {2, 4}: false, {3, 4}: true} {
+		if isMajority(counts[0], counts[1]) != want {
+			t.Error(counts)
 		}
 	}
 }
 
-// An answer is relayed by others than who asked: that one gets it, and no relay to itself.
-func TestTheAskerRelaysNothing(t *testing.T) {
-	a := start(t, "a", "", withAgent(&fake{}), func(m *made) { m.MemberlistConfig.EnableCompression = false })
+// An answer is relayed through nodes other than the one that fired the query. That node gets the answer itself, and no relay to itself.
+func TestAnswersAreRelayedByOthersOnly(t *testing.T) {
+	a := startNode(t, "a", "", withAgent(&fakeAgent{}), func(o *nodeOptions) { o.MemberlistConfig.EnableCompression = false })
 	sockets := map[string]*net.UDPConn{}
 	for _, name := range []string{"asker", "other"} {
 		socket, err := net.ListenUDP("udp", &net.UDPAddr{IP: net.IPv4(127, 0, 0, 1)})
 		must(t, err)
 		defer socket.Close()
 		sockets[name] = socket
-		a.members.joined(Member{Name: name, Addr: net.IPv4(127, 0, 0, 1).To4(), Port: uint16(socket.LocalAddr().(*net.UDPAddr).Port)})
+		a.members.memberJoined(Member{Name: name, Addr: net.IPv4(127, 0, 0, 1).To4(), Port: uint16(socket.LocalAddr().(*net.UDPAddr).Port)})
 	}
 	asker, _ := a.members.get("asker")
-	a.send(&serfagent.Handed{Source: []byte("asker"), Addr: asker.Addr, Port: asker.Port, RelayFactor: 9}, []byte("\x06answer"))
-	for name, wants := range map[string]string{"asker": "[6]", "other": "[9]"} {
+	a.sendReply(&serfagent.PendingQuery{Source: []byte("asker"), Addr: asker.Addr, Port: asker.Port, RelayFactor: 9}, []byte("\x06answer"))
+	for name, want := range map[string]string{"asker": "[6]", "other": "[9]"} {
 		var types []byte
-		// (what was sent is there already: a second packet isn't waited for)
+		// (everything is sent already, so a second packet needs no long wait)
 		for wait, data := time.Minute, make([]byte, 1500); ; wait = 200 * time.Millisecond {
 			_ = sockets[name].SetReadDeadline(time.Now().Add(wait))
 			count, err := sockets[name].Read(data)
 			if err != nil {
 				break
 			}
-			// (memberlist's type of what it carries for others, and then ours)
+			// (memberlist's type of a user message is first, then the type of our message)
 			if count > 1 && data[0] == 8 {
 				types = append(types, data[1])
 			}
 		}
-		if fmt.Sprint(types) != wants {
+		if fmt.Sprint(types) != want {
 			t.Error(name, types)
 		}
 	}
 }
 
-func TestAHandMadeQuery(t *testing.T) {
+func TestHandMadeQueryAndResponse(t *testing.T) {
 	var q Query
 	if err := q.Respond([]byte("x")); err != errHandMade || !q.Deadline().IsZero() || q.EventType() != EventQuery {
 		t.Error(err, q.Deadline())
@@ -72,6 +72,6 @@ func TestAHandMadeQuery(t *testing.T) {
 	r.Close()
 	r.Close()
 	if !r.Finished() || r.AckCh() != nil || r.ResponseCh() != nil {
-		t.Error("nobody was asked")
+		t.Error("a hand-made response has channels, or is not finished")
 	}
 }

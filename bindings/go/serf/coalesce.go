@@ -5,59 +5,61 @@ import (
 	"time"
 )
 
-// coalescer stands between what is handed out and what waits for EventCh. It holds events for a while: of user events of one name that
-// may be coalesced those of the last time go on, and of each member what happened last. All else goes on at once.
+// coalescer is the step between publish and the pipe. It holds events for a while. Of the user events of one name that may be coalesced, it
+// releases those of the last Lamport time; of each member, it releases the last event. All other events pass at once.
 //
-// What it holds when the process is killed is lost: it was handed out, and never comes again.
+// If the process is killed, the held events are lost: the proved agent has handed them out and never does so again.
 type coalescer struct {
-	out func(...Event)
+	publish func(...Event)
 
-	mu            sync.Mutex
-	users, member held
+	mu                       sync.Mutex
+	userEvents, memberEvents heldEvents
 }
 
-// held is what waits, in the order in which it came, and for how long it may.
-type held struct {
-	period, quiet time.Duration
-	events        []Event
-	timer         *time.Timer
-	until         time.Time
+// heldEvents are the events that are held, in order of arrival, and the settings and the state of their timer.
+type heldEvents struct {
+	period, quietPeriod time.Duration
+	events              []Event
+	timer               *time.Timer
+	deadline            time.Time
 }
 
-// newCoalescer makes one that gives events to out, which may not call back.
+// newCoalescer returns a coalescer that passes events to publish. publish must not call the coalescer.
 func newCoalescer(c *Config, out func(...Event)) *coalescer {
 	return &coalescer{
-		out: out, users: held{period: c.UserCoalescePeriod, quiet: c.UserQuiescentPeriod}, member: held{period: c.CoalescePeriod, quiet: c.QuiescentPeriod},
+		publish:      out,
+		userEvents:   heldEvents{period: c.UserCoalescePeriod, quietPeriod: c.UserQuiescentPeriod},
+		memberEvents: heldEvents{period: c.CoalescePeriod, quietPeriod: c.QuiescentPeriod},
 	}
 }
 
-// add takes events.
+// add accepts events. Those that are not coalesced pass at once.
 func (c *coalescer) add(events ...Event) {
 	c.mu.Lock()
 	defer c.mu.Unlock()
-	if c.users.period <= 0 && c.member.period <= 0 {
-		c.out(events...)
+	if c.userEvents.period <= 0 && c.memberEvents.period <= 0 {
+		c.publish(events...)
 		return
 	}
 	for _, e := range events {
-		if !c.held(e) {
-			c.out(e)
+		if !c.holdIfCoalesced(e) {
+			c.publish(e)
 		}
 	}
 }
 
-// held takes an event that is held for a while; false where it isn't.
-func (c *coalescer) held(e Event) bool {
+// holdIfCoalesced holds the event if events of its kind are coalesced, and otherwise returns false.
+func (c *coalescer) holdIfCoalesced(e Event) bool {
 	switch e := e.(type) {
 	case UserEvent:
-		if e.Coalesce && c.users.period > 0 {
-			c.hold(&c.users, laterOf(c.users.events, e))
+		if e.Coalesce && c.userEvents.period > 0 {
+			c.hold(&c.userEvents, withUserEvent(c.userEvents.events, e))
 			return true
 		}
 	case MemberEvent:
-		if c.member.period > 0 {
+		if c.memberEvents.period > 0 {
 			for _, member := range e.Members {
-				c.hold(&c.member, lastOf(c.member.events, MemberEvent{e.Type, []Member{member}}))
+				c.hold(&c.memberEvents, withMemberEvent(c.memberEvents.events, MemberEvent{e.Type, []Member{member}}))
 			}
 			return true
 		}
@@ -65,16 +67,16 @@ func (c *coalescer) held(e Event) bool {
 	return false
 }
 
-// hold has these events wait, of which the last has just come.
-func (c *coalescer) hold(h *held, events []Event) {
+// hold replaces the held events by these, the last of which has just arrived, and restarts the timer.
+func (c *coalescer) hold(h *heldEvents, events []Event) {
 	now := time.Now()
 	if len(h.events) == 0 {
-		h.until = now.Add(h.period)
+		h.deadline = now.Add(h.period)
 	}
 	h.events = events
-	wait := h.quiet
-	if rest := h.until.Sub(now); rest < wait {
-		wait = rest
+	wait := h.quietPeriod
+	if untilDeadline := h.deadline.Sub(now); untilDeadline < wait {
+		wait = untilDeadline
 	}
 	if len(h.events) >= Waiting || wait <= 0 {
 		c.release(h)
@@ -87,7 +89,7 @@ func (c *coalescer) hold(h *held, events []Event) {
 	timer = time.AfterFunc(wait, func() {
 		c.mu.Lock()
 		defer c.mu.Unlock()
-		// (one that was stopped too late finds another one)
+		// (a timer that was stopped too late is no longer the current one)
 		if h.timer == timer {
 			c.release(h)
 		}
@@ -95,57 +97,57 @@ func (c *coalescer) hold(h *held, events []Event) {
 	h.timer = timer
 }
 
-// laterOf keeps of one name the events of the greatest time.
-func laterOf(events []Event, e UserEvent) []Event {
+// withUserEvent adds a user event to the held ones. Of one name it keeps only the events of the largest time.
+func withUserEvent(events []Event, e UserEvent) []Event {
 	kept := events[:0]
-	for _, one := range events {
-		if one := one.(UserEvent); one.Name != e.Name || one.LTime == e.LTime {
-			kept = append(kept, one)
-		} else if one.LTime > e.LTime {
+	for _, event := range events {
+		if held := event.(UserEvent); held.Name != e.Name || held.LTime == e.LTime {
+			kept = append(kept, held)
+		} else if held.LTime > e.LTime {
 			return events
 		}
 	}
 	return append(kept, e)
 }
 
-// lastOf keeps of one member what came last.
-func lastOf(events []Event, e MemberEvent) []Event {
-	for i, one := range events {
-		if one := one.(MemberEvent); one.Members[0].Name == e.Members[0].Name {
-			e.Type = lastType(one.Type, e.Type)
+// withMemberEvent adds the event of one member, in place of the held event of the same member.
+func withMemberEvent(events []Event, e MemberEvent) []Event {
+	for i, event := range events {
+		if held := event.(MemberEvent); held.Members[0].Name == e.Members[0].Name {
+			e.Type = mergedType(held.Type, e.Type)
 			return append(append(events[:i], events[i+1:]...), e)
 		}
 	}
 	return append(events, e)
 }
 
-// release lets go what waits: user events as they are, and members of one type together.
-func (c *coalescer) release(h *held) {
+// release publishes the held events: user events as they are, and one member event for each type.
+func (c *coalescer) release(h *heldEvents) {
 	if h.timer != nil {
 		h.timer.Stop()
 		h.timer = nil
 	}
 	events := h.events
 	h.events = nil
-	places := map[EventType]int{}
-	var together []Event
+	positions := map[EventType]int{}
+	var merged []Event
 	for _, e := range events {
-		about, is := e.(MemberEvent)
-		if at, has := places[e.EventType()]; is && has {
-			first := together[at].(MemberEvent)
-			together[at] = MemberEvent{first.Type, append(first.Members, about.Members...)}
+		memberEvent, isMember := e.(MemberEvent)
+		if position, hasType := positions[e.EventType()]; isMember && hasType {
+			first := merged[position].(MemberEvent)
+			merged[position] = MemberEvent{first.Type, append(first.Members, memberEvent.Members...)}
 			continue
 		}
-		places[e.EventType()] = len(together)
-		together = append(together, e)
+		positions[e.EventType()] = len(merged)
+		merged = append(merged, e)
 	}
-	c.out(together...)
+	c.publish(merged...)
 }
 
-// flush lets go all that waits, at the end.
+// flush publishes all held events when the node ends.
 func (c *coalescer) flush() {
 	c.mu.Lock()
 	defer c.mu.Unlock()
-	c.release(&c.users)
-	c.release(&c.member)
+	c.release(&c.userEvents)
+	c.release(&c.memberEvents)
 }

@@ -14,13 +14,14 @@ import (
 	"kitchenrue.example/serfagent"
 )
 
-// The versions of Serf's protocol that are spoken.
+// The versions of Serf's protocol that the node supports.
 const (
+	//lint:ignore SA9004 the second one has no type in Serf's package either
 	ProtocolVersionMin uint8 = 2
 	ProtocolVersionMax       = 5
 )
 
-// ProtocolVersionMap says which version of memberlist's protocol each version of Serf's goes by.
+// ProtocolVersionMap has the version of memberlist's protocol for each version of Serf's.
 var ProtocolVersionMap map[uint8]uint8
 
 func init() {
@@ -30,152 +31,155 @@ func init() {
 	}
 }
 
-// UserEventSizeLimit is the greatest number of bytes that a limit for events may be.
+// UserEventSizeLimit is the largest value, in bytes, of Config.UserEventSizeLimit and of the limits for queries.
 const UserEventSizeLimit = 9 * 1024
 
-// greatestBuffer is how many times of events, or of queries, can be kept at most, and greatestName how many bytes a name may have.
+// maxBufferSize is the maximum of EventBuffer and QueryBuffer, and maxNameLength the maximum length of a node's name in bytes.
 const (
-	greatestBuffer = 65536
-	greatestName   = 128
+	maxBufferSize = 65536
+	maxNameLength = 128
 )
 
-// MergeDelegate may refuse a merge with another cluster: it is told of the members that would come, and an error cancels the merge.
-// Of a single node that comes by gossip it is told alone.
+// MergeDelegate may refuse to merge with another cluster. NotifyMerge gets the members that would join; an error cancels the merge. A
+// single node that joins by gossip is passed alone.
 type MergeDelegate interface {
 	NotifyMerge([]*Member) error
 }
 
-// Config is what a node is made of. Create copies it, tags and MemberlistConfig too: a change behind Create has no effect.
+// Config configures a node. Create copies it, including Tags and MemberlistConfig, so a change after Create has no effect.
 type Config struct {
-	// NodeName names this node in the cluster, which has no other of this name; the host's name where it is empty. It has at most 128
-	// bytes.
+	// NodeName is the name of this node, unique in the cluster and at most 128 bytes long. If it is empty, the host's name is used.
 	NodeName string
 
-	// Tags are this node's, which all members see; 512 bytes at most, with their names and lengths. The tag role alone is spoken at
-	// protocol 2.
+	// Tags are this node's tags, which all members see. Encoded, they have at most 512 bytes, including their names. At protocol 2 only the
+	// tag role is sent.
 	Tags map[string]string
 
-	// EventCh gets events of members, user events and queries in one order; none where it is nil. An event that was handed out is
-	// offered until it is taken: where the reader is slow the node takes nothing more from the network, and no event is dropped. Of a
-	// member that changes often behind 4,096 waiting events the last change counts.
+	// EventCh receives member events, user events and queries, in one order. If it is nil, no events are delivered. An event that was
+	// handed out is offered until the program receives it: if the program is slow, the node accepts nothing more from the network, and no
+	// event is dropped. If 4,096 events are waiting and a member changes repeatedly, only its last change is delivered.
 	EventCh chan<- Event
 
-	// ProtocolVersion is 2 to 5.
+	// ProtocolVersion is the version of Serf's protocol to speak, from 2 to 5.
 	ProtocolVersion uint8
 
-	// BroadcastTimeout is how long a leave or a forced one waits until it is sent, and how long UserEvent waits for room; 5 seconds
-	// where it is 0.
+	// BroadcastTimeout is how long Leave, RemoveFailedNode, RemoveFailedNodePrune and SetTags wait until their message is sent, and how
+	// long UserEvent waits for room. 0 means 5 seconds.
 	BroadcastTimeout time.Duration
 
-	// LeavePropagateDelay is how long Leave waits behind the sending, so that the others hear of it.
+	// LeavePropagateDelay is how long Leave waits after its message was sent, so that the other nodes receive it.
 	LeavePropagateDelay time.Duration
 
-	// Events of members are held for CoalescePeriod, or until nothing came for QuiescentPeriod, and then come together by type. With a
-	// period of 0 each comes at once. User events that may be coalesced are held by the next two, and of one name those of the
-	// greatest time come. What is held when the process is killed never comes.
+	// Member events are held for CoalescePeriod, or until none has arrived for QuiescentPeriod, and are then delivered together by type.
+	// With a period of 0 each is delivered at once. User events that may be coalesced are held in the same way by UserCoalescePeriod and
+	// UserQuiescentPeriod; of one name, those of the largest time are delivered. Events that are held when the process is killed are lost.
 	CoalescePeriod      time.Duration
 	QuiescentPeriod     time.Duration
 	UserCoalescePeriod  time.Duration
 	UserQuiescentPeriod time.Duration
 
-	// ReapInterval is how often the members are looked through for those that failed longer than ReconnectTimeout ago, or left longer
-	// than TombstoneTimeout ago: these are forgotten. ReconnectInterval is how often one that failed is tried. An interval of 0 is
-	// that of DefaultConfig.
+	// ReapInterval is how often the node forgets members that failed more than ReconnectTimeout ago, or left more than TombstoneTimeout
+	// ago. ReconnectInterval is how often the node tries to join a failed member again. An interval of 0 means that of DefaultConfig.
 	ReapInterval      time.Duration
 	ReconnectInterval time.Duration
 	ReconnectTimeout  time.Duration
 	TombstoneTimeout  time.Duration
 
-	// FlapTimeout is how soon a member that failed has to be back, so that it counts as flapping in the metrics.
+	// FlapTimeout is how soon a failed member has to be alive again to be counted as flapping in the metrics.
 	FlapTimeout time.Duration
 
-	// QueueCheckInterval is how often the packets that wait to be sent are counted, and told where they are more than
-	// QueueDepthWarning. Of more than MaxQueueDepth those that were sent most often are dropped; where MinQueueDepth isn't 0, that or
-	// twice the number of members is the bound, whichever is greater. An interval of 0 is that of DefaultConfig.
+	// QueueCheckInterval is how often the packets that wait to be gossiped are counted; if there are at least QueueDepthWarning, the node
+	// logs a warning. A queue has at most MaxQueueDepth packets: of more, those that were sent most often are dropped. If MinQueueDepth
+	// isn't 0, the limit is instead MinQueueDepth or twice the number of members, whichever is larger. An interval of 0 means that of
+	// DefaultConfig.
 	QueueCheckInterval time.Duration
 	QueueDepthWarning  int
 	MaxQueueDepth      int
 	MinQueueDepth      int
 
-	// RecentIntentTimeout is how long the word that a node comes or goes is kept for a node that isn't known yet.
+	// RecentIntentTimeout is how long a join or leave intent is kept for a node that isn't a member yet.
 	RecentIntentTimeout time.Duration
 
-	// EventBuffer and QueryBuffer are of how many times events, and queries, are kept: 1 to 65,536. What is older is ignored.
+	// EventBuffer and QueryBuffer are how many Lamport times of events, and of queries, are remembered: 1 to 65,536. Older ones are
+	// ignored.
 	EventBuffer int
 	QueryBuffer int
 
-	// QueryTimeoutMult is by how much a query's timeout, where none is given, is above the interval of gossip times the logarithm of
-	// the number of nodes.
+	// QueryTimeoutMult is the factor of the default timeout of a query: the gossip interval times this factor times the logarithm of the
+	// number of nodes.
 	QueryTimeoutMult int
 
-	// QueryResponseSizeLimit and QuerySizeLimit are how many bytes the packet of an answer, and of a query, of this node may have:
-	// 9,216 at most, and 1,024 where it is 0.
+	// QueryResponseSizeLimit and QuerySizeLimit are the maximum number of bytes of the packet of a response, and of a query, that this node
+	// sends: at most 9,216. 0 means 1,024.
 	QueryResponseSizeLimit int
 	QuerySizeLimit         int
 
-	// MemberlistConfig is memberlist's; that for a LAN where it is nil. Its Name, its versions, Delegate, Events and Conflict are this
-	// package's, and so are Ping, where coordinates are kept, and Merge and Alive, where Merge below is there. Its Logger and
-	// LogOutput are those below.
+	// MemberlistConfig configures memberlist; nil means memberlist's configuration for a LAN. This package sets its Name, its versions,
+	// Delegate, Events and Conflict, also Ping unless coordinates are disabled, and Merge and Alive if Merge below is set. It replaces its
+	// Logger and LogOutput by the logger below.
 	MemberlistConfig *memberlist.Config
 
-	// The log goes to Logger; where that is nil to LogOutput, and to standard error where that is nil too.
+	// The node logs to Logger. If that is nil, it logs to LogOutput, and if that is nil too, to standard error.
 	LogOutput io.Writer
 	Logger    *log.Logger
 
-	// SnapshotPath is the file that keeps the clocks and the members. Each event's line is flushed to it before the event comes, and
-	// Create joins the members that it names. Without a path all is kept in memory, and the next life may take an event again. Each ten
-	// seconds the file is looked at: where it was taken away, replaced or cut off, the node ends with ErrSnapshotChanged.
+	// SnapshotPath is the file that keeps the clocks and the members. The line of each event is flushed to it before the event is
+	// delivered, and Create joins one of the members that the file names. Without a path all is kept in memory, and the next life may hand
+	// out an event again. Every ten seconds the node checks the file: if it was removed, replaced or truncated, the node ends with
+	// ErrSnapshotChanged.
 	SnapshotPath string
 
-	// RejoinAfterLeave joins the members of the file behind a leave too.
+	// RejoinAfterLeave makes Create join the members of the file even after a leave.
 	RejoinAfterLeave bool
 
-	// EnableNameConflictResolution has the cluster asked which node has this one's name, where another has it too. The one that fewer
-	// know ends.
+	// EnableNameConflictResolution makes the node ask the cluster which node has its name if another node claims it too. The one that fewer
+	// members know ends.
 	EnableNameConflictResolution bool
 
-	// DisableCoordinates keeps no coordinates, which say how far nodes are from one another.
+	// DisableCoordinates turns off network coordinates, which estimate the round-trip time between nodes.
 	DisableCoordinates bool
 
-	// KeyringFile is where changes of keys are kept. It isn't read.
+	// KeyringFile is the file to which changes of the keys are written. The node does not read it.
 	KeyringFile string
 
-	// Merge may refuse members.
+	// Merge, if it isn't nil, may refuse nodes that are about to join.
 	Merge MergeDelegate
 
-	// UserEventSizeLimit is how many bytes the name and the payload of an event that is fired here may have together: 9,216 at most.
+	// UserEventSizeLimit is the maximum number of bytes of the name and the payload, together, of an event that is fired here: at most
+	// 9,216.
 	UserEventSizeLimit int
 
-	// KeepEvents keeps events and queries in the file too, so that a restart goes on with the window of the life before. Serf has no
+	// KeepEvents keeps events and queries in the file too, so that a restart continues with the window of the previous life. Serf has no
 	// such field.
 	KeepEvents bool
 
-	// KeepEventsSize is how many bytes of the file the kept events may have: 1 MiB to 1 GiB, and 32 MiB where it is 0. Half of it is shared
-	// by the times of EventBuffer, each its own part, and half is for whichever come. What has no room is dropped, and not taken. Serf has
-	// no such field.
+	// KeepEventsSize is the maximum number of bytes of the file that the kept events may use: 1 MiB to 1 GiB. 0 means 32 MiB. Half of it is
+	// divided equally among the times of EventBuffer, and the other half is for any time. An event for which there is no room is dropped
+	// before the proved agent receives it. Serf has no such field.
 	KeepEventsSize int
 
-	// Guard has the bounds of what memberlist is given to read, and of how many members are known (4,096); each that is 0 is that of
-	// guard.Defaults. Where MemberlistConfig has a Transport, that is taken, and no guard. Serf has no such field.
+	// Guard has the limits for what memberlist reads from the network, and the maximum number of known members (4,096 if it is 0). Each
+	// other limit that is 0 is that of guard.Defaults. If MemberlistConfig has a Transport, the node uses that one, without a guard. Serf
+	// has no such field.
 	Guard guard.Settings
 
-	// Wrap, where it isn't nil, is given the proved agent before its first call, and what it gives is called in its place: so a
-	// program may record the calls. Serf has no such field.
+	// Wrap, if it isn't nil, is called with the proved agent before its first call, and the node calls the agent that Wrap returns. A
+	// program can record the calls this way. Serf has no such field.
 	Wrap func(agent Agent, settings serfagent.Settings) (Agent, error)
 
-	// lookTime is how often the file is looked at; shorter in tests. timeOfDay is time.Now but in tests.
-	lookTime  time.Duration
-	timeOfDay func() time.Time
+	// snapshotCheckInterval is how often the file is checked, and timeOfDay returns the time of day; tests replace both.
+	snapshotCheckInterval time.Duration
+	timeOfDay             func() time.Time
 }
 
-// Init makes the map of the tags, where there is none.
+// Init makes the map of Tags if it is nil.
 func (c *Config) Init() {
 	if c.Tags == nil {
 		c.Tags = map[string]string{}
 	}
 }
 
-// DefaultConfig is Serf's: for a LAN, without a snapshot.
+// DefaultConfig returns Serf's default configuration: for a LAN, without a snapshot. It panics if the host's name can't be read.
 func DefaultConfig() *Config {
 	name, err := os.Hostname()
 	if err != nil {
@@ -183,81 +187,83 @@ func DefaultConfig() *Config {
 	}
 	return &Config{
 		NodeName: name, Tags: map[string]string{}, ProtocolVersion: 4, BroadcastTimeout: 5 * time.Second, LeavePropagateDelay: time.Second,
-		ReapInterval: 15 * time.Second, ReconnectInterval: 30 * time.Second, ReconnectTimeout: 24 * time.Hour, TombstoneTimeout: 24 * time.Hour,
-		FlapTimeout: time.Minute, QueueCheckInterval: 30 * time.Second, QueueDepthWarning: 128, MaxQueueDepth: 4096,
+		ReapInterval: 15 * time.Second, ReconnectInterval: 30 * time.Second, ReconnectTimeout: 24 * time.Hour,
+		TombstoneTimeout: 24 * time.Hour,
+		FlapTimeout:      time.Minute, QueueCheckInterval: 30 * time.Second, QueueDepthWarning: 128, MaxQueueDepth: 4096,
 		RecentIntentTimeout: 5 * time.Minute, EventBuffer: 512, QueryBuffer: 512, QueryTimeoutMult: 16, QueryResponseSizeLimit: 1024,
 		QuerySizeLimit: 1024, MemberlistConfig: memberlist.DefaultLANConfig(), LogOutput: os.Stderr, EnableNameConflictResolution: true,
 		UserEventSizeLimit: 512,
 	}
 }
 
-// copied is a configuration of the node's own, with what stands where nothing is said.
-func (c *Config) copied() (*Config, error) {
-	own := *c
-	own.Tags = make(map[string]string, len(c.Tags))
+// withDefaults returns a copy of the configuration in which unset fields have their defaults, or an error if a field is invalid.
+func (c *Config) withDefaults() (*Config, error) {
+	copied := *c
+	copied.Tags = make(map[string]string, len(c.Tags))
 	for key, value := range c.Tags {
-		own.Tags[key] = value
+		copied.Tags[key] = value
 	}
 	if c.MemberlistConfig == nil {
-		own.MemberlistConfig = memberlist.DefaultLANConfig()
+		copied.MemberlistConfig = memberlist.DefaultLANConfig()
 	} else {
-		list := *c.MemberlistConfig
-		own.MemberlistConfig = &list
+		memberlistConfig := *c.MemberlistConfig
+		copied.MemberlistConfig = &memberlistConfig
 	}
-	if own.NodeName == "" {
+	if copied.NodeName == "" {
 		name, err := os.Hostname()
 		if err != nil {
 			return nil, err
 		}
-		own.NodeName = name
+		copied.NodeName = name
 	}
-	if own.KeepEventsSize == 0 {
-		own.KeepEventsSize = DefaultKeepEventsSize
+	if copied.KeepEventsSize == 0 {
+		copied.KeepEventsSize = DefaultKeepEventsSize
 	}
-	if own.lookTime == 0 {
-		own.lookTime = lookTime
+	if copied.snapshotCheckInterval == 0 {
+		copied.snapshotCheckInterval = snapshotCheckInterval
 	}
-	if own.timeOfDay == nil {
-		own.timeOfDay = time.Now
+	if copied.timeOfDay == nil {
+		copied.timeOfDay = time.Now
 	}
-	least := DefaultConfig()
-	for _, one := range []struct{ length, where *time.Duration }{
-		{&least.BroadcastTimeout, &own.BroadcastTimeout}, {&least.ReapInterval, &own.ReapInterval},
-		{&least.ReconnectInterval, &own.ReconnectInterval}, {&least.QueueCheckInterval, &own.QueueCheckInterval},
+	defaults := DefaultConfig()
+	for _, interval := range []struct{ byDefault, field *time.Duration }{
+		{&defaults.BroadcastTimeout, &copied.BroadcastTimeout}, {&defaults.ReapInterval, &copied.ReapInterval},
+		{&defaults.ReconnectInterval, &copied.ReconnectInterval}, {&defaults.QueueCheckInterval, &copied.QueueCheckInterval},
 	} {
-		if *one.where <= 0 {
-			*one.where = *one.length
+		if *interval.field <= 0 {
+			*interval.field = *interval.byDefault
 		}
 	}
-	return &own, own.check()
+	return &copied, copied.validate()
 }
 
-// check says what can't be.
-func (c *Config) check() error {
+// validate returns a FieldError for the first field whose value is not allowed.
+func (c *Config) validate() error {
 	switch {
-	case len(c.NodeName) > greatestName:
-		return &FieldError{"NodeName", fmt.Errorf("a name has at most %d bytes, and this one has %d", greatestName, len(c.NodeName))}
+	case len(c.NodeName) > maxNameLength:
+		return &FieldError{"NodeName", fmt.Errorf("at most %d bytes are allowed, and the name has %d", maxNameLength, len(c.NodeName))}
 	case c.KeepEvents && c.SnapshotPath == "":
-		return &FieldError{"KeepEvents", errors.New("it needs a SnapshotPath")}
+		return &FieldError{"KeepEvents", errors.New("SnapshotPath must be set too")}
 	}
-	for _, one := range []struct {
+	for _, bound := range []struct {
 		field           string
-		is, from, until int
+		value, min, max int
 	}{
-		{"ProtocolVersion", int(c.ProtocolVersion), int(ProtocolVersionMin), ProtocolVersionMax}, {"EventBuffer", c.EventBuffer, 1, greatestBuffer}, {"QueryBuffer", c.QueryBuffer, 1, greatestBuffer},
+		{"ProtocolVersion", int(c.ProtocolVersion), int(ProtocolVersionMin), ProtocolVersionMax},
+		{"EventBuffer", c.EventBuffer, 1, maxBufferSize}, {"QueryBuffer", c.QueryBuffer, 1, maxBufferSize},
 		{"UserEventSizeLimit", c.UserEventSizeLimit, 0, UserEventSizeLimit}, {"QuerySizeLimit", c.QuerySizeLimit, 0, UserEventSizeLimit},
 		{"QueryResponseSizeLimit", c.QueryResponseSizeLimit, 0, UserEventSizeLimit},
 		{"KeepEventsSize", c.KeepEventsSize, MinKeepEventsSize, MaxKeepEventsSize},
 	} {
-		if one.is < one.from || one.is > one.until {
-			return &FieldError{one.field, fmt.Errorf("%d is not between %d and %d", one.is, one.from, one.until)}
+		if bound.value < bound.min || bound.value > bound.max {
+			return &FieldError{bound.field, fmt.Errorf("%d is not between %d and %d", bound.value, bound.min, bound.max)}
 		}
 	}
 	return nil
 }
 
-// settings are those of the proved agent.
-func (c *Config) settings() serfagent.Settings {
+// agentSettings returns the settings of the proved agent.
+func (c *Config) agentSettings() serfagent.Settings {
 	settings := serfagent.DefaultSettings()
 	settings.EventBuffer, settings.QueryBuffer = uint64(c.EventBuffer), uint64(c.QueryBuffer)
 	settings.EventLimit = uint64(c.UserEventSizeLimit)
@@ -266,7 +272,7 @@ func (c *Config) settings() serfagent.Settings {
 	return settings
 }
 
-// logger is where the node's log goes.
+// logger returns the logger of the node.
 func (c *Config) logger() *log.Logger {
 	switch {
 	case c.Logger != nil:

@@ -12,23 +12,22 @@ import (
 	"kitchenrue.example/guard/msgpack"
 )
 
-// PingVersion begins what an ack of memberlist's pings carries: a coordinate in this form.
+// PingVersion is the first byte of the payload of an ack of memberlist's pings. The sender's coordinate follows it.
 const PingVersion = 1
 
-// greatestPing is how many bytes of an ack are read: a coordinate has fewer than two hundred.
-const greatestPing = 1024
+// maxPingPayload is the maximum number of bytes of such a payload. A coordinate has fewer than 200 bytes.
+const maxPingPayload = 1024
 
-// places are where nodes are in the network, as the times of pings tell it: this node's coordinate, and the last ones of others. A nil
-// one keeps none.
-type places struct {
+// coordinates are the network coordinates of the nodes, estimated from the round-trip times of pings: this node's, and the last known of
+// the others. A nil pointer means that coordinates are disabled.
+type coordinates struct {
 	client *coordinate.Client
 
 	mu     sync.Mutex
-	others map[string]*coordinate.Coordinate
-	resets int
+	cached map[string]*coordinate.Coordinate
 }
 
-func newPlaces(c *Config) (*places, error) {
+func newCoordinates(c *Config) (*coordinates, error) {
 	if c.DisableCoordinates {
 		return nil, nil
 	}
@@ -36,86 +35,87 @@ func newPlaces(c *Config) (*places, error) {
 	if err != nil {
 		return nil, fmt.Errorf("coordinates: %w", err)
 	}
-	return &places{client: client, others: map[string]*coordinate.Coordinate{c.NodeName: client.GetCoordinate()}}, nil
+	return &coordinates{client: client, cached: map[string]*coordinate.Coordinate{c.NodeName: client.GetCoordinate()}}, nil
 }
 
-// keepThose forgets all but these members.
-func (p *places) keepThose(all []Member) {
+// retain forgets the coordinates of all nodes but these members.
+func (p *coordinates) retain(members []Member) {
 	if p == nil {
 		return
 	}
 	p.mu.Lock()
 	defer p.mu.Unlock()
-	kept := make(map[string]*coordinate.Coordinate, len(all))
-	for _, one := range all {
-		if at := p.others[one.Name]; at != nil {
-			kept[one.Name] = at
+	kept := make(map[string]*coordinate.Coordinate, len(members))
+	for _, member := range members {
+		if coord := p.cached[member.Name]; coord != nil {
+			kept[member.Name] = coord
 		}
 	}
-	p.others = kept
+	p.cached = kept
 }
 
-// AckPayload is this node's coordinate, for who pings it.
+// AckPayload returns this node's coordinate, which memberlist sends to a node that pings this one.
 func (d delegate) AckPayload() []byte {
-	if d.places == nil {
+	if d.coordinates == nil {
 		return nil
 	}
-	return written(d.places.client.GetCoordinate(), PingVersion)
+	return encode(d.coordinates.client.GetCoordinate(), PingVersion)
 }
 
-// NotifyPingComplete takes another node's coordinate, and how long its ack took.
+// NotifyPingComplete receives the coordinate of a node that was pinged, and the round-trip time.
 func (d delegate) NotifyPingComplete(other *memberlist.Node, rtt time.Duration, payload []byte) {
-	if d.places == nil || len(payload) == 0 {
+	if d.coordinates == nil || len(payload) == 0 {
 		return
 	}
-	at, err := readPlace(payload)
+	coord, err := decodeCoordinate(payload)
 	if err == nil {
-		err = d.places.take(d.config.NodeName, other.Name, at, rtt)
+		err = d.coordinates.update(d.config.NodeName, other.Name, coord, rtt)
 	}
 	if err != nil {
-		countOf("coordinate", "rejected")
-		d.log.Printf("[DEBUG] serf: the coordinate of %q was not taken: %v", other.Name, err)
+		incrCounter("coordinate", "rejected")
+		d.log.Printf("[DEBUG] serf: the coordinate of %q was rejected: %v", other.Name, err)
 	}
 }
 
-// readPlace reads a coordinate. It is strict, since whoever acks a ping may have written it.
-func readPlace(payload []byte) (*coordinate.Coordinate, error) {
-	if len(payload) > greatestPing {
+// decodeCoordinate decodes a coordinate. It is strict, since any node that acks a ping may have written it.
+func decodeCoordinate(payload []byte) (*coordinate.Coordinate, error) {
+	if len(payload) > maxPingPayload {
 		return nil, msgpack.ErrLong
 	}
-	var at coordinate.Coordinate
-	return &at, readWhole(payload, PingVersion, &at)
+	var coord coordinate.Coordinate
+	return &coord, decodeWhole(payload, PingVersion, &coord)
 }
 
-// take moves this node's coordinate by another's.
-func (p *places) take(self, other string, at *coordinate.Coordinate, rtt time.Duration) error {
+// update adjusts this node's coordinate by that of another node, and keeps the other node's.
+func (p *coordinates) update(self, other string, coord *coordinate.Coordinate, rtt time.Duration) error {
 	before := p.client.GetCoordinate()
-	own, err := p.client.Update(other, at, rtt)
+	own, err := p.client.Update(other, coord, rtt)
 	if err != nil {
 		return err
 	}
 	metrics.AddSample([]string{"serf", "coordinate", "adjustment-ms"}, float32(before.DistanceTo(own).Seconds()*1000))
 	p.mu.Lock()
 	defer p.mu.Unlock()
-	p.others[other], p.others[self] = at, own
+	p.cached[other], p.cached[self] = coord, own
 	return nil
 }
 
-// GetCoordinate is this node's coordinate; an error where none are kept.
+// GetCoordinate returns this node's coordinate, or an error if coordinates are disabled.
 func (s *Serf) GetCoordinate() (*coordinate.Coordinate, error) {
-	if s.places == nil {
+	if s.coordinates == nil {
+		//lint:ignore ST1005 Serf's own message
 		return nil, fmt.Errorf("Coordinates are disabled")
 	}
-	return s.places.client.GetCoordinate(), nil
+	return s.coordinates.client.GetCoordinate(), nil
 }
 
-// GetCachedCoordinate is the last coordinate of a node, and false where none is known.
+// GetCachedCoordinate returns the last known coordinate of a node, and false if there is none.
 func (s *Serf) GetCachedCoordinate(name string) (coord *coordinate.Coordinate, ok bool) {
-	if s.places == nil {
+	if s.coordinates == nil {
 		return nil, false
 	}
-	s.places.mu.Lock()
-	defer s.places.mu.Unlock()
-	at := s.places.others[name]
-	return at, at != nil
+	s.coordinates.mu.Lock()
+	defer s.coordinates.mu.Unlock()
+	cached := s.coordinates.cached[name]
+	return cached, cached != nil
 }

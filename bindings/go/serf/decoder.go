@@ -8,74 +8,73 @@ import (
 	"kitchenrue.example/guard/msgpack"
 )
 
-// written is a value behind these bytes, as Serf writes it: text is raw, and so are bytes.
-func written(value interface{}, behind ...byte) []byte {
-	out := bytes.NewBuffer(behind)
-	if err := codec.NewEncoder(out, &codec.MsgpackHandle{}).Encode(value); err != nil {
-		// (each type that is written has bytes)
+// encode appends the MessagePack of a value to a prefix, in Serf's form: texts and bytes are both raw.
+func encode(value interface{}, prefix ...byte) []byte {
+	buffer := bytes.NewBuffer(prefix)
+	if err := codec.NewEncoder(buffer, &codec.MsgpackHandle{}).Encode(value); err != nil {
+		// (every type that this package encodes can be encoded)
 		panic(err)
 	}
-	return out.Bytes()
+	return buffer.Bytes()
 }
 
-// readFirst reads the value of a message of a type into one of Go's, and gives what stands behind it. The value is passed over first, so
-// that no length is believed.
-func readFirst(message []byte, kind byte, to interface{}) ([]byte, error) {
+// decodeFirst decodes the value of a message of this type into a Go value, and returns the bytes after it. It first skips over the value,
+// so a length in the message that exceeds the message is refused before anything is allocated.
+func decodeFirst(message []byte, kind byte, into interface{}) ([]byte, error) {
 	if len(message) == 0 || message[0] != kind {
 		return nil, msgpack.ErrKind
 	}
-	d := decode(message[1:])
+	d := newDecoder(message[1:])
 	if d.Skip(); d.Err != nil {
 		return nil, d.Err
 	}
-	return d.Data[d.At:], codec.NewDecoderBytes(d.Data[:d.At], &codec.MsgpackHandle{}).Decode(to)
+	return d.Data[d.At:], codec.NewDecoderBytes(d.Data[:d.At], &codec.MsgpackHandle{}).Decode(into)
 }
 
-// readWhole is readFirst where nothing may stand behind the value.
-func readWhole(message []byte, kind byte, to interface{}) error {
-	rest, err := readFirst(message, kind, to)
+// decodeWhole is decodeFirst for a message that ends with the value.
+func decodeWhole(message []byte, kind byte, into interface{}) error {
+	rest, err := decodeFirst(message, kind, into)
 	if err == nil && len(rest) > 0 {
 		err = msgpack.ErrKind
 	}
 	return err
 }
 
-// decoder reads the values of a message as Serf has them: text is raw, and nil is nothing of any sort.
+// decoder reads the values of a message in Serf's form: texts are raw, and nil stands for the zero value of any kind.
 type decoder struct{ msgpack.Reader }
 
-func decode(data []byte) *decoder { return &decoder{msgpack.Reader{Data: data}} }
+func newDecoder(data []byte) *decoder { return &decoder{msgpack.Reader{Data: data}} }
 
-// of takes a value of a sort, or of another: what it is or how long it is. Nil is 0.
-func (d *decoder) of(wanted, other msgpack.Sort) uint64 {
-	found, is := d.Next()
-	if found != wanted && found != other && found != msgpack.Nil {
+// header reads the header of a value of one of two kinds, and returns the value or its length. For nil it returns 0.
+func (d *decoder) header(expected, alternative msgpack.Kind) uint64 {
+	found, value := d.Next()
+	if found != expected && found != alternative && found != msgpack.Nil {
 		d.Fail(msgpack.ErrKind)
 		return 0
 	}
-	return is
+	return value
 }
 
-// mapping begins a map: how many pairs it has. array begins an array: how many values it has.
-func (d *decoder) mapping() int { return d.Count(d.of(msgpack.Map, msgpack.Map), 2) }
-func (d *decoder) array() int   { return d.Count(d.of(msgpack.Array, msgpack.Array), 1) }
+// mapHeader returns the number of pairs of a map, and arrayHeader the number of values of an array.
+func (d *decoder) mapHeader() int   { return d.Count(d.header(msgpack.Map, msgpack.Map), 2) }
+func (d *decoder) arrayHeader() int { return d.Count(d.header(msgpack.Array, msgpack.Array), 1) }
 
-// raw takes a text, unsigned an integer from 0 on, and truth a flag.
-func (d *decoder) raw() []byte      { return d.Take(int(d.of(msgpack.Text, msgpack.Bytes))) }
-func (d *decoder) unsigned() uint64 { return d.of(msgpack.Number, msgpack.Number) }
-func (d *decoder) truth() bool      { return d.of(msgpack.Flag, msgpack.Flag) == 1 }
+// raw reads a text, and unsigned a non-negative integer.
+func (d *decoder) raw() []byte      { return d.Take(int(d.header(msgpack.Text, msgpack.Bytes))) }
+func (d *decoder) unsigned() uint64 { return d.header(msgpack.Number, msgpack.Number) }
 
-// end says what was wrong, and that nothing may stand behind the value.
-func (d *decoder) end() error {
+// finish returns the decoder's error, or an error if bytes follow the value.
+func (d *decoder) finish() error {
 	if d.Err == nil && d.At < len(d.Data) {
 		return msgpack.ErrKind
 	}
 	return d.Err
 }
 
-// fields reads a map: known is called with each key, and takes its value or says that it doesn't know it.
-func (d *decoder) fields(known func(key string) bool) {
-	for pairs := d.mapping(); pairs > 0 && d.Err == nil; pairs-- {
-		if key := string(d.raw()); d.Err == nil && !known(key) {
+// eachField reads a map. It calls readField with each key; readField reads the value, or returns false and the value is skipped.
+func (d *decoder) eachField(readField func(key string) bool) {
+	for pairs := d.mapHeader(); pairs > 0 && d.Err == nil; pairs-- {
+		if key := string(d.raw()); d.Err == nil && !readField(key) {
 			d.Skip()
 		}
 	}

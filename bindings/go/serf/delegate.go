@@ -7,7 +7,8 @@ import (
 	"github.com/hashicorp/memberlist"
 )
 
-// delegate is what memberlist calls. None of it waits for the disk, EventCh or a client, but LocalState for a quarter of a second.
+// delegate has the methods that memberlist calls. None of them waits for the disk, EventCh or a client, except LocalState, which waits for
+// at most a quarter of a second.
 type delegate struct{ *Serf }
 
 var (
@@ -19,38 +20,38 @@ var (
 	_ memberlist.AliveDelegate    = delegate{}
 )
 
-// stateWait is how long memberlist may wait for a state: longer than a flush of most disks, and a quarter of the shortest TCPTimeout of
-// memberlist's own configurations. Where no state is made by then, the last one is sent. A node that joins by that one fires at times
-// that may be too old for the others, until it hears newer ones.
-const stateWait = 250 * time.Millisecond
+// localStateWait is how long memberlist may wait for a state: longer than a flush of most disks, and a quarter of the shortest TCPTimeout
+// of memberlist's own configurations. If no new state is ready by then, the previous one is sent. A node that joins by an old state may
+// fire at times that are too old for the other nodes, until it receives newer ones.
+const localStateWait = 250 * time.Millisecond
 
-// NodeMeta are the tags.
+// NodeMeta returns the encoded tags.
 func (d delegate) NodeMeta(int) []byte {
-	d.tagging.Lock()
-	defer d.tagging.Unlock()
-	return d.data
+	d.tagsMu.Lock()
+	defer d.tagsMu.Unlock()
+	return d.nodeMeta
 }
 
-// NotifyMsg takes a packet.
+// NotifyMsg queues a packet.
 func (d delegate) NotifyMsg(packet []byte) {
-	sample(len(packet), receivedKey)
-	if len(packet) > longestPacket || len(packet) > 0 && !d.packets.add(packet, false) {
+	addSample(len(packet), receivedKey)
+	if len(packet) > maxPacketLength || len(packet) > 0 && !d.packets.add(packet, false) {
 		d.dropped.Add(1)
 	}
 }
 
-// MergeRemoteState takes another node's state.
+// MergeRemoteState queues another node's state.
 func (d delegate) MergeRemoteState(state []byte, isJoin bool) {
-	if len(state) > 0 && !d.states.add(state, isJoin && d.isIgnoring.Load() > 0) {
+	if len(state) > 0 && !d.states.add(state, isJoin && d.ignoringJoins.Load() > 0) {
 		d.dropped.Add(1)
 	}
 }
 
-// GetBroadcasts gives what is to be sent: intents first, since they are few. Where many wait, they and the queries leave half of the room
-// to what comes behind them, so that no flood of one kind holds the others up.
+// GetBroadcasts returns the packets to gossip now: intents first, since they are few, then queries, then events. If packets of a later kind
+// are waiting, an earlier kind gets at most half of the remaining room, so that a flood of one kind does not block the others.
 func (d delegate) GetBroadcasts(overhead, limit int) [][]byte {
-	var all [][]byte
-	queues := []*memberlist.TransmitLimitedQueue{d.Serf.intents.settle(), d.Serf.queries.settle(), d.Serf.events.settle()}
+	var chosen [][]byte
+	queues := []*memberlist.TransmitLimitedQueue{d.Serf.intents.moveIncoming(), d.Serf.queries.moveIncoming(), d.Serf.events.moveIncoming()}
 	for i, queue := range queues {
 		room := limit
 		for _, later := range queues[i+1:] {
@@ -59,64 +60,64 @@ func (d delegate) GetBroadcasts(overhead, limit int) [][]byte {
 			}
 		}
 		packets := queue.GetBroadcasts(overhead, room)
-		if len(packets) == 0 && room < limit && queue.NumQueued() > 0 && d.turns.Add(1)%2 == 0 {
-			// (its packets are longer than the half, and go every other time)
+		if len(packets) == 0 && room < limit && queue.NumQueued() > 0 && d.longTurns.Add(1)%2 == 0 {
+			// (the queue's packets are longer than half of the room, so every other time it gets all of it)
 			packets = queue.GetBroadcasts(overhead, limit)
 		}
 		for _, packet := range packets {
 			limit -= overhead + len(packet)
-			sample(len(packet), sentKey)
-			all = append(all, packet)
+			addSample(len(packet), sentKey)
+			chosen = append(chosen, packet)
 		}
 	}
-	return all
+	return chosen
 }
 
-// LocalState is this node's state; where none is made within a quarter of a second, as it was when one was last made.
+// LocalState returns this node's state. If none is ready within a quarter of a second, it returns the previous one.
 func (d delegate) LocalState(bool) []byte {
-	late := time.NewTimer(stateWait)
-	defer late.Stop()
-	answer := make(chan []byte, 1)
+	timeout := time.NewTimer(localStateWait)
+	defer timeout.Stop()
+	reply := make(chan []byte, 1)
 	select {
-	case d.asked <- answer:
+	case d.stateRequests <- reply:
 		select {
-		case state := <-answer:
+		case state := <-reply:
 			return state
-		case <-late.C:
+		case <-timeout.C:
 		}
-	case <-late.C:
+	case <-timeout.C:
 	}
-	d.made.Lock()
-	defer d.made.Unlock()
+	d.lastStateMu.Lock()
+	defer d.lastStateMu.Unlock()
 	return d.lastState
 }
 
-// makeStates makes the states that memberlist asks for.
-func (s *Serf) makeStates() {
+// serveStates makes the states that memberlist requests.
+func (s *Serf) serveStates() {
 	for {
 		select {
 		case <-s.ctx.Done():
 			return
-		case answer := <-s.asked:
-			state, err := s.agent.LocalState(s.members.states())
-			s.made.Lock()
+		case reply := <-s.stateRequests:
+			state, err := s.agent.LocalState(s.members.statuses())
+			s.lastStateMu.Lock()
 			if err == nil {
 				s.lastState = state
 			} else if !isClosed(err) {
-				s.log.Printf("[WARN] serf: the state that is sent is an old one: %v", err)
+				s.log.Printf("[WARN] serf: an old state was sent, since making a new one failed: %v", err)
 			}
 			state = s.lastState
-			s.made.Unlock()
-			answer <- state
+			s.lastStateMu.Unlock()
+			reply <- state
 		}
 	}
 }
 
-// memberOf is what memberlist says of a node. The node is memberlist's, and has to be copied.
+// memberOf returns what memberlist knows of a node. It copies the address, since the node belongs to memberlist.
 func (s *Serf) memberOf(node *memberlist.Node) Member {
-	tags, err := readTags(node.Meta)
+	tags, err := decodeTags(node.Meta)
 	if err != nil {
-		s.log.Printf("[WARN] serf: the tags of %q can't be read: %v", node.Name, err)
+		s.log.Printf("[WARN] serf: the tags of %q can't be decoded: %v", node.Name, err)
 	}
 	return Member{
 		Name: node.Name, Addr: append([]byte(nil), node.Addr...), Port: node.Port, Tags: tags, Status: StatusAlive,
@@ -125,50 +126,51 @@ func (s *Serf) memberOf(node *memberlist.Node) Member {
 	}
 }
 
-// NotifyJoin takes a node that is there.
-func (d delegate) NotifyJoin(node *memberlist.Node) { d.members.joined(d.memberOf(node)) }
+// NotifyJoin receives a node that is alive.
+func (d delegate) NotifyJoin(node *memberlist.Node) { d.members.memberJoined(d.memberOf(node)) }
 
-// NotifyLeave takes a node that isn't there any more.
-func (d delegate) NotifyLeave(node *memberlist.Node) { d.members.gone(node.Name) }
+// NotifyLeave receives a node that left or failed.
+func (d delegate) NotifyLeave(node *memberlist.Node) { d.members.memberLeft(node.Name) }
 
-// NotifyUpdate takes a node that says something new of itself.
-func (d delegate) NotifyUpdate(node *memberlist.Node) { d.members.updated(d.memberOf(node)) }
+// NotifyUpdate receives a node whose tags changed.
+func (d delegate) NotifyUpdate(node *memberlist.Node) { d.members.memberUpdated(d.memberOf(node)) }
 
-// NotifyConflict takes a node that has another's name.
+// NotifyConflict receives two nodes with the same name.
 func (d delegate) NotifyConflict(existing, other *memberlist.Node) {
 	if existing.Name != d.config.NodeName {
-		d.log.Printf("[WARN] serf: Name conflict for '%s' both %s and %s are claiming", existing.Name, existing.FullAddress().Addr, other.FullAddress().Addr)
+		d.log.Printf("[WARN] serf: Name conflict for '%s' both %s and %s are claiming",
+			existing.Name, existing.FullAddress().Addr, other.FullAddress().Addr)
 		return
 	}
 	d.log.Printf("[ERR] serf: Node name conflicts with another node at %s. Names must be unique!", other.FullAddress().Addr)
 	if d.config.EnableNameConflictResolution {
-		tell(d.conflicts)
+		signal(d.conflicts)
 	}
 }
 
-// NotifyMerge asks the program whether nodes may come.
+// NotifyMerge asks the program's MergeDelegate whether these nodes may join.
 func (d delegate) NotifyMerge(peers []*memberlist.Node) error {
-	all := make([]*Member, len(peers))
+	members := make([]*Member, len(peers))
 	for i, node := range peers {
 		member := d.memberOf(node)
 		if node.State == memberlist.StateDead {
 			member.Status = StatusLeft
 		}
-		all[i] = &member
+		members[i] = &member
 	}
-	return d.config.Merge.NotifyMerge(all)
+	return d.config.Merge.NotifyMerge(members)
 }
 
-// NotifyAlive asks the program whether a node may come.
+// NotifyAlive asks the program's MergeDelegate whether this node may join.
 func (d delegate) NotifyAlive(peer *memberlist.Node) error {
 	member := d.memberOf(peer)
 	return d.config.Merge.NotifyMerge([]*Member{&member})
 }
 
-// broadcast is a packet to gossip. None takes another's place.
+// broadcast is a packet to gossip. It invalidates no other broadcast.
 type broadcast struct {
 	packet []byte
-	// sent, where it isn't nil, is closed when it was sent as often as it is.
+	// sent, if it isn't nil, is closed when the packet was sent as often as it is to be sent.
 	sent chan struct{}
 }
 
@@ -182,83 +184,85 @@ func (b *broadcast) Finished() {
 	}
 }
 
-// UniqueBroadcast marks it for memberlist, which then doesn't look through all that wait.
+// UniqueBroadcast marks the broadcast as unique, so memberlist does not search its queue for broadcasts that it invalidates.
 func (b *broadcast) UniqueBroadcast() {}
 
-// broadcasts are packets that wait to be gossiped. What came since memberlist last asked stands in front of its queue: to go in there
-// takes longer than all else that is done for an event that is fired.
-type broadcasts struct {
+// broadcastQueue has the packets that wait to be gossiped. Packets that were added since memberlist last requested some wait in incoming:
+// to insert one into memberlist's queue takes longer than everything else that is done to fire an event.
+type broadcastQueue struct {
 	serf *Serf
 
-	mu    sync.Mutex
-	fresh []*broadcast
-	// settling is held while what is fresh goes into the queue.
-	settling sync.Mutex
-	queue    memberlist.TransmitLimitedQueue
+	mu       sync.Mutex
+	incoming []*broadcast
+	// moving is held while the incoming packets are moved to memberlist's queue.
+	moving sync.Mutex
+	queue  memberlist.TransmitLimitedQueue
 }
 
-// add queues packets, without those that are too long to be sent at all. Where there are too many that are fresh, the oldest are dropped.
-func (b *broadcasts) add(all ...broadcast) {
-	most := b.serf.mostQueued()
+// add queues packets. Packets that are too long to be sent are dropped, and so are the oldest incoming ones if there are too many.
+func (b *broadcastQueue) add(packets ...broadcast) {
+	max := b.serf.maxQueued()
 	b.mu.Lock()
 	defer b.mu.Unlock()
-	for i := range all {
-		if len(all[i].packet) > b.serf.longest {
-			b.drop(&all[i])
+	for i := range packets {
+		if len(packets[i].packet) > b.serf.maxGossipPacket {
+			b.drop(&packets[i])
 		} else {
-			b.fresh = append(b.fresh, &all[i])
+			b.incoming = append(b.incoming, &packets[i])
 		}
 	}
-	for ; len(b.fresh) > most; b.fresh = b.fresh[1:] {
-		b.drop(b.fresh[0])
-		b.fresh[0] = nil
+	for ; len(b.incoming) > max; b.incoming = b.incoming[1:] {
+		b.drop(b.incoming[0])
+		b.incoming[0] = nil
 	}
 }
 
-func (b *broadcasts) drop(one *broadcast) {
-	one.Finished()
+// drop drops a packet and counts it.
+func (b *broadcastQueue) drop(packet *broadcast) {
+	packet.Finished()
 	b.serf.dropped.Add(1)
 }
 
-// settle has what is fresh go into memberlist's queue. Where too many wait there, those that were sent most often are dropped.
-func (b *broadcasts) settle() *memberlist.TransmitLimitedQueue {
-	b.settling.Lock()
-	defer b.settling.Unlock()
+// moveIncoming moves the incoming packets to memberlist's queue and returns that queue. If it has too many packets, those that were sent
+// most often are dropped.
+func (b *broadcastQueue) moveIncoming() *memberlist.TransmitLimitedQueue {
+	b.moving.Lock()
+	defer b.moving.Unlock()
 	b.mu.Lock()
-	fresh := b.fresh
-	b.fresh = nil
+	incoming := b.incoming
+	b.incoming = nil
 	b.mu.Unlock()
-	for _, one := range fresh {
-		b.queue.QueueBroadcast(one)
+	for _, packet := range incoming {
+		b.queue.QueueBroadcast(packet)
 	}
-	most := b.serf.mostQueued()
-	if over := b.queue.NumQueued() - most; over > 0 {
-		b.queue.Prune(most)
-		b.serf.dropped.Add(int64(over))
+	max := b.serf.maxQueued()
+	if excess := b.queue.NumQueued() - max; excess > 0 {
+		b.queue.Prune(max)
+		b.serf.dropped.Add(int64(excess))
 	}
 	return &b.queue
 }
 
-// NumQueued is how many wait.
-func (b *broadcasts) NumQueued() int { return b.settle().NumQueued() }
+// NumQueued returns how many packets are waiting.
+func (b *broadcastQueue) NumQueued() int { return b.moveIncoming().NumQueued() }
 
-// gossip queues a packet.
-func (s *Serf) gossip(queue *broadcasts, packet []byte, sent chan struct{}) {
+// queueBroadcast queues a packet; sent may be nil.
+func (s *Serf) queueBroadcast(queue *broadcastQueue, packet []byte, sent chan struct{}) {
 	queue.add(broadcast{packet, sent})
 }
 
-// mostQueued is how many packets may wait to be sent.
-func (s *Serf) mostQueued() int {
+// maxQueued returns how many packets may wait in one queue.
+func (s *Serf) maxQueued() int {
 	if s.config.MinQueueDepth <= 0 {
 		return s.config.MaxQueueDepth
 	}
-	if most := 2 * s.members.size(); most > s.config.MinQueueDepth {
-		return most
+	if byMembers := 2 * s.members.size(); byMembers > s.config.MinQueueDepth {
+		return byMembers
 	}
 	return s.config.MinQueueDepth
 }
 
-// checkQueues tells where many packets wait to be sent.
+// checkQueues measures the queues at intervals and logs a warning if one is long.
 func (s *Serf) checkQueues() {
 	ticker := time.NewTicker(s.config.QueueCheckInterval)
 	defer ticker.Stop()
@@ -268,9 +272,9 @@ func (s *Serf) checkQueues() {
 			return
 		case <-ticker.C:
 		}
-		for name, queue := range map[string]*broadcasts{"Intent": s.intents, "Event": s.events, "Query": s.queries} {
+		for name, queue := range map[string]*broadcastQueue{"Intent": s.intents, "Event": s.events, "Query": s.queries} {
 			depth := queue.NumQueued()
-			sample(depth, []string{"serf", "queue", name})
+			addSample(depth, []string{"serf", "queue", name})
 			if depth >= s.config.QueueDepthWarning && depth > 0 {
 				s.log.Printf("[WARN] serf: %s queue depth: %d", name, depth)
 			}

@@ -2,28 +2,29 @@ package serf
 
 import "errors"
 
-// Error is why a call was refused before the proved agent was asked: nothing was done.
+// Error is why the node refused a call before it called the proved agent: nothing was done.
 type Error string
 
 func (e Error) Error() string { return string(e) }
 
-// Why a call is refused.
+// Reasons why a call is refused.
 const (
-	// ErrBusy: so many events wait for EventCh (Waiting) that nothing was fired in BroadcastTimeout.
-	ErrBusy Error = "too many events wait for their reader"
-	// ErrQueries: so many queries of this node are open (MaxQueries) that none was fired.
-	ErrQueries Error = "too many queries are open"
-	// ErrTimeout: a query's timeout is below 0 or above MaxTimeout.
-	ErrTimeout Error = "a query's timeout can't be below 0 or above an hour"
-	// ErrInternal: a query's name begins with InternalQueryPrefix, and isn't that of a ping.
-	ErrInternal Error = "a query's name can't begin with " + InternalQueryPrefix
+	// ErrBusy: the maximum number of events (Waiting) is waiting for EventCh. UserEvent returns it after BroadcastTimeout, and Query at
+	// once.
+	ErrBusy Error = "too many events are waiting for their reader: try again later"
+	// ErrQueries: the maximum number of this node's queries (MaxQueries) is open.
+	ErrQueries Error = "too many queries of this node are open: wait until one of them times out"
+	// ErrTimeout: the query's timeout is below 0 or above MaxTimeout.
+	ErrTimeout Error = "a query's timeout must be between 0 and an hour"
+	// ErrInternal: the query's name begins with InternalQueryPrefix and is not that of a ping.
+	ErrInternal Error = "a query's name must not begin with " + InternalQueryPrefix
 	// ErrEnded: the node was shut down.
 	ErrEnded Error = "the node was shut down"
-	// ErrLeft: the node leaves, or has left.
+	// ErrLeft: the node is leaving, has left or was shut down.
 	ErrLeft Error = "Serf can't Join after Leave or Shutdown"
 )
 
-// FieldError is why Create refuses what a field of the configuration says.
+// FieldError is why Create refuses the value of a field of the configuration.
 type FieldError struct {
 	Field string
 	Err   error
@@ -32,5 +33,7 @@ type FieldError struct {
 func (f *FieldError) Error() string { return f.Field + ": " + f.Err.Error() }
 func (f *FieldError) Unwrap() error { return f.Err }
 
-// FeatureNotSupported is why a call is refused that the ProtocolVersion of the configuration doesn't have.
+// FeatureNotSupported is returned by calls that the configuration's ProtocolVersion does not have.
+//
+//lint:ignore ST1005,ST1012 Serf's own name and message
 var FeatureNotSupported = errors.New("Feature not supported")

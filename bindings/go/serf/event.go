@@ -9,7 +9,7 @@ import (
 	"kitchenrue.example/serfagent"
 )
 
-// EventType is what an Event is about.
+// EventType is the type of an Event.
 type EventType int
 
 // The types of events.
@@ -25,7 +25,7 @@ const (
 
 var eventTypes = []string{"member-join", "member-leave", "member-failed", "member-update", "member-reap", "user", "query"}
 
-// String panics, as Serf's does, where there is no such type.
+// String panics if there is no such type, as Serf's does.
 func (t EventType) String() string {
 	if t < 0 || int(t) >= len(eventTypes) {
 		panic(fmt.Sprintf("unknown event type: %d", int(t)))
@@ -33,22 +33,22 @@ func (t EventType) String() string {
 	return eventTypes[t]
 }
 
-// Event is what comes on EventCh: a UserEvent, a *Query or a MemberEvent.
+// Event is what EventCh delivers: a UserEvent, a *Query or a MemberEvent.
 type Event interface {
 	EventType() EventType
 	String() string
 }
 
-// MemberEvent says what happened to members. It has many where they are coalesced.
+// MemberEvent says what happened to members. It has several members if events are coalesced.
 type MemberEvent struct {
 	Type    EventType
 	Members []Member
 }
 
-// EventType is that of what happened.
+// EventType returns what happened.
 func (m MemberEvent) EventType() EventType { return m.Type }
 
-// String panics, as Serf's does, where the type isn't one of members.
+// String panics if the type isn't one of member events, as Serf's does.
 func (m MemberEvent) String() string {
 	if m.Type > EventMemberReap {
 		panic(fmt.Sprintf("unknown event type: %d", int(m.Type)))
@@ -56,7 +56,7 @@ func (m MemberEvent) String() string {
 	return m.Type.String()
 }
 
-// UserEvent is an event that somebody fired. Its line is on the disk before it comes on EventCh, so it comes once at most in all lives
+// UserEvent is an event that a node fired. Its line is on the disk before EventCh delivers it, so it is delivered at most once in all lives
 // of a node that keeps its file.
 type UserEvent struct {
 	LTime    LamportTime
@@ -65,29 +65,29 @@ type UserEvent struct {
 	Coalesce bool
 }
 
-// EventType is EventUser.
+// EventType returns EventUser.
 func (u UserEvent) EventType() EventType { return EventUser }
 
 func (u UserEvent) String() string { return "user-event: " + u.Name }
 
-// Query is a query that is handed out here, and may be answered.
+// Query is a query that was handed out here and can be answered.
 type Query struct {
 	LTime   LamportTime
 	Name    string
 	Payload []byte
 
 	serf   *Serf
-	handed *serfagent.Handed
-	// 1 once it was answered; it is read by many.
+	handed *serfagent.PendingQuery
+	// 1 once the query was answered. Several goroutines may read it.
 	answered uint32
 }
 
-// EventType is EventQuery.
+// EventType returns EventQuery.
 func (q *Query) EventType() EventType { return EventQuery }
 
 func (q *Query) String() string { return "query: " + q.Name }
 
-// Deadline is the last moment at which it can be answered; the zero time of a query that no node handed out.
+// Deadline returns the last moment at which the query can be answered, or the zero time for a query that no node handed out.
 func (q *Query) Deadline() time.Time {
 	if q.serf == nil {
 		return time.Time{}
@@ -95,16 +95,16 @@ func (q *Query) Deadline() time.Time {
 	return q.serf.began.Add(time.Duration(q.handed.Deadline))
 }
 
-// Why a query isn't answered.
+// Reasons why a query can't be answered.
 var (
 	errAnswered = errors.New("response already sent")
 	errTooLate  = errors.New("response is past the deadline")
 	errHandMade = errors.New("no node handed this query out")
 )
 
-// Respond answers it, once: with at most QueryResponseSizeLimit bytes, counted with all that is around the answer. It is refused behind
-// the deadline, behind an answer, and where unanswered (8,192) later queries were handed out since. Where it is refused for its size it
-// may be answered again. A query that no node handed out is never answered.
+// Respond answers the query once. The packet of the response has at most QueryResponseSizeLimit bytes, including what surrounds the
+// payload. It is refused after the deadline, after an earlier answer, and if 8,192 (maxUnanswered) later queries were handed out since. A
+// response that is refused for its size may be followed by a shorter one. A query that no node handed out can't be answered.
 func (q *Query) Respond(payload []byte) error {
 	if q.serf == nil {
 		return errHandMade

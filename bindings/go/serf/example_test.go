@@ -11,13 +11,13 @@ import (
 	"kitchenrue.example/serf"
 )
 
-// A node that keeps nothing fires an event, and asks a query that it answers itself: both come to its channel.
+// A node without a snapshot fires an event and a query, and answers the query itself. Its channel delivers both.
 func Example() {
 	events := make(chan serf.Event, 64)
 	conf := serf.DefaultConfig()
 	conf.NodeName, conf.EventCh, conf.LogOutput = "alpha", events, io.Discard
 	conf.MemberlistConfig = memberlist.DefaultLocalConfig()
-	// (a free port of the loopback address)
+	// (port 0 is any free port)
 	conf.MemberlistConfig.BindAddr, conf.MemberlistConfig.BindPort, conf.MemberlistConfig.AdvertisePort = "127.0.0.1", 0, 0
 	node, err := serf.Create(conf)
 	if err != nil {

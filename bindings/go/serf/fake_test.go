@@ -14,7 +14,7 @@ import (
 	"kitchenrue.example/serfagent"
 )
 
-// must ends a test at a fault, and check goes on behind it.
+// must ends the test if there is an error, and check reports it and continues.
 func must(t *testing.T, err error) {
 	t.Helper()
 	if err != nil {
@@ -29,126 +29,128 @@ func check(t *testing.T, err error) {
 	}
 }
 
-// one is a node of a test, and what it handed out.
-type one struct {
+// testNode is a node of a test, and the events that it delivered.
+type testNode struct {
 	*Serf
 	t *testing.T
 
-	mu     sync.Mutex
-	handed []Event
-	// isHeld: nobody takes anything from its channel.
-	isHeld bool
-	// tap, where it isn't nil, gets what is taken in place of handed.
-	tap func(Event)
+	mu       sync.Mutex
+	received []Event
+	// isPaused: nobody receives events from the node's channel.
+	isPaused bool
+	// onEvent, if it isn't nil, is called with each event, which is then not added to received.
+	onEvent func(Event)
 }
 
-// read takes what the node hands out.
-func (o *one) read(events <-chan Event) {
+// readEvents receives what the node delivers.
+func (n *testNode) readEvents(events <-chan Event) {
 	for {
-		o.mu.Lock()
-		isHeld := o.isHeld
-		o.mu.Unlock()
-		if isHeld {
+		n.mu.Lock()
+		isPaused := n.isPaused
+		n.mu.Unlock()
+		if isPaused {
 			time.Sleep(time.Millisecond)
 			continue
 		}
 		select {
 		case e := <-events:
-			if o.tap != nil {
-				o.tap(e)
+			if n.onEvent != nil {
+				n.onEvent(e)
 				continue
 			}
-			o.mu.Lock()
-			o.handed = append(o.handed, e)
-			o.mu.Unlock()
-		case <-o.ShutdownCh():
+			n.mu.Lock()
+			n.received = append(n.received, e)
+			n.mu.Unlock()
+		case <-n.ShutdownCh():
 			return
 		}
 	}
 }
 
-// hold has nobody take anything, or has it taken again.
-func (o *one) hold(is bool) {
-	o.mu.Lock()
-	defer o.mu.Unlock()
-	o.isHeld = is
+// pauseReading stops receiving events, or continues.
+func (n *testNode) pauseReading(isPaused bool) {
+	n.mu.Lock()
+	defer n.mu.Unlock()
+	n.isPaused = isPaused
 }
 
-// got are the payloads of the user events of a name.
-func (o *one) got(name string) (payloads []string) {
-	o.mu.Lock()
-	defer o.mu.Unlock()
-	for _, e := range o.handed {
-		if e, is := e.(UserEvent); is && e.Name == name {
+// payloads returns the payloads of the user events of a name.
+func (n *testNode) payloads(name string) (payloads []string) {
+	n.mu.Lock()
+	defer n.mu.Unlock()
+	for _, e := range n.received {
+		if e, ok := e.(UserEvent); ok && e.Name == name {
 			payloads = append(payloads, string(e.Payload))
 		}
 	}
 	return payloads
 }
 
-// query is the last query of a name.
-func (o *one) query(name string) *Query {
-	o.mu.Lock()
-	defer o.mu.Unlock()
-	for i := len(o.handed) - 1; i >= 0; i-- {
-		if e, is := o.handed[i].(*Query); is && e.Name == name {
+// lastQuery returns the last query of a name, or nil.
+func (n *testNode) lastQuery(name string) *Query {
+	n.mu.Lock()
+	defer n.mu.Unlock()
+	for i := len(n.received) - 1; i >= 0; i-- {
+		if e, ok := n.received[i].(*Query); ok && e.Name == name {
 			return e
 		}
 	}
 	return nil
 }
 
-// firing is how many events wait to be fired.
-func (o *one) firing() int {
-	o.firings.mu.Lock()
-	defer o.firings.mu.Unlock()
-	return len(o.firings.waiting)
+// waitingFirings returns how many events wait to be fired.
+func (n *testNode) waitingFirings() int {
+	n.firings.mu.Lock()
+	defer n.firings.mu.Unlock()
+	return len(n.firings.waiting)
 }
 
-func (o *one) status(name string) string {
-	m, is := o.members.get(name)
-	if !is {
+func (n *testNode) statusOf(name string) string {
+	m, ok := n.members.get(name)
+	if !ok {
 		return ""
 	}
 	return m.Status.String()
 }
 
-// change changes what a node of a test is made of.
-type change func(*made)
+// option changes how a node of a test is made.
+type option func(*nodeOptions)
 
-// made is what a node of a test is made of.
-type made struct {
+// nodeOptions say how a node of a test is made.
+type nodeOptions struct {
 	Config
-	agent Agent
-	file  *snapshotFile
-	tap   func(Event)
+	agent   Agent
+	file    *snapshotFile
+	onEvent func(Event)
 }
 
-func withTags(pairs ...string) change {
-	return func(m *made) {
+func withTags(pairs ...string) option {
+	return func(o *nodeOptions) {
 		for i := 0; i < len(pairs); i += 2 {
-			m.Tags[pairs[i]] = pairs[i+1]
+			o.Tags[pairs[i]] = pairs[i+1]
 		}
 	}
 }
 
-func withAgent(agent Agent) change { return func(m *made) { m.agent = agent } }
+func withAgent(agent Agent) option { return func(o *nodeOptions) { o.agent = agent } }
 
-func withLimits(query, response int) change {
-	return func(m *made) { m.QuerySizeLimit, m.QueryResponseSizeLimit = query, response }
+func withLimits(query, response int) option {
+	return func(o *nodeOptions) { o.QuerySizeLimit, o.QueryResponseSizeLimit = query, response }
 }
 
-func withTap(tap func(Event)) change { return func(m *made) { m.tap = tap } }
+func withOnEvent(tap func(Event)) option { return func(o *nodeOptions) { o.onEvent = tap } }
 
-func withLog(to io.Writer) change { return func(m *made) { m.LogOutput = to } }
+func withLog(to io.Writer) option { return func(o *nodeOptions) { o.LogOutput = to } }
 
-// at lets a node listen where another one did.
-func at(port uint16) change {
-	return func(m *made) { m.MemberlistConfig.BindPort, m.MemberlistConfig.AdvertisePort = int(port), int(port) }
+// atPort makes a node listen on a given port, such as that of an earlier node.
+func atPort(port uint16) option {
+	return func(o *nodeOptions) {
+		o.MemberlistConfig.BindPort, o.MemberlistConfig.AdvertisePort = int(port), int(port)
+	}
 }
 
-// quiet is a configuration on a loopback address, whose gossip is fast. (A machine with much to do sends late.)
-func quiet(name string) Config {
+// loopbackConfig is a configuration on a loopback address with fast gossip. (A busy machine may still send late.)
+func loopbackConfig(name string) Config {
 	c := *DefaultConfig()
 	c.NodeName, c.ProtocolVersion, c.BroadcastTimeout, c.LogOutput = name, ProtocolVersionMax, 20*time.Second, io.Discard
 	c.MemberlistConfig = memberlist.DefaultLocalConfig()
@@ -156,72 +158,72 @@ func quiet(name string) Config {
 	return c
 }
 
-// start makes a node on a loopback address, with a snapshot in a folder.
-func start(t *testing.T, name, folder string, changes ...change) *one {
+// startNode starts a node on a loopback address, with a snapshot if a folder is given.
+func startNode(t *testing.T, name, folder string, opts ...option) *testNode {
 	t.Helper()
-	options := made{Config: quiet(name)}
+	options := nodeOptions{Config: loopbackConfig(name)}
 	if folder != "" {
 		options.SnapshotPath = filepath.Join(folder, name)
 	}
-	for _, change := range changes {
-		change(&options)
+	for _, opt := range opts {
+		opt(&options)
 	}
-	o := &one{t: t, tap: options.tap}
+	n := &testNode{t: t, onEvent: options.onEvent}
 	events := make(chan Event)
 	options.EventCh = events
 	var err error
 	if options.agent == nil {
-		o.Serf, err = Create(&options.Config)
+		n.Serf, err = Create(&options.Config)
 	} else {
-		o.Serf, err = over(&options)
+		n.Serf, err = createOver(&options)
 	}
 	must(t, err)
-	go o.read(events)
-	t.Cleanup(func() { _ = o.Shutdown() })
-	return o
+	go n.readEvents(events)
+	t.Cleanup(func() { _ = n.Shutdown() })
+	return n
 }
 
-// over makes a node over an agent of the test's.
-func over(options *made) (*Serf, error) {
+// createOver creates a node over a test's agent.
+func createOver(options *nodeOptions) (*Serf, error) {
 	options.SnapshotPath = ""
-	own, err := options.copied()
+	config, err := options.withDefaults()
 	if err != nil {
 		return nil, err
 	}
-	data, err := own.tagsData(own.Tags)
+	data, err := config.nodeMeta(config.Tags)
 	if err != nil {
 		return nil, err
 	}
-	return create(own, options.agent, options.file, nil, data, nil)
+	return create(config, options.agent, options.file, nil, data, nil)
 }
 
-func (o *one) address() string { return o.memberlist().LocalNode().Address() }
+func (n *testNode) address() string { return n.memberlist().LocalNode().Address() }
 
-func (o *one) join(other *one) {
-	o.t.Helper()
-	if _, err := o.Join([]string{other.address()}, true); err != nil {
-		o.t.Fatal(err)
+func (n *testNode) join(other *testNode) {
+	n.t.Helper()
+	if _, err := n.Join([]string{other.address()}, true); err != nil {
+		n.t.Fatal(err)
 	}
 }
 
-func (o *one) own() delegate { return delegate{o.Serf} }
+func (n *testNode) delegate() delegate { return delegate{n.Serf} }
 
-// b is another member, as memberlist tells of one.
-func b() *memberlist.Node {
+// nodeB is another member, as memberlist reports it.
+func nodeB() *memberlist.Node {
 	return &memberlist.Node{Name: "b", Addr: []byte{127, 0, 0, 9}, Port: 1, Meta: []byte("\xff\x81\xa1t\xa1v")}
 }
 
-// intent is the packet of an intent.
-func intent(t *testing.T, time uint64, node string, isLeave bool) []byte {
+// intentPacket returns the packet of an intent.
+func intentPacket(t *testing.T, time uint64, node string, isLeave bool) []byte {
 	t.Helper()
 	packet, err := serfagent.Intent{Time: time, Node: []byte(node), Leave: isLeave}.Packet()
 	must(t, err)
 	return packet
 }
 
-// timeOf is the time of a member's status.
-func (o *one) timeOf(name string) uint64 {
-	statuses, _ := o.members.states()
+// statusTime returns the time of a member's status, or 0.
+func (n *testNode) statusTime(name string) uint64 {
+	statuses, _ := n.members.statuses()
 	for _, status := range statuses {
 		if status.Name == name {
 			return status.Time
@@ -230,7 +232,7 @@ func (o *one) timeOf(name string) uint64 {
 	return 0
 }
 
-// eventually waits until this holds.
+// eventually waits up to two minutes until the condition holds.
 func eventually(t *testing.T, what string, holds func() bool) {
 	t.Helper()
 	for i := 0; i < 12000; i++ {
@@ -239,59 +241,59 @@ func eventually(t *testing.T, what string, holds func() bool) {
 		}
 		time.Sleep(10 * time.Millisecond)
 	}
-	t.Fatalf("never: %s", what)
+	t.Fatalf("this never happened: %s", what)
 }
 
-// soon does this, which waits for nothing.
-func soon(t *testing.T, what string, done func()) {
+// promptly makes a call that must not block. The limit of two minutes is for busy machines.
+func promptly(t *testing.T, what string, call func()) {
 	t.Helper()
-	over := make(chan struct{})
+	finished := make(chan struct{})
 	go func() {
-		done()
-		close(over)
+		call()
+		close(finished)
 	}()
 	select {
-	case <-over:
+	case <-finished:
 	case <-time.After(2 * time.Minute):
-		t.Fatalf("it waits: %s", what)
+		t.Fatalf("this call blocks: %s", what)
 	}
 }
 
-// fake is an agent without a file: each packet is a new event.
-type fake struct {
-	mu      sync.Mutex
-	time    uint64
-	receive error
-	// How many packets, and how many firings, each call got.
+// fakeAgent is an agent without a file, for which each packet is a new event.
+type fakeAgent struct {
+	mu         sync.Mutex
+	time       uint64
+	receiveErr error
+	// how many packets, and how many firings, each call had
 	bursts, firings []int
-	// Where it isn't nil, TakeAll holds the agent until it is closed, as one does that waits for a disk.
-	flush chan struct{}
-	// Where it isn't nil, the time for a word of this node's comes when it is closed, as it does where a disk is slow.
-	word chan struct{}
-	// For so many of them memory is wanting.
-	wanting atomic.Int64
-	// The numbers of the queries that were forgotten.
+	// If it isn't nil, TakeAll blocks until it is closed, as if it waited for the disk.
+	flushGate chan struct{}
+	// If it isn't nil, NextMemberTime blocks until it is closed, as if it waited for the disk.
+	memberTimeGate chan struct{}
+	// how many calls of NextMemberTime run out of memory before one succeeds
+	memoryFailures atomic.Int64
+	// the numbers of the queries that were forgotten
 	forgotten []uint64
 }
 
-// wordTime is the time of each word of this node's.
-func (f *fake) wordTime() uint64 { return 7 }
+// ownMemberTime is the time of each intent of this node.
+func (f *fakeAgent) ownMemberTime() uint64 { return 7 }
 
-func (f *fake) NextMemberTime() (uint64, error) {
-	if f.word != nil {
-		<-f.word
+func (f *fakeAgent) NextMemberTime() (uint64, error) {
+	if f.memberTimeGate != nil {
+		<-f.memberTimeGate
 	}
-	if f.wanting.Add(-1) >= 0 {
+	if f.memoryFailures.Add(-1) >= 0 {
 		return 0, serfagent.OutOfMemory
 	}
-	return f.wordTime(), nil
+	return f.ownMemberTime(), nil
 }
 
-func (f *fake) TakeAll(_ uint64, packets []Packet, firings []Firing) (outcomes []serfagent.Outcome, err error) {
+func (f *fakeAgent) TakeAll(_ uint64, packets []Packet, firings []Firing) (outcomes []serfagent.Outcome, err error) {
 	f.mu.Lock()
 	defer f.mu.Unlock()
-	if f.flush != nil {
-		<-f.flush
+	if f.flushGate != nil {
+		<-f.flushGate
 	}
 	if len(packets) > 0 {
 		f.bursts = append(f.bursts, len(packets))
@@ -300,8 +302,8 @@ func (f *fake) TakeAll(_ uint64, packets []Packet, firings []Firing) (outcomes [
 		f.firings = append(f.firings, len(firings))
 	}
 	for _, packet := range packets {
-		if f.receive != nil {
-			return outcomes, f.receive
+		if f.receiveErr != nil {
+			return outcomes, f.receiveErr
 		}
 		if len(packet.Data) == 1 {
 			outcomes = append(outcomes, serfagent.Outcome{Err: serfagent.NoMessage})
@@ -311,18 +313,18 @@ func (f *fake) TakeAll(_ uint64, packets []Packet, firings []Firing) (outcomes [
 		event := &serfagent.Event{Time: f.time, Name: []byte("fake"), Payload: packet.Data[1:]}
 		outcomes = append(outcomes, serfagent.Outcome{Received: &serfagent.Received{Kind: serfagent.NewEvent, Event: event, Rebroadcast: true}})
 	}
-	for _, one := range firings {
+	for _, firing := range firings {
 		f.time++
-		event := &serfagent.Event{Time: f.time, Name: one.Name, Payload: one.Payload}
-		outcomes = append(outcomes, serfagent.Outcome{Fired: &serfagent.Fired{Event: event, Packet: append([]byte{3}, one.Name...)}})
+		event := &serfagent.Event{Time: f.time, Name: firing.Name, Payload: firing.Payload}
+		outcomes = append(outcomes, serfagent.Outcome{Fired: &serfagent.Fired{Event: event, Packet: append([]byte{3}, firing.Name...)}})
 	}
 	return outcomes, nil
 }
 
-func (f *fake) Merge([]byte, bool) ([]*serfagent.Event, error) { return nil, nil }
+func (f *fakeAgent) Merge([]byte, bool) ([]*serfagent.Event, error) { return nil, nil }
 
-// isBusy says whether a call holds the agent.
-func (f *fake) isBusy() bool {
+// isBusy reports whether a call is using the agent.
+func (f *fakeAgent) isBusy() bool {
 	if f.mu.TryLock() {
 		f.mu.Unlock()
 		return false
@@ -330,90 +332,93 @@ func (f *fake) isBusy() bool {
 	return true
 }
 
-// LocalState says of which time it is.
-func (f *fake) LocalState([]serfagent.Status, []string) ([]byte, error) {
+// LocalState returns a text with the agent's time.
+func (f *fakeAgent) LocalState([]serfagent.Status, []string) ([]byte, error) {
 	f.mu.Lock()
 	defer f.mu.Unlock()
 	return []byte(fmt.Sprint("state ", f.time)), nil
 }
 
-func (f *fake) Query(uint64, uint32, []byte, []byte, serfagent.QueryParams) (*serfagent.Asked, error) {
+func (f *fakeAgent) Query(uint64, uint32, []byte, []byte, serfagent.QueryParams) (*serfagent.FiredQuery, error) {
 	return nil, serfagent.TooLarge
 }
 
-func (f *fake) Respond(uint64, uint64, []byte) ([]byte, error) { return nil, serfagent.NotHanded }
+func (f *fakeAgent) Respond(uint64, uint64, []byte) ([]byte, error) { return nil, serfagent.NotHanded }
 
-func (f *fake) Forget(number uint64) error {
+func (f *fakeAgent) Forget(number uint64) error {
 	f.mu.Lock()
 	defer f.mu.Unlock()
 	f.forgotten = append(f.forgotten, number)
 	return nil
 }
 
-func (f *fake) CloseDue(uint64) ([]*serfagent.Closed, error) { return nil, nil }
-func (f *fake) Clocks() (serfagent.Clocks, error)            { return serfagent.Clocks{}, nil }
-func (f *fake) ObserveMember(uint64) error                   { return nil }
-func (f *fake) SaveMemberClock() error                       { return nil }
-func (f *fake) Compact() error                               { return nil }
-func (f *fake) Close() error                                 { return nil }
+func (f *fakeAgent) CloseDue(uint64) ([]*serfagent.Closed, error) { return nil, nil }
+func (f *fakeAgent) Clocks() (serfagent.Clocks, error)            { return serfagent.Clocks{}, nil }
+func (f *fakeAgent) ObserveMember(uint64) error                   { return nil }
+func (f *fakeAgent) SaveMemberClock() error                       { return nil }
+func (f *fakeAgent) Compact() error                               { return nil }
+func (f *fakeAgent) Close() error                                 { return nil }
 
-// failing is a fake whose calls of one name fail so many times, and then don't. A merge gives an event of each state, also where it fails.
-type failing struct {
-	fake
-	call string
-	err  error
-	left atomic.Int64
-	// Where it isn't nil, it is called with each time of a word that is observed.
-	observes func(time uint64)
+// failingAgent is a fakeAgent whose method of one name fails a number of times and then succeeds. Merge returns an event for each state,
+// even if it fails.
+type failingAgent struct {
+	fakeAgent
+	call     string
+	err      error
+	failures atomic.Int64
+	// onObserve, if it isn't nil, is called with each time that ObserveMember gets.
+	onObserve func(time uint64)
 }
 
-func (f *failing) fails(call string) error {
-	if call == f.call && f.left.Add(-1) >= 0 {
+func (f *failingAgent) fails(call string) error {
+	if call == f.call && f.failures.Add(-1) >= 0 {
 		return f.err
 	}
 	return nil
 }
 
-func (f *failing) TakeAll(now uint64, packets []Packet, firings []Firing) ([]serfagent.Outcome, error) {
+func (f *failingAgent) TakeAll(now uint64, packets []Packet, firings []Firing) ([]serfagent.Outcome, error) {
 	if err := f.fails("TakeAll"); err != nil {
 		return nil, err
 	}
-	return f.fake.TakeAll(now, packets, firings)
+	return f.fakeAgent.TakeAll(now, packets, firings)
 }
 
-func (f *failing) Merge(state []byte, _ bool) ([]*serfagent.Event, error) {
+func (f *failingAgent) Merge(state []byte, _ bool) ([]*serfagent.Event, error) {
 	f.mu.Lock()
 	defer f.mu.Unlock()
 	f.time++
 	return []*serfagent.Event{{Time: f.time, Name: []byte("merged"), Payload: state}}, f.fails("Merge")
 }
 
-func (f *failing) ObserveMember(time uint64) error {
-	if f.observes != nil {
-		f.observes(time)
+func (f *failingAgent) ObserveMember(time uint64) error {
+	if f.onObserve != nil {
+		f.onObserve(time)
 	}
 	return f.fails("ObserveMember")
 }
 
-func (f *failing) NextMemberTime() (uint64, error)              { return f.wordTime(), f.fails("NextMemberTime") }
-func (f *failing) SaveMemberClock() error                       { return f.fails("SaveMemberClock") }
-func (f *failing) Compact() error                               { return f.fails("Compact") }
-func (f *failing) CloseDue(uint64) ([]*serfagent.Closed, error) { return nil, f.fails("CloseDue") }
+func (f *failingAgent) NextMemberTime() (uint64, error) {
+	return f.ownMemberTime(), f.fails("NextMemberTime")
+}
+func (f *failingAgent) SaveMemberClock() error                       { return f.fails("SaveMemberClock") }
+func (f *failingAgent) Compact() error                               { return f.fails("Compact") }
+func (f *failingAgent) CloseDue(uint64) ([]*serfagent.Closed, error) { return nil, f.fails("CloseDue") }
 
-// logged is a log that many may write, and a test reads.
-type logged struct {
+// logBuffer is a log that many goroutines may write and a test reads.
+type logBuffer struct {
 	mu   sync.Mutex
 	text []byte
 }
 
-func (l *logged) Write(data []byte) (int, error) {
+func (l *logBuffer) Write(data []byte) (int, error) {
 	l.mu.Lock()
 	defer l.mu.Unlock()
 	l.text = append(l.text, data...)
 	return len(data), nil
 }
 
-func (l *logged) String() string {
+func (l *logBuffer) String() string {
 	l.mu.Lock()
 	defer l.mu.Unlock()
 	return string(l.text)

@@ -6,77 +6,78 @@ import (
 	"kitchenrue.example/serfagent"
 )
 
-// FarTime is a time that no honest clock reaches. Whoever may send packets could send a time near 2^64, where a clock has next to none
-// left, and what a node fires whose clock can't go on is refused for ever. So a packet or a state with such a time is dropped before the
-// proved agent sees it.
+// FarTime is a Lamport time that no honest clock reaches. A program that may send packets could send a time close to 2^64, which would
+// leave a clock almost no times; a node whose clock is exhausted can never fire again. So a packet or a state with an implausibly far time
+// is dropped before the proved agent receives it.
 //
-// A time is far from FarTime and the time of day on, in nanoseconds since 1970. A bound that stands still would be reached by a flood of
-// times just below it. What is fired then is beyond it, and a node that begins at 0 would never take it. This bound rises by one a
-// nanosecond, which is faster than anybody fires: so it is soon above such clocks, for each node whose time of day is right.
+// A time is far if it is at least FarTime plus the time of day in nanoseconds since 1970. A fixed limit would be reached by a flood of
+// times just below it: whatever is fired then is beyond the limit, and a node whose clock begins at 0 would never accept it. This limit
+// rises by one per nanosecond, faster than anybody can fire, so it soon exceeds these clocks on each node whose time of day is right.
 const FarTime = 1 << 62
 
-// farTimes is the first time that is far at this time of day. It is 2^63 at most, from 2116 on.
-func farTimes(now time.Time) uint64 {
-	const mostSeconds = FarTime / 1_000_000_000
+// farThreshold returns the first time that is far at this time of day. It is at most 2^63, which it reaches in 2116.
+func farThreshold(now time.Time) uint64 {
+	const maxSeconds = FarTime / 1_000_000_000
 	switch seconds := now.Unix(); {
 	case seconds < 0:
 		return FarTime
-	case seconds >= mostSeconds:
+	case seconds >= maxSeconds:
 		return 2 * FarTime
 	default:
 		return FarTime + uint64(now.UnixNano())
 	}
 }
 
-// nearTimes is how far above this node's own clock a time may be that is far, since a machine's time of day may be set back. Nobody sends
-// two million packets a second, by which such times would rise faster than the bound.
-const nearTimes = 512
+// nearMargin is how far above this node's own clock a far time may be and still be accepted, since a machine's time of day may be set back.
+// These times could rise faster than the threshold only if somebody sent two million packets a second.
+const nearMargin = 512
 
-// isFar says whether a packet or a state has a time that is far, and isn't near to this node's own clock of that kind.
+// isFar reports whether a packet or a state has a far time that isn't near this node's own clock of the same kind.
 func (s *Serf) isFar(data []byte) bool {
 	times, err := readTimes(data)
 	if err != nil {
-		// (the library refuses it too, and says why: so it moves no clock)
-		return !isRefused(data)
+		// (if the library refuses the packet too, it moves no clock, and the library's error has the reason)
+		return !isMalformed(data)
 	}
-	if times.latest() < FarTime {
+	if times.max() < FarTime {
 		return false
 	}
-	first := farTimes(s.config.timeOfDay())
-	if times.latest() < first {
+	threshold := farThreshold(s.config.timeOfDay())
+	if times.max() < threshold {
 		return false
 	}
 	clocks, err := s.agent.Clocks()
-	isFrom := func(time, clock uint64) bool { return time >= first && time > clock && time-clock > nearTimes }
-	return err != nil || isFrom(times.member, clocks.Member) || isFrom(times.event, clocks.Event) || isFrom(times.query, clocks.Query)
+	isBeyond := func(time, clock uint64) bool { return time >= threshold && time > clock && time-clock > nearMargin }
+	return err != nil || isBeyond(times.member, clocks.Member) || isBeyond(times.event, clocks.Event) || isBeyond(times.query, clocks.Query)
 }
 
-// isRefused says whether the library refuses a packet, an intent or a state, whatever the agent's clocks are.
-func isRefused(data []byte) bool {
+// isMalformed reports whether the library refuses a packet, an intent or a state regardless of the agent's clocks.
+func isMalformed(data []byte) bool {
 	if len(data) > 0 && (data[0] == leaveType || data[0] == joinType) {
-		_, isFaulty := serfagent.IntentFaultOf(data)
-		return isFaulty
+		_, isBad := serfagent.IntentFaultOf(data)
+		return isBad
 	}
-	_, isFaulty := serfagent.PacketFaultOf(data)
-	return isFaulty
+	_, isBad := serfagent.PacketFaultOf(data)
+	return isBad
 }
 
-// tellOfFarClocks says of each clock of the file that is far what the others don't take of this node.
-func (s *Serf) tellOfFarClocks() {
+// warnOfFarClocks logs a warning for each clock of the file that is so far that other nodes drop what this node sends by it.
+func (s *Serf) warnOfFarClocks() {
 	clocks, err := s.agent.Clocks()
 	if err != nil {
 		return
 	}
-	first := farTimes(s.config.timeOfDay())
-	for _, one := range []struct {
-		line, what string
-		clock      uint64
+	threshold := farThreshold(s.config.timeOfDay())
+	for _, clock := range []struct {
+		name, carriers string
+		time           uint64
 	}{
-		{"clock", "join and leave intents", clocks.Member}, {"event-clock", "events", clocks.Event}, {"query-clock", "queries", clocks.Query},
+		{"clock", "join and leave intents", clocks.Member}, {"event-clock", "events", clocks.Event},
+		{"query-clock", "queries", clocks.Query},
 	} {
-		if one.clock >= first {
-			s.log.Printf("[WARN] serf: the file's %s stands at %d, which no honest clock reaches, so no other node takes this one's %s: "+
-				"see AGENT.md, \"A clock that is too far\"", one.line, one.clock, one.what)
+		if clock.time >= threshold {
+			s.log.Printf("[WARN] serf: the snapshot's %s is at %d, implausibly far ahead, so other nodes drop this node's %s: "+
+				"see AGENT.md, \"A clock that is too far\"", clock.name, clock.time, clock.carriers)
 		}
 	}
 }

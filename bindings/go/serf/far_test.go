@@ -13,91 +13,91 @@ import (
 	"kitchenrue.example/serfagent"
 )
 
-// timed is a message of one time: its beginning, the time's eight bytes, and its end.
-func timed(begin string, time uint64, end string) []byte {
+// withTime returns a message with a time: its beginning, the time in eight bytes, and its end.
+func withTime(begin string, time uint64, end string) []byte {
 	return append(binary.BigEndian.AppendUint64([]byte(begin+"\xcf"), time), end...)
 }
 
-// What can bring a clock to a time.
+// Packets that move a clock to a time.
 var farPackets = map[string]func(time uint64) []byte{
-	"an event": func(time uint64) []byte { return timed("\x03\x82\xa5LTime", time, "\xa4Name\xa3far") },
+	"an event": func(time uint64) []byte { return withTime("\x03\x82\xa5LTime", time, "\xa4Name\xa3far") },
 	"an event whose time comes last": func(time uint64) []byte {
-		return timed("\x03\x83\xa4Name\xa3far\xa7unknown\x91\x80\xa5LTime", time, "")
+		return withTime("\x03\x83\xa4Name\xa3far\xa7unknown\x91\x80\xa5LTime", time, "")
 	},
 	"a query": func(time uint64) []byte {
-		return timed("\x04\x84\xa7Timeout\xce\x3b\x9a\xca\x00\xa5LTime", time, "\xa2ID\x07\xa4Name\xa3far")
+		return withTime("\x04\x84\xa7Timeout\xce\x3b\x9a\xca\x00\xa5LTime", time, "\xa2ID\x07\xa4Name\xa3far")
 	},
-	"a join":  func(time uint64) []byte { return timed("\x01\x82\xa5LTime", time, "\xa4Node\xa5ghost") },
-	"a leave": func(time uint64) []byte { return timed("\x00\x82\xa5LTime", time, "\xa4Node\xa1a") },
+	"a join":  func(time uint64) []byte { return withTime("\x01\x82\xa5LTime", time, "\xa4Node\xa5ghost") },
+	"a leave": func(time uint64) []byte { return withTime("\x00\x82\xa5LTime", time, "\xa4Node\xa1a") },
 }
 
-// What of a state can.
+// States that do.
 var farStates = map[string]func(time uint64) []byte{
-	"a state's member clock": func(time uint64) []byte { return timed("\x02\x81\xa5LTime", time, "") },
-	"a status":               func(time uint64) []byte { return timed("\x02\x81\xacStatusLTimes\x81\xa1b", time, "") },
-	"a state's event clock":  func(time uint64) []byte { return timed("\x02\x81\xaaEventLTime", time, "") },
+	"a state's member clock": func(time uint64) []byte { return withTime("\x02\x81\xa5LTime", time, "") },
+	"a status":               func(time uint64) []byte { return withTime("\x02\x81\xacStatusLTimes\x81\xa1b", time, "") },
+	"a state's event clock":  func(time uint64) []byte { return withTime("\x02\x81\xaaEventLTime", time, "") },
 	"a state's event": func(time uint64) []byte {
-		return timed("\x02\x82\xaaEventLTime\x01\xa6Events\x92\xc0\x82\xa5LTime", time, "\xa6Events\x91\x82\xa4Name\xa3far\xa7Payload\xa0")
+		return withTime("\x02\x82\xaaEventLTime\x01\xa6Events\x92\xc0\x82\xa5LTime", time, "\xa6Events\x91\x82\xa4Name\xa3far\xa7Payload\xa0")
 	},
-	"a state's query clock": func(time uint64) []byte { return timed("\x02\x81\xaaQueryLTime", time, "") },
+	"a state's query clock": func(time uint64) []byte { return withTime("\x02\x81\xaaQueryLTime", time, "") },
 }
 
-// works expects that two nodes go on: each of the three clocks moves, and the other node hears of it.
-func works(t *testing.T, a, b *one) {
+// expectWorking checks that two nodes still work: each of the three clocks advances, and the other node receives what was sent.
+func expectWorking(t *testing.T, a, b *testNode) {
 	t.Helper()
 	must(t, a.UserEvent("deploy", []byte("on"), false))
-	eventually(t, "the event comes", func() bool { return len(b.got("deploy")) == 1 })
+	eventually(t, "the event arrives", func() bool { return len(b.payloads("deploy")) == 1 })
 	if _, err := a.Query("load", nil, &QueryParam{Timeout: time.Minute}); err != nil {
 		t.Fatal(err)
 	}
-	eventually(t, "the query comes", func() bool { return b.query("load") != nil })
+	eventually(t, "the query arrives", func() bool { return b.lastQuery("load") != nil })
 	must(t, a.Leave())
-	eventually(t, "the leave comes", func() bool { return b.status("a") == "left" || b.status("a") == "leaving" })
+	eventually(t, "the leave arrives", func() bool { return b.statusOf("a") == "left" || b.statusOf("a") == "leaving" })
 }
 
-// farAfter is the first time that will be far so much later.
-func farAfter(later time.Duration) uint64 { return farTimes(time.Now().Add(later)) }
+// farTimeAfter returns the first time that will be far after this duration.
+func farTimeAfter(later time.Duration) uint64 { return farThreshold(time.Now().Add(later)) }
 
-// clocks are a node's.
-func (o *one) clocks() serfagent.Clocks {
-	o.t.Helper()
-	clocks, err := o.agent.Clocks()
+// clocks returns the node's clocks.
+func (n *testNode) clocks() serfagent.Clocks {
+	n.t.Helper()
+	clocks, err := n.agent.Clocks()
 	if err != nil {
-		o.t.Fatal(err)
+		n.t.Fatal(err)
 	}
 	return clocks
 }
 
-// A time that no honest clock reaches is dropped and counted, wherever it stands, and no clock moves.
+// A far time is dropped and counted, in whichever place of a message it is, and moves no clock.
 func TestFarTimesAreDropped(t *testing.T) {
-	a, b := pair(t)
+	a, b := startPair(t)
 	before := a.clocks()
 	want := int64(0)
-	for _, far := range []uint64{farAfter(time.Hour), 2 * FarTime, 1<<64 - 2} {
+	for _, far := range []uint64{farTimeAfter(time.Hour), 2 * FarTime, 1<<64 - 2} {
 		for what, packet := range farPackets {
 			want++
-			a.own().NotifyMsg(packet(far))
-			eventually(t, what+" is dropped", func() bool { return a.far.Load() == want })
+			a.delegate().NotifyMsg(packet(far))
+			eventually(t, what+" is dropped", func() bool { return a.droppedFar.Load() == want })
 		}
 		for what, state := range farStates {
 			want++
-			a.own().MergeRemoteState(state(far), false)
-			eventually(t, what+" is dropped", func() bool { return a.far.Load() == want })
+			a.delegate().MergeRemoteState(state(far), false)
+			eventually(t, what+" is dropped", func() bool { return a.droppedFar.Load() == want })
 		}
 	}
 	if after := a.clocks(); after.Event != before.Event || after.Query != before.Query || after.Member >= FarTime {
-		t.Errorf("%+v, and then %+v", before, after)
+		t.Errorf("%+v, then %+v", before, after)
 	}
-	if a.Stats()["dropped"] != fmt.Sprint(want) || len(a.got("far")) > 0 || a.query("far") != nil || a.timeOf("b") >= FarTime {
-		t.Error(a.Stats(), a.got("far"))
+	if a.Stats()["dropped"] != fmt.Sprint(want) || len(a.payloads("far")) > 0 || a.lastQuery("far") != nil || a.statusTime("b") >= FarTime {
+		t.Error(a.Stats(), a.payloads("far"))
 	}
-	works(t, a, b)
+	expectWorking(t, a, b)
 }
 
-// The bound rises by one a nanosecond, and is from 2^62 to 2^63, whatever a machine takes for the time of day.
-func TestTheBoundRises(t *testing.T) {
+// The threshold rises by one per nanosecond, and is between 2^62 and 2^63 for any time of day.
+func TestFarThreshold(t *testing.T) {
 	second := time.Unix(1_800_000_000, 7)
-	for _, one := range []struct {
+	for _, test := range []struct {
 		now  time.Time
 		want uint64
 	}{
@@ -105,37 +105,38 @@ func TestTheBoundRises(t *testing.T) {
 		{second, 1<<62 + 1_800_000_000_000_000_007}, {time.Unix(4_611_686_017, 999_999_999), 1<<62 + 4_611_686_017_999_999_999},
 		{time.Unix(4_611_686_018, 0), 1 << 63}, {time.Unix(1<<40, 0), 1 << 63},
 	} {
-		if found := farTimes(one.now); found != one.want {
-			t.Errorf("%v: %d, not %d", one.now, found, one.want)
+		if found := farThreshold(test.now); found != test.want {
+			t.Errorf("%v: %d, want %d", test.now, found, test.want)
 		}
 	}
 }
 
-// flooded gives a node packets and states with times around the bound and around 2^63, for a while. (It leaves out what says that it left.)
-func flooded(a *one, while time.Duration) {
-	for end := time.Now().Add(while); time.Now().Before(end); {
-		for _, near := range []uint64{farAfter(-time.Millisecond), farAfter(0) - 1, farAfter(0), farAfter(time.Second), 1<<63 - 1, 1 << 63} {
+// floodNearBound sends a node packets and states with times near the threshold and near 2^63, for a while. (It leaves out the leave intent
+// of the node itself.)
+func floodNearBound(a *testNode, duration time.Duration) {
+	for end := time.Now().Add(duration); time.Now().Before(end); {
+		for _, near := range []uint64{farTimeAfter(-time.Millisecond), farTimeAfter(0) - 1, farTimeAfter(0), farTimeAfter(time.Second), 1<<63 - 1, 1 << 63} {
 			for what, packet := range farPackets {
 				if what != "a leave" {
-					a.own().NotifyMsg(packet(near))
+					a.delegate().NotifyMsg(packet(near))
 				}
 			}
 			for _, state := range farStates {
-				a.own().MergeRemoteState(state(near), false)
+				a.delegate().MergeRemoteState(state(near), false)
 			}
 		}
 		time.Sleep(time.Millisecond)
 	}
 }
 
-// settled waits until a node has taken all that came: nothing waits for a while.
-func settled(t *testing.T, a *one) {
+// waitUntilIdle waits until a node has processed what it received and its queues stay empty for a while.
+func waitUntilIdle(t *testing.T, a *testNode) {
 	t.Helper()
 	calm := 0
-	eventually(t, "what came is taken", func() bool {
+	eventually(t, "the queues stay empty", func() bool {
 		for _, q := range []*queue{a.packets, a.states} {
 			q.mu.Lock()
-			if calm++; len(q.pieces) > 0 {
+			if calm++; len(q.messages) > 0 {
 				calm = 0
 			}
 			q.mu.Unlock()
@@ -144,90 +145,90 @@ func settled(t *testing.T, a *one) {
 	})
 }
 
-// A flood of times at the bound moves the clocks there. The node goes on, and one that comes then, whose clocks are at their beginning,
-// takes what it fires, and is heard. (What is fired while some of the flood still waits soon is too old for who comes then.)
-func TestWhoComesBehindAFlood(t *testing.T) {
-	a, b := pair(t)
-	flooded(a, time.Second)
-	settled(t, a)
-	eventually(t, "both have the clocks", func() bool {
-		for _, node := range []*one{a, b} {
-			if is := node.clocks(); is.Event < FarTime || is.Query < FarTime || is.Member < FarTime {
+// A flood of times near the threshold moves the clocks there. The node still works, and a node that joins then, with clocks near 0,
+// receives what it fires and is received. (An event that is fired while parts of the flood still wait is soon too old for that node.)
+func TestNodeThatJoinsAfterFlood(t *testing.T) {
+	a, b := startPair(t)
+	floodNearBound(a, time.Second)
+	waitUntilIdle(t, a)
+	eventually(t, "both have clocks near the threshold", func() bool {
+		for _, node := range []*testNode{a, b} {
+			if clocks := node.clocks(); clocks.Event < FarTime || clocks.Query < FarTime || clocks.Member < FarTime {
 				return false
 			}
 		}
-		return a.far.Load() > 0
+		return a.droppedFar.Load() > 0
 	})
 	if err := a.UserEvent("before", nil, false); err != nil {
 		t.Fatal(err)
 	}
-	c := start(t, "c", "")
-	if is := c.clocks(); is.Event > 9 || is.Query > 9 || is.Member > 9 {
-		t.Fatalf("it is new: %+v", is)
+	c := startNode(t, "c", "")
+	if clocks := c.clocks(); clocks.Event > 9 || clocks.Query > 9 || clocks.Member > 9 {
+		t.Fatalf("the clocks of a new node: %+v", clocks)
 	}
 	if _, err := c.Join([]string{a.address()}, false); err != nil {
 		t.Fatal(err)
 	}
-	eventually(t, "what was fired before comes", func() bool { return len(c.got("before")) == 1 })
+	eventually(t, "the earlier event arrives", func() bool { return len(c.payloads("before")) == 1 })
 	if err := c.UserEvent("mine", nil, false); err != nil {
 		t.Fatal(err)
 	}
-	for _, node := range []*one{a, b, c} {
-		eventually(t, "its event comes", func() bool { return len(node.got("mine")) == 1 })
+	for _, node := range []*testNode{a, b, c} {
+		eventually(t, "its event arrives", func() bool { return len(node.payloads("mine")) == 1 })
 	}
 	if _, err := c.Query("mine", nil, &QueryParam{Timeout: time.Minute}); err != nil {
 		t.Fatal(err)
 	}
-	eventually(t, "its query comes", func() bool { return a.query("mine") != nil && b.query("mine") != nil })
-	works(t, a, c)
+	eventually(t, "its query arrives", func() bool { return a.lastQuery("mine") != nil && b.lastQuery("mine") != nil })
+	expectWorking(t, a, c)
 	if err := c.Leave(); err != nil {
 		t.Fatal(err)
 	}
-	eventually(t, "its leave comes", func() bool { return b.status("c") == "left" || b.status("c") == "leaving" })
+	eventually(t, "its leave arrives", func() bool { return b.statusOf("c") == "left" || b.statusOf("c") == "leaving" })
 }
 
-// A flood can't bring a clock beyond the bound by what is near to it: each packet moves it by 512 at most.
-func TestTimesFarFromTheirOwnClock(t *testing.T) {
+// Times near a clock can't move it far beyond the threshold: each packet moves it by at most 512.
+func TestFarTimesNearOwnClock(t *testing.T) {
 	var back atomic.Int64
-	a := start(t, "a", t.TempDir(), func(m *made) {
-		m.timeOfDay = func() time.Time { return time.Now().Add(-time.Duration(back.Load())) }
+	a := startNode(t, "a", t.TempDir(), func(o *nodeOptions) {
+		o.timeOfDay = func() time.Time { return time.Now().Add(-time.Duration(back.Load())) }
 	})
 	clockOf := map[string]func(serfagent.Clocks) uint64{
-		"an event": func(is serfagent.Clocks) uint64 { return is.Event }, "an event whose time comes last": func(is serfagent.Clocks) uint64 { return is.Event },
-		"a query": func(is serfagent.Clocks) uint64 { return is.Query }, "a join": func(is serfagent.Clocks) uint64 { return is.Member },
+		"an event": func(clocks serfagent.Clocks) uint64 { return clocks.Event }, "an event whose time comes last": func(clocks serfagent.Clocks) uint64 { return clocks.Event },
+		"a query": func(clocks serfagent.Clocks) uint64 { return clocks.Query }, "a join": func(clocks serfagent.Clocks) uint64 { return clocks.Member },
 	}
 	for what, clock := range clockOf {
 		back.Store(0)
-		first := farAfter(0) - 1
-		a.own().NotifyMsg(farPackets[what](first))
+		first := farTimeAfter(0) - 1
+		a.delegate().NotifyMsg(farPackets[what](first))
 		eventually(t, what+" is taken", func() bool { return clock(a.clocks()) == first+1 })
-		// (the time of day is set back, and the clock is beyond the bound)
+		// (the time of day is set back, so the clock is beyond the threshold)
 		back.Store(int64(time.Hour))
 		for _, near := range []uint64{first + 1, first + 2 + 512} {
-			a.own().NotifyMsg(farPackets[what](near))
-			eventually(t, what+" that is near is taken", func() bool { return clock(a.clocks()) == near+1 })
+			a.delegate().NotifyMsg(farPackets[what](near))
+			eventually(t, what+" near the clock is processed", func() bool { return clock(a.clocks()) == near+1 })
 		}
-		dropped, before := a.far.Load(), a.clocks()
-		a.own().NotifyMsg(farPackets[what](first + 4 + 2*512))
-		eventually(t, what+" that is farther isn't", func() bool { return a.far.Load() == dropped+1 })
+		dropped, before := a.droppedFar.Load(), a.clocks()
+		a.delegate().NotifyMsg(farPackets[what](first + 4 + 2*512))
+		eventually(t, what+" farther from it is dropped", func() bool { return a.droppedFar.Load() == dropped+1 })
 		if after := a.clocks(); after != before {
 			t.Errorf("%s: %+v, and then %+v", what, before, after)
 		}
 	}
 }
 
-// What is near to one clock is far from another.
-func TestTimesAreFarFromAnotherClock(t *testing.T) {
+// A time that is near one clock may be far from another.
+func TestFarTimesNearAnotherClock(t *testing.T) {
 	for near, packet := range farPackets {
 		if near == "a leave" {
 			continue
 		}
 		var back atomic.Int64
-		a := start(t, "a", "", func(m *made) {
-			m.timeOfDay = func() time.Time { return time.Now().Add(-time.Duration(back.Load())) }
+		a := startNode(t, "a", "", func(o *nodeOptions) {
+			o.timeOfDay = func() time.Time { return time.Now().Add(-time.Duration(back.Load())) }
 		})
-		first := farAfter(0) - 1
-		a.own().NotifyMsg(packet(first))
+		first := farTimeAfter(0) - 1
+		a.delegate().NotifyMsg(packet(first))
 		eventually(t, near+" is taken", func() bool {
 			return a.clocks().Event == first+1 || a.clocks().Query == first+1 || a.clocks().Member == first+1
 		})
@@ -238,102 +239,102 @@ func TestTimesAreFarFromAnotherClock(t *testing.T) {
 		for what, other := range farPackets {
 			if isOf(what) != isOf(near) && !(near == "a join" && what == "a leave") {
 				dropped++
-				a.own().NotifyMsg(other(first + 5))
+				a.delegate().NotifyMsg(other(first + 5))
 			}
 		}
-		eventually(t, fmt.Sprint("beside ", near), func() bool { return a.far.Load() == dropped })
+		eventually(t, fmt.Sprint("the others are dropped, after ", near), func() bool { return a.droppedFar.Load() == dropped })
 		if after := a.clocks(); after != before {
 			t.Errorf("%s: %+v, and then %+v", near, before, after)
 		}
 	}
 }
 
-// What the library reads is read here too, with the same times, however it is cut and turned.
-func TestTimesAreThoseOfTheLibrary(t *testing.T) {
-	taken := 0
-	for _, whole := range append(all(farPackets), append(all(farStates), unhex(t, statePacket), unhex(t, leavePacket))...) {
+// readTimes reads every message that the library accepts, with the same times, also if some bytes are changed.
+func TestReadTimesAgreesWithLibrary(t *testing.T) {
+	accepted := 0
+	for _, whole := range append(allPackets(farPackets), append(allPackets(farStates), unhex(t, statePacket), unhex(t, leavePacket))...) {
 		for i := range whole {
 			for _, value := range []byte{whole[i], whole[i] ^ 1, 0x01, 0x7f, 0x80, 0x81, 0x90, 0x91, 0xa1, 0xc0, 0xc4, 0xcc, 0xd0, 0xd3, 0xff} {
-				turned := append([]byte(nil), whole...)
-				turned[i] = value
-				times, err := readTimes(turned)
-				if isRefused(turned) {
+				damaged := append([]byte(nil), whole...)
+				damaged[i] = value
+				times, err := readTimes(damaged)
+				if isMalformed(damaged) {
 					continue
 				}
-				if taken++; err != nil {
-					t.Fatalf("%q: %v", turned, err)
+				if accepted++; err != nil {
+					t.Fatalf("%q: %v", damaged, err)
 				}
-				if member, is := memberTime(turned); is && member != times.member {
-					t.Fatalf("%q: %d, not %d", turned, times.member, member)
+				if member, ok := libraryMemberTime(damaged); ok && member != times.member {
+					t.Fatalf("%q: %d, want %d", damaged, times.member, member)
 				}
 			}
 		}
 	}
-	if taken < 500 {
-		t.Errorf("only %d packets were taken", taken)
+	if accepted < 500 {
+		t.Errorf("the library accepts only %d of the packets", accepted)
 	}
 }
 
-func all(of map[string]func(uint64) []byte) (packets [][]byte) {
+func allPackets(of map[string]func(uint64) []byte) (packets [][]byte) {
 	for _, packet := range of {
 		packets = append(packets, packet(1<<62))
 	}
 	return packets
 }
 
-// memberTime is the greatest time of the member clock in an intent or a state, by the library.
-func memberTime(packet []byte) (uint64, bool) {
+// libraryMemberTime returns the largest time of the member clock in an intent or a state, as the library reads it.
+func libraryMemberTime(packet []byte) (uint64, bool) {
 	if intent, err := serfagent.IntentOf(packet); err == nil && intent != nil {
 		return intent.Time, true
 	}
-	said, err := serfagent.MembersOf(packet)
-	if err != nil || said == nil {
+	members, err := serfagent.MembersOf(packet)
+	if err != nil || members == nil {
 		return 0, false
 	}
-	latest := said.MemberClock
-	for _, one := range said.Statuses {
-		if one.Time > latest {
-			latest = one.Time
+	latest := members.MemberClock
+	for _, status := range members.Statuses {
+		if status.Time > latest {
+			latest = status.Time
 		}
 	}
 	return latest, true
 }
 
-// What was dropped is told once a second at most, with its reason.
-func TestWhatIsToldOfDropped(t *testing.T) {
-	said := &logged{}
-	a := start(t, "a", "", withAgent(&fake{}), withLog(said))
+// Dropped packets are logged at most once a second, with the reason.
+func TestDropsAreLogged(t *testing.T) {
+	logs := &logBuffer{}
+	a := startNode(t, "a", "", withAgent(&fakeAgent{}), withLog(logs))
 	for i := 0; i < 100; i++ {
-		a.own().NotifyMsg(farPackets["an event"](2 * FarTime))
+		a.delegate().NotifyMsg(farPackets["an event"](2 * FarTime))
 	}
-	eventually(t, "it is told", func() bool {
-		return strings.Contains(said.String(), " packets or states were dropped, since a time in them is farther than any honest clock")
+	eventually(t, "it is logged", func() bool {
+		return strings.Contains(logs.String(), " packets or states were dropped, since they contain a time that is implausibly far ahead")
 	})
 }
 
-// A leave that can't be said can be said again, and the node goes on until then.
-func TestALeaveThatFails(t *testing.T) {
-	f := &fake{}
-	a, b := start(t, "a", t.TempDir()), start(t, "b", "", withAgent(f))
-	f.wanting.Store(1)
+// A leave that failed can be repeated, and the node continues until then.
+func TestFailedLeaveCanBeRepeated(t *testing.T) {
+	f := &fakeAgent{}
+	a, b := startNode(t, "a", t.TempDir()), startNode(t, "b", "", withAgent(f))
+	f.memoryFailures.Store(1)
 	if err := b.Leave(); err != serfagent.OutOfMemory {
 		t.Fatal(err)
 	}
-	// (others may have heard meanwhile that it left)
-	eventually(t, "b says that it is there", func() bool { return b.intents.NumQueued() == 1 })
+	// (others may have received a leave intent in the meantime)
+	eventually(t, "b queues a join intent", func() bool { return b.intents.NumQueued() == 1 })
 	b.join(a)
-	eventually(t, "a hears that b is there", func() bool { return a.timeOf("b") == f.wordTime() })
+	eventually(t, "a receives b's join intent", func() bool { return a.statusTime("b") == f.ownMemberTime() })
 	check(t, b.Leave())
 	if _, err := b.Join([]string{a.address()}, true); err != ErrLeft {
-		t.Error("it left")
+		t.Error("it joined after its leave")
 	}
 }
 
-// On a file whose clock of members is at its end no leave can be said, and all else goes on.
-func TestALeaveOfAnExhaustedClock(t *testing.T) {
+// With an exhausted member clock no leave can be sent, and everything else works.
+func TestLeaveWithExhaustedClock(t *testing.T) {
 	folder := t.TempDir()
 	must(t, os.WriteFile(filepath.Join(folder, "b"), []byte("clock: 18446744073709551614\n"), 0o600))
-	a, b := start(t, "a", folder), start(t, "b", folder)
+	a, b := startNode(t, "a", folder), startNode(t, "b", folder)
 	for range []int{1, 2} {
 		if err := b.Leave(); err != serfagent.Exhausted {
 			t.Fatal(err)
@@ -341,5 +342,5 @@ func TestALeaveOfAnExhaustedClock(t *testing.T) {
 	}
 	b.join(a)
 	must(t, b.UserEvent("deploy", nil, false))
-	eventually(t, "its events come", func() bool { return len(a.got("deploy")) == 1 })
+	eventually(t, "its events arrive", func() bool { return len(a.payloads("deploy")) == 1 })
 }

@@ -1,8 +1,9 @@
 //go:build faults
 
-// Built by `-tags faults`, for tests alone: a transport that loses packets, repeats them, has them come late and so out of their order,
-// and is cut off from addresses, as the file says that KITCHENRUE_FAULTS names. It is read again each tenth of a second. Its lines are
-// `lose SHARE`, `repeat SHARE`, `late SHARE`, `cut ADDRESS..` and `refuse streams`: whose a stream is that comes its address doesn't say.
+// Built with `-tags faults`, for tests only: a transport that loses packets, repeats them, delays them and so changes their order, and is
+// cut off from addresses. The file that KITCHENRUE_FAULTS names says which of this it does, and is read again every tenth of a second. Its
+// lines are `lose SHARE`, `repeat SHARE`, `late SHARE`, `cut ADDRESS..` and `refuse streams`. An accepted stream's address does not say
+// which node opened it, so `cut` applies only to the streams that this node opens.
 
 package serf
 
@@ -19,19 +20,20 @@ import (
 	"github.com/hashicorp/memberlist"
 )
 
-// faultsTime is how often the file is read, and latest how late a packet is at most.
+// reloadInterval is how often the file is read, and maxDelay the maximum delay of a packet.
 const (
-	faultsTime = 100 * time.Millisecond
-	latest     = 300 * time.Millisecond
+	reloadInterval = 100 * time.Millisecond
+	maxDelay       = 300 * time.Millisecond
 )
 
 var errCut = errors.New("the link is cut")
 
-// faults say what becomes of packets and streams.
+// faults say what happens to packets and streams: the shares of packets that are lost, repeated and delayed, the addresses that are cut
+// off, and whether streams from other nodes are refused.
 type faults struct {
 	lose, repeat, late float64
 	cut                map[string]bool
-	isDeaf             bool
+	refusesStreams     bool
 }
 
 func readFaults(text string) *faults {
@@ -49,7 +51,7 @@ func readFaults(text string) *faults {
 		case "late":
 			fmt.Sscan(words[1], &f.late)
 		case "refuse":
-			f.isDeaf = true
+			f.refusesStreams = true
 		case "cut":
 			for _, address := range words[1:] {
 				f.cut[address] = true
@@ -59,7 +61,7 @@ func readFaults(text string) *faults {
 	return f
 }
 
-// isCut says whether an address, with its port or without, is beyond the cut.
+// isCut reports whether an address, with or without a port, is cut off.
 func (f *faults) isCut(address string) bool {
 	if host, _, err := net.SplitHostPort(address); err == nil {
 		address = host
@@ -67,88 +69,91 @@ func (f *faults) isCut(address string) bool {
 	return f.cut[address]
 }
 
-// pass does this as often, and as late, as a packet from an address, or to it, comes.
-func (f *faults) pass(address string, done func()) {
+// deliver delivers a packet from or to an address: not at all, once or twice, and perhaps late.
+func (f *faults) deliver(address string, packet func()) {
 	if f.isCut(address) || rand.Float64() < f.lose {
 		return
 	}
-	count, late := 1, rand.Float64() < f.late
+	count, isLate := 1, rand.Float64() < f.late
 	if rand.Float64() < f.repeat {
 		count = 2
 	}
 	for ; count > 0; count-- {
-		if late {
-			time.AfterFunc(time.Duration(rand.Int63n(int64(latest))), done)
+		if isLate {
+			time.AfterFunc(time.Duration(rand.Int63n(int64(maxDelay))), packet)
 		} else {
-			done()
+			packet()
 		}
 	}
 }
 
-// faulty is a transport with faults.
-type faulty struct {
+// faultyTransport is a transport with faults.
+type faultyTransport struct {
 	memberlist.NodeAwareTransport
-	now     atomic.Pointer[faults]
+	faults  atomic.Pointer[faults]
 	packets chan *memberlist.Packet
 	streams chan net.Conn
-	over    chan struct{}
+	done    chan struct{}
 }
 
-var _ memberlist.NodeAwareTransport = &faulty{}
+var _ memberlist.NodeAwareTransport = &faultyTransport{}
 
-func withFaults(whole memberlist.NodeAwareTransport) (memberlist.Transport, error) {
+// withFaults adds the faults of the file to a transport. Without the variable it returns the transport as it is.
+func withFaults(inner memberlist.NodeAwareTransport) (memberlist.Transport, error) {
 	path := os.Getenv("KITCHENRUE_FAULTS")
 	if path == "" {
-		return whole, nil
+		return inner, nil
 	}
-	t := &faulty{NodeAwareTransport: whole, packets: make(chan *memberlist.Packet), streams: make(chan net.Conn), over: make(chan struct{})}
+	t := &faultyTransport{
+		NodeAwareTransport: inner, packets: make(chan *memberlist.Packet), streams: make(chan net.Conn), done: make(chan struct{}),
+	}
 	t.read(path)
 	go func() {
-		ticker := time.NewTicker(faultsTime)
+		ticker := time.NewTicker(reloadInterval)
 		defer ticker.Stop()
 		for {
 			select {
-			case <-t.over:
+			case <-t.done:
 				return
 			case <-ticker.C:
 				t.read(path)
 			}
 		}
 	}()
-	go t.pass()
+	go t.receive()
 	return t, nil
 }
 
-func (t *faulty) read(path string) {
-	// (a file that isn't there says nothing)
+func (t *faultyTransport) read(path string) {
+	// (without the file there are no faults)
 	text, _ := os.ReadFile(path)
-	t.now.Store(readFaults(string(text)))
+	t.faults.Store(readFaults(string(text)))
 }
 
-// pass lets in what isn't lost.
-func (t *faulty) pass() {
+// receive passes on the packets and streams that arrive, with the faults.
+func (t *faultyTransport) receive() {
 	for {
 		select {
-		case <-t.over:
+		case <-t.done:
 			return
 		case packet := <-t.NodeAwareTransport.PacketCh():
-			t.now.Load().pass(packet.From.String(), func() {
-				// (memberlist takes the bytes apart where they lie)
-				again := *packet
-				again.Buf = append([]byte(nil), packet.Buf...)
+			t.faults.Load().deliver(packet.From.String(), func() {
+				// (memberlist changes the bytes of a packet that it reads)
+				copied := *packet
+				copied.Buf = append([]byte(nil), packet.Buf...)
 				select {
-				case t.packets <- &again:
-				case <-t.over:
+				case t.packets <- &copied:
+				case <-t.done:
 				}
 			})
 		case stream := <-t.NodeAwareTransport.StreamCh():
-			if t.now.Load().isDeaf {
+			if t.faults.Load().refusesStreams {
 				stream.Close()
 				continue
 			}
 			select {
 			case t.streams <- stream:
-			case <-t.over:
+			case <-t.done:
 				stream.Close()
 				return
 			}
@@ -156,38 +161,38 @@ func (t *faulty) pass() {
 	}
 }
 
-func (t *faulty) PacketCh() <-chan *memberlist.Packet { return t.packets }
-func (t *faulty) StreamCh() <-chan net.Conn           { return t.streams }
+func (t *faultyTransport) PacketCh() <-chan *memberlist.Packet { return t.packets }
+func (t *faultyTransport) StreamCh() <-chan net.Conn           { return t.streams }
 
-func (t *faulty) WriteTo(b []byte, address string) (time.Time, error) {
+func (t *faultyTransport) WriteTo(b []byte, address string) (time.Time, error) {
 	return t.WriteToAddress(b, memberlist.Address{Addr: address})
 }
 
-func (t *faulty) WriteToAddress(b []byte, address memberlist.Address) (time.Time, error) {
-	own := append([]byte(nil), b...)
-	t.now.Load().pass(address.Addr, func() { _, _ = t.NodeAwareTransport.WriteToAddress(own, address) })
+func (t *faultyTransport) WriteToAddress(b []byte, address memberlist.Address) (time.Time, error) {
+	copied := append([]byte(nil), b...)
+	t.faults.Load().deliver(address.Addr, func() { _, _ = t.NodeAwareTransport.WriteToAddress(copied, address) })
 	return time.Now(), nil
 }
 
-func (t *faulty) DialTimeout(address string, timeout time.Duration) (net.Conn, error) {
+func (t *faultyTransport) DialTimeout(address string, timeout time.Duration) (net.Conn, error) {
 	return t.DialAddressTimeout(memberlist.Address{Addr: address}, timeout)
 }
 
-func (t *faulty) DialAddressTimeout(address memberlist.Address, timeout time.Duration) (net.Conn, error) {
-	if t.now.Load().isCut(address.Addr) {
+func (t *faultyTransport) DialAddressTimeout(address memberlist.Address, timeout time.Duration) (net.Conn, error) {
+	if t.faults.Load().isCut(address.Addr) {
 		return nil, errCut
 	}
 	return t.NodeAwareTransport.DialAddressTimeout(address, timeout)
 }
 
-func (t *faulty) Shutdown() error {
-	close(t.over)
-	// (what listens may wait for somebody to take what came)
-	rest := make(chan error, 1)
-	go func() { rest <- t.NodeAwareTransport.Shutdown() }()
+func (t *faultyTransport) Shutdown() error {
+	close(t.done)
+	// (its listeners may wait until what they received is read)
+	result := make(chan error, 1)
+	go func() { result <- t.NodeAwareTransport.Shutdown() }()
 	for {
 		select {
-		case err := <-rest:
+		case err := <-result:
 			return err
 		case <-t.NodeAwareTransport.PacketCh():
 		case stream := <-t.NodeAwareTransport.StreamCh():

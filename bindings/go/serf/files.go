@@ -7,34 +7,34 @@ import (
 	"kitchenrue.example/serfagent"
 )
 
-// maxLine is how long a line is at most of those that are read: no line that is written here is longer.
-const maxLine = 64 << 10
+// maxLineLength is the maximum length of a line that is read. This package writes no longer line.
+const maxLineLength = 64 << 10
 
-// readLines reads a text line by line, however long it is. The last line needs no end. Lines that are too long are passed over.
-func readLines(text io.Reader, each func(line string)) error {
-	in := bufio.NewReaderSize(text, maxLine)
-	isRest := false
+// readLines reads a text of any length line by line. The last line needs no newline. Lines that are too long are skipped.
+func readLines(text io.Reader, apply func(line string)) error {
+	reader := bufio.NewReaderSize(text, maxLineLength)
+	wasPartial := false
 	for {
-		line, isCut, err := in.ReadLine()
+		line, isPartial, err := reader.ReadLine()
 		if err == io.EOF {
 			return nil
 		}
 		if err != nil {
 			return err
 		}
-		if !isRest && !isCut {
-			each(string(line))
+		if !wasPartial && !isPartial {
+			apply(string(line))
 		}
-		isRest = isCut
+		wasPartial = isPartial
 	}
 }
 
-// readLinesOf is readLines of a plain file.
-func readLinesOf(path string, each func(line string)) error {
+// readFileLines is readLines for a regular file.
+func readFileLines(path string, apply func(line string)) error {
 	file, err := serfagent.OpenPlain(path)
 	if err != nil {
 		return err
 	}
 	defer file.Close()
-	return readLines(file, each)
+	return readLines(file, apply)
 }

@@ -8,102 +8,103 @@ import (
 	"kitchenrue.example/serfagent"
 )
 
-// maxFilters is how many filters of a query are looked at.
+// maxFilters is the maximum number of filters of a query. A query with more of them is not handed out here.
 const maxFilters = 128
 
-// mostPieces is how many pieces the expressions of a query's filters may have together, where what is repeated counts as often as it
-// may be repeated. A packet of a few kilobytes can have millions, which would take seconds and hundreds of megabytes.
-const mostPieces = 2000
+// maxExpressionSize is the maximum size of the expressions of a query's filters together: the number of their parts, where a repeated part
+// counts as often as it may be repeated. A packet of a few kilobytes could have millions, which would take seconds and hundreds of
+// megabytes.
+const maxExpressionSize = 2000
 
-// tagsPass says whether this node's tags pass all tag filters of a packet's query.
-func (s *Serf) tagsPass(packet []byte) bool {
+// ownTagsPass reports whether a packet is a query all of whose tag filters this node's tags pass.
+func (s *Serf) ownTagsPass(packet []byte) bool {
 	if packet[0] != queryType {
 		return false
 	}
 	filters, err := serfagent.FiltersOf(packet)
-	return err == nil && len(filters) <= maxFilters && passes(filters, s.ownTags())
+	return err == nil && len(filters) <= maxFilters && tagFiltersPass(filters, s.ownTags())
 }
 
-// passes says whether tags pass all filters of tags among these. A filter that can't be read lets nobody pass, and so does one whose
-// expression is too large.
-func passes(filters [][]byte, tags map[string]string) bool {
-	left := mostPieces
+// tagFiltersPass reports whether tags pass all tag filters among these filters. A filter that can't be read, or whose expression is too
+// large, lets no node pass.
+func tagFiltersPass(filters [][]byte, tags map[string]string) bool {
+	budget := maxExpressionSize
 	for _, filter := range filters {
 		if !IsTagFilter(filter) {
 			continue
 		}
-		tag, wanted, err := readTagFilter(filter)
+		tag, expression, err := decodeTagFilter(filter)
 		if err != nil {
 			return false
 		}
-		expression, err := readExpression(wanted, &left)
-		if err != nil || !expression.MatchString(tags[tag]) {
+		compiled, err := compileExpression(expression, &budget)
+		if err != nil || !compiled.MatchString(tags[tag]) {
 			return false
 		}
 	}
 	return true
 }
 
-// IsTagFilter says whether a query's filter is one of tags. Serf has no such function.
+// IsTagFilter reports whether a query's filter is a tag filter. Serf has no such function.
 func IsTagFilter(filter []byte) bool { return len(filter) > 0 && filter[0] == serfagent.TagFilter }
 
-// pieces counts those of an expression.
-func pieces(of *syntax.Regexp) int {
-	count := 1 + len(of.Rune)
-	for _, part := range of.Sub {
-		count += pieces(part)
+// expressionSize returns the size of an expression, as maxExpressionSize counts it.
+func expressionSize(expression *syntax.Regexp) int {
+	size := 1 + len(expression.Rune)
+	for _, part := range expression.Sub {
+		size += expressionSize(part)
 	}
-	if of.Op == syntax.OpRepeat && of.Max > 1 {
-		count *= of.Max
-	} else if of.Op == syntax.OpRepeat && of.Min > 1 {
-		count *= of.Min
+	if expression.Op == syntax.OpRepeat && expression.Max > 1 {
+		size *= expression.Max
+	} else if expression.Op == syntax.OpRepeat && expression.Min > 1 {
+		size *= expression.Min
 	}
-	return count
+	return size
 }
 
-// readExpression reads an expression, unless it has more pieces than are left.
-func readExpression(expression string, left *int) (*regexp.Regexp, error) {
+// compileExpression compiles an expression and takes its size from the budget. It returns an error if the budget is exceeded.
+func compileExpression(expression string, budget *int) (*regexp.Regexp, error) {
 	parsed, err := syntax.Parse(expression, syntax.Perl)
 	if err != nil {
 		return nil, err
 	}
-	if *left -= pieces(parsed); *left < 0 {
-		return nil, fmt.Errorf("an expression of more than %d pieces", mostPieces)
+	if *budget -= expressionSize(parsed); *budget < 0 {
+		return nil, fmt.Errorf("the expressions of the query's tag filters have more than %d parts", maxExpressionSize)
 	}
 	return regexp.Compile(expression)
 }
 
-// readTagFilter reads a filter of tags: an expression that a tag's value has to match somewhere.
-func readTagFilter(filter []byte) (tag, expression string, err error) {
+// decodeTagFilter decodes a tag filter: a tag and an expression that has to match somewhere in the tag's value.
+func decodeTagFilter(filter []byte) (tag, expression string, err error) {
 	var found struct{ Tag, Expr string }
-	err = readWhole(filter, serfagent.TagFilter, &found)
+	err = decodeWhole(filter, serfagent.TagFilter, &found)
 	return found.Tag, found.Expr, err
 }
 
-// WithoutTagFilters is a query's packet without its filters of tags: for a record whose reader knows no tags, of a query that this
-// node's tags pass. A packet that is no query, or can't be read, is given as it is. Serf has no such function.
+// WithoutTagFilters returns a query's packet without its tag filters. It is for a record of queries that this node's tags pass, since the
+// record's reader knows no tags. A packet that is no query, or can't be read, is returned as it is. Serf has no such function.
 func WithoutTagFilters(packet []byte) []byte {
 	if len(packet) == 0 || packet[0] != queryType {
 		return packet
 	}
 	kept := [][]byte{}
-	from, to, isFound := 0, 0, false
-	d := decode(packet[1:])
-	d.fields(func(key string) bool {
+	start, end, isFound := 0, 0, false
+	d := newDecoder(packet[1:])
+	d.eachField(func(key string) bool {
 		if key != "Filters" {
 			return false
 		}
-		from, isFound = 1+d.At, true
-		for count := d.array(); count > 0 && d.Err == nil; count-- {
+		start, isFound = 1+d.At, true
+		for count := d.arrayHeader(); count > 0 && d.Err == nil; count-- {
 			if filter := d.raw(); !IsTagFilter(filter) {
 				kept = append(kept, filter)
 			}
 		}
-		to = 1 + d.At
+		end = 1 + d.At
 		return true
 	})
-	if d.end() != nil || !isFound {
+	if d.finish() != nil || !isFound {
 		return packet
 	}
-	return append(written(kept, append([]byte(nil), packet[:from]...)...), packet[to:]...)
+	return append(encode(kept, append([]byte(nil), packet[:start]...)...), packet[end:]...)
 }

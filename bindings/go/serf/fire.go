@@ -9,241 +9,247 @@ import (
 	"kitchenrue.example/serfagent"
 )
 
-// gatherTime is how long those who were told of a flush are waited for at most.
-const gatherTime = 5 * time.Millisecond
+// maxGatherWait is the maximum time that a flush waits for the callers of the previous one to fire again.
+const maxGatherWait = 5 * time.Millisecond
 
-// firing is an event that is to be fired. What came of it is there when it is done.
+// firing is an event to fire. Its result is there once isDone has a value.
 type firing struct {
 	Firing
 
 	isDone chan struct{}
-	// The event's time, or why it wasn't fired.
+	// the event's time, or why it was not fired
 	time LamportTime
 	err  error
 }
 
-// firingsOver are firings that are over: another event takes the place of each.
-var firingsOver = sync.Pool{New: func() interface{} { return &firing{isDone: make(chan struct{}, 1)} }}
+// firingPool has firings that are finished, for use by later calls.
+var firingPool = sync.Pool{New: func() interface{} { return &firing{isDone: make(chan struct{}, 1)} }}
 
-// firings wait to be fired. Each has a goroutine that waits for it.
-type firings struct {
+// firingQueue has the firings that wait. For each of them a goroutine waits in fireAndWait.
+type firingQueue struct {
 	mu      sync.Mutex
 	waiting []*firing
-	// isBusy: somebody fires what waits. isOver: no more are taken.
-	isBusy, isOver bool
-	// told is when some were told last, of whom missing didn't fire again yet: so many, of so many with those who waited then. took is
-	// how long their flush took, and back how long it would take, by the last times, until all fire again who were told at once.
-	told       time.Time
-	missing    int
-	some, all  int
-	took, back time.Duration
-	// areBack has something where nobody is missing any more.
-	areBack chan struct{}
-	// came has something where what waits is left to fireAll.
-	came chan struct{}
-	// taken, and given, are those of a burst: order is held.
-	taken []*firing
-	given []Firing
+	// hasLeader: a goroutine fires what waits. isEnded: no more firings are accepted.
+	hasLeader, isEnded bool
+	// reportedAt is when results were last reported, and outstanding how many of those callers have not fired again yet. returned is how
+	// many callers got a result then, and expected is that number plus those that were waiting at that moment. flushTime is how long their
+	// flush took. returnTime is the estimated time, from the last flushes, until all callers have fired again if all get their results at
+	// once.
+	reportedAt            time.Time
+	outstanding           int
+	returned, expected    int
+	flushTime, returnTime time.Duration
+	// noneOutstanding has a value when no caller is outstanding any more.
+	noneOutstanding chan struct{}
+	// ready has a value when fireAll has to fire what waits.
+	ready chan struct{}
+	// batch and batchFirings are the firings of one burst. They are reused, and order is held.
+	batch        []*firing
+	batchFirings []Firing
 }
 
-func newFirings() *firings {
-	return &firings{came: make(chan struct{}, 1), areBack: make(chan struct{}, 1)}
+func newFiringQueue() *firingQueue {
+	return &firingQueue{ready: make(chan struct{}, 1), noneOutstanding: make(chan struct{}, 1)}
 }
 
-// add adds one. leads says that nobody fires, so that who adds it does; false for is where no more are taken.
-func (f *firings) add(one *firing) (leads, is bool) {
+// add queues a firing. isLeader means that no goroutine fires at the moment, so the caller has to. ok is false if no more firings are
+// accepted.
+func (f *firingQueue) add(firing *firing) (isLeader, ok bool) {
 	f.mu.Lock()
 	defer f.mu.Unlock()
-	if f.isOver {
+	if f.isEnded {
 		return false, false
 	}
-	f.waiting = append(f.waiting, one)
-	if f.missing--; f.missing == 0 {
-		f.learn(time.Since(f.told))
-		tell(f.areBack)
+	f.waiting = append(f.waiting, firing)
+	if f.outstanding--; f.outstanding == 0 {
+		f.updateReturnTime(time.Since(f.reportedAt))
+		signal(f.noneOutstanding)
 	}
-	leads, f.isBusy = !f.isBusy, true
-	return leads, true
+	isLeader, f.hasLeader = !f.hasLeader, true
+	return isLeader, true
 }
 
-// pass leaves what waits to fireAll, or nobody fires from then on.
-func (f *firings) pass() {
+// passLead leaves the waiting firings to fireAll. If none is waiting, there is no leader from then on.
+func (f *firingQueue) passLead() {
 	f.mu.Lock()
 	defer f.mu.Unlock()
-	if f.isBusy = len(f.waiting) > 0; f.isBusy {
-		tell(f.came)
+	if f.hasLeader = len(f.waiting) > 0; f.hasLeader {
+		signal(f.ready)
 	}
 }
 
-// learn notes how long those who were told last took to fire again, or took at least. Where others waited all together would take as much
-// longer as they are more, and it counts the less. mu is held.
-func (f *firings) learn(length time.Duration) {
-	some, all, most := time.Duration(f.some), time.Duration(f.all), 2*f.took
-	if length < most {
-		length = length * all / some
+// updateReturnTime adjusts the estimate by how long the callers of the last report took to fire again, or have taken so far. If other
+// callers were waiting as well, all of them together would take proportionally longer; such a sample also has a proportionally smaller
+// weight. mu is held.
+func (f *firingQueue) updateReturnTime(took time.Duration) {
+	returned, expected, max := time.Duration(f.returned), time.Duration(f.expected), 2*f.flushTime
+	if took < max {
+		took = took * expected / returned
 	}
-	if length > most {
-		length = most
+	if took > max {
+		took = max
 	}
-	f.back += (length - f.back) * some / (4 * all)
+	f.returnTime += (took - f.returnTime) * returned / (4 * expected)
 }
 
-// patience is for how long those are waited for who are missing. If all of them are back before the flush of the others would be over, one
-// flush of all is sooner than two of a half each; if not, nobody is waited for.
-func (f *firings) patience() time.Duration {
+// gatherWait returns how long to wait for the callers that are outstanding. If all of them return before a flush of the others would end,
+// one flush for all is faster than two flushes for half of them each. Otherwise there is no wait.
+func (f *firingQueue) gatherWait() time.Duration {
 	f.mu.Lock()
 	defer f.mu.Unlock()
-	if f.missing <= 0 || 4*f.back > 3*f.took {
+	if f.outstanding <= 0 || 4*f.returnTime > 3*f.flushTime {
 		return 0
 	}
-	most := f.took
-	if most > gatherTime {
-		most = gatherTime
+	max := f.flushTime
+	if max > maxGatherWait {
+		max = maxGatherWait
 	}
-	return most - time.Since(f.told)
+	return max - time.Since(f.reportedAt)
 }
 
-// done tells these what came of them, which took so long.
-func (f *firings) done(told []*firing, took time.Duration) {
+// report wakes the callers of these firings, whose results are set, and whose flush took flushTime.
+func (f *firingQueue) report(reported []*firing, flushTime time.Duration) {
 	f.mu.Lock()
-	if f.missing > 0 {
-		f.learn(time.Since(f.told))
+	if f.outstanding > 0 {
+		f.updateReturnTime(time.Since(f.reportedAt))
 	}
-	f.told, f.missing, f.some, f.all, f.took = time.Now(), len(told), len(told), len(told)+len(f.waiting), took
+	f.reportedAt, f.flushTime = time.Now(), flushTime
+	f.outstanding, f.returned, f.expected = len(reported), len(reported), len(reported)+len(f.waiting)
 	f.mu.Unlock()
-	for _, one := range told {
-		one.isDone <- struct{}{}
+	for _, firing := range reported {
+		firing.isDone <- struct{}{}
 	}
 }
 
-// refuse tells these that nothing came of them.
-func (f *firings) refuse(told []*firing, why error) {
-	for _, one := range told {
-		one.err = why
+// refuse reports the same error for these firings.
+func (f *firingQueue) refuse(refused []*firing, err error) {
+	for _, firing := range refused {
+		firing.err = err
 	}
-	f.done(told, 0)
+	f.report(refused, 0)
 }
 
-// first takes the first of them, so many at most, for a burst. order is held.
-func (f *firings) first(count int) ([]*firing, []Firing) {
+// takeBatch removes up to count firings from the queue, for a burst. order is held.
+func (f *firingQueue) takeBatch(count int) ([]*firing, []Firing) {
 	f.mu.Lock()
 	defer f.mu.Unlock()
 	if count > len(f.waiting) {
 		count = len(f.waiting)
 	}
-	f.taken, f.given = append(f.taken[:0], f.waiting[:count]...), f.given[:0]
+	f.batch, f.batchFirings = append(f.batch[:0], f.waiting[:count]...), f.batchFirings[:0]
 	f.waiting = f.waiting[:copy(f.waiting, f.waiting[count:])]
-	for _, one := range f.taken {
-		f.given = append(f.given, one.Firing)
+	for _, firing := range f.batch {
+		f.batchFirings = append(f.batchFirings, firing.Firing)
 	}
-	return f.taken, f.given
+	return f.batch, f.batchFirings
 }
 
-// end takes no more, and refuses those that wait.
-func (f *firings) end() {
+// end refuses the firings that wait and all later ones.
+func (f *firingQueue) end() {
 	f.mu.Lock()
 	waiting := f.waiting
-	f.waiting, f.isOver = nil, true
+	f.waiting, f.isEnded = nil, true
 	f.mu.Unlock()
 	f.refuse(waiting, ErrEnded)
 }
 
-// fireAll fires what waits and is left to it, behind one flush what came together.
+// fireAll fires, with one flush, the firings that a leader left to it.
 func (s *Serf) fireAll() {
 	defer s.firings.end()
 	for {
 		select {
 		case <-s.ctx.Done():
 			return
-		case <-s.firings.came:
+		case <-s.firings.ready:
 		}
-		s.takeFirings()
+		s.fireWaiting()
 	}
 }
 
-// takeFirings fires what waits, and leaves to fireAll what came meanwhile.
-func (s *Serf) takeFirings() {
+// fireWaiting fires what waits, and leaves the firings that arrive meanwhile to fireAll.
+func (s *Serf) fireWaiting() {
 	s.gather()
-	if err := s.takeBurst(nil); isOver(err) {
+	if err := s.processBurst(nil); isFinal(err) {
 		s.firings.end()
 	} else {
-		s.firings.pass()
+		s.firings.passLead()
 	}
 }
 
-// gather waits until all wait again whom a flush has just told, where that is worth it.
+// gather waits for the callers of the last flush to fire again, if gatherWait expects that to save a flush.
 func (s *Serf) gather() {
-	for left := s.firings.patience(); left > 0; left = s.firings.patience() {
-		late := time.NewTimer(left)
+	for left := s.firings.gatherWait(); left > 0; left = s.firings.gatherWait() {
+		timeout := time.NewTimer(left)
 		select {
-		case <-s.firings.areBack:
-		case <-late.C:
+		case <-s.firings.noneOutstanding:
+		case <-timeout.C:
 		}
-		late.Stop()
+		timeout.Stop()
 	}
 }
 
-// UserEvent fires an event in the whole cluster, behind the states that came before. It returns behind the flush of the event's line, and
-// events that are fired while another call waits for the disk share its flush.
+// UserEvent fires an event in the whole cluster, after the states that were received before. It returns after the event's line was flushed.
+// Events that are fired while another call waits for the disk share one flush.
 //
-// Where so many events wait for EventCh that there is no room, it waits for BroadcastTimeout, and then it is refused with ErrBusy. It is
-// refused behind the end with ErrEnded, for its size by a sentence, and by the proved agent's own words. Nothing was fired then, but
-// where the disk failed: then nobody was handed the event here, and it wasn't sent.
+// If the maximum number of events is waiting for EventCh, UserEvent waits for up to BroadcastTimeout and then returns ErrBusy. After the
+// node has ended it returns ErrEnded, and for an event that is too large an error that names the limit. Other errors are those of the
+// proved agent. If UserEvent returns an error, the event was neither delivered here nor sent; if the disk failed, its line may be in the
+// file all the same.
 func (s *Serf) UserEvent(name string, payload []byte, coalesce bool) error {
 	_, err := s.Fire(name, payload, coalesce)
 	return err
 }
 
-// Fire is UserEvent, and gives the event's time. Serf has no such method.
+// Fire is UserEvent that also returns the event's time. Serf has no such method.
 func (s *Serf) Fire(name string, payload []byte, coalesce bool) (LamportTime, error) {
-	one := firingsOver.Get().(*firing)
-	defer firingsOver.Put(one)
-	one.Firing, one.time = Firing{append(one.Name[:0], name...), payload, coalesce}, 0
-	var late <-chan time.Time
+	firing := firingPool.Get().(*firing)
+	defer firingPool.Put(firing)
+	firing.Firing, firing.time = Firing{append(firing.Name[:0], name...), payload, coalesce}, 0
+	var timeout <-chan time.Time
 	for {
 		if s.pipe.isFull.Load() {
-			if late == nil {
+			if timeout == nil {
 				timer := time.NewTimer(s.config.BroadcastTimeout)
 				defer timer.Stop()
-				late = timer.C
+				timeout = timer.C
 			}
-			if err := s.waitForRoom(late); err != nil {
+			if err := s.waitForRoom(timeout); err != nil {
 				return 0, err
 			}
 		}
-		if err := s.fired(one); err != ErrBusy {
-			return one.time, s.named(err)
+		if err := s.fireAndWait(firing); err != ErrBusy {
+			return firing.time, s.fireError(err)
 		}
 	}
 }
 
-// fired waits until an event is fired: why it wasn't.
-func (s *Serf) fired(one *firing) error {
-	leads, is := s.firings.add(one)
-	if !is {
+// fireAndWait queues a firing and waits for its result.
+func (s *Serf) fireAndWait(firing *firing) error {
+	isLeader, ok := s.firings.add(firing)
+	if !ok {
 		return ErrEnded
 	}
-	if leads {
-		s.takeFirings()
+	if isLeader {
+		s.fireWaiting()
 	}
-	<-one.isDone
-	return one.err
+	<-firing.isDone
+	return firing.err
 }
 
-// waitForRoom waits until events may be handed out.
-func (s *Serf) waitForRoom(late <-chan time.Time) error {
+// waitForRoom waits until the pipe has room, the node ends or the timeout expires.
+func (s *Serf) waitForRoom(timeout <-chan time.Time) error {
 	select {
 	case <-s.pipe.room():
 		return nil
 	case <-s.ctx.Done():
 		return ErrEnded
-	case <-late:
+	case <-timeout:
 		return ErrBusy
 	}
 }
 
-// named is why an event wasn't fired, in Serf's words.
-func (s *Serf) named(err error) error {
+// fireError returns Serf's error for an event that is too large, and any other error as it is.
+func (s *Serf) fireError(err error) error {
 	if errors.Is(err, serfagent.TooLarge) {
 		return fmt.Errorf("user event exceeds configured limit of %d bytes before encoding", s.config.UserEventSizeLimit)
 	}

@@ -9,7 +9,7 @@ import (
 	"kitchenrue.example/serfagent"
 )
 
-// What Serf's own agents sent, taken off the wire.
+// Messages that Serf's own agents sent, captured from the network.
 const (
 	joinPacket  = "0182a54c54696d6501a44e6f6465a567616d6d61"
 	leavePacket = "0083a54c54696d6502a44e6f6465a462657461a55072756e65c2"
@@ -24,32 +24,32 @@ func unhex(t *testing.T, text string) []byte {
 	return data
 }
 
-func TestIntentsOfSerf(t *testing.T) {
+func TestSerfsIntents(t *testing.T) {
 	for text, want := range map[string]serfagent.Intent{
 		joinPacket:  {Time: 1, Node: []byte("gamma")},
 		leavePacket: {Time: 2, Node: []byte("beta"), Leave: true},
 		prunePacket: {Time: 5, Node: []byte("beta"), Leave: true, Prune: true},
 	} {
 		packet := unhex(t, text)
-		if found, err := intentOf(packet); err != nil || !reflect.DeepEqual(found, want) {
+		if found, err := parseIntent(packet); err != nil || !reflect.DeepEqual(found, want) {
 			t.Errorf("%+v %v", found, err)
 		}
 		if written, err := want.Packet(); err != nil || !reflect.DeepEqual(written, packet) {
 			t.Errorf("%x %v", written, err)
 		}
 	}
-	said, err := serfagent.MembersOf(unhex(t, statePacket))
+	members, err := serfagent.MembersOf(unhex(t, statePacket))
 	want := &serfagent.Members{MemberClock: 3, Statuses: []serfagent.Status{{Name: "alpha"}, {Name: "beta", Time: 2}}, Left: []string{"beta"}}
-	if err != nil || !reflect.DeepEqual(said, want) {
-		t.Errorf("%+v %v", said, err)
+	if err != nil || !reflect.DeepEqual(members, want) {
+		t.Errorf("%+v %v", members, err)
 	}
 }
 
-func TestFaultyIntents(t *testing.T) {
-	for packet, says := range map[string]string{
+func TestMalformedIntents(t *testing.T) {
+	for packet, wantErr := range map[string]string{
 		"\x00":                                       "ends inside",
 		"\x00\xdf\xff\xff":                           "ends inside",
-		"\x01\x01":                                   "is no map",
+		"\x01\x01":                                   "is not a map",
 		"\x01\x81\x01\x01":                           "is not raw",
 		"\x00\x81\xa4Node\xdb\xff\xff\xff\xff":       "ends inside",
 		"\x01\x81\xa4Node\xa1x\x00":                  "more bytes follow",
@@ -57,18 +57,18 @@ func TestFaultyIntents(t *testing.T) {
 		"\x01\x81\xa1y" + strings.Repeat("\x91", 20): "eight others",
 		"\x01\x81\xa5LTime\xcf\xff\xff\xff\xff\xff\xff\xff\xff": "is no time",
 	} {
-		if found, err := intentOf([]byte(packet)); err == nil || !strings.Contains(err.Error(), says) {
+		if found, err := parseIntent([]byte(packet)); err == nil || !strings.Contains(err.Error(), wantErr) {
 			t.Errorf("%q: %+v %v", packet, found, err)
 		}
 	}
 }
 
-// An intent of a member that isn't known waits for it, and the member clock is above its time.
-func TestIntentsRaiseTheClock(t *testing.T) {
-	a, _ := pair(t)
-	a.own().NotifyMsg(unhex(t, leavePacket))
-	eventually(t, "the intent waits for its member", func() bool {
-		return a.members.take(serfagent.Intent{Time: 2, Node: []byte("beta")}) == (outcome{})
+// An intent for a node that isn't a member yet is held, and raises the member clock above its time.
+func TestIntentsRaiseMemberClock(t *testing.T) {
+	a, _ := startPair(t)
+	a.delegate().NotifyMsg(unhex(t, leavePacket))
+	eventually(t, "the intent is held", func() bool {
+		return a.members.receiveIntent(serfagent.Intent{Time: 2, Node: []byte("beta")}) == (intentOutcome{})
 	})
 	clocks, err := a.agent.Clocks()
 	if err != nil || clocks.Member < 3 {

@@ -8,39 +8,40 @@ import (
 	"kitchenrue.example/serfagent"
 )
 
-// answerInternal answers the queries of the agents among themselves. Keys are written to their file here, so nothing else waits for
+// answerInternalQueries answers the queries that agents send each other. It writes key changes to their file, and nothing else waits for
 // that.
-func (s *Serf) answerInternal() {
+func (s *Serf) answerInternalQueries() {
 	for {
 		select {
 		case <-s.ctx.Done():
 			return
-		case query := <-s.internal:
-			s.answer(query)
+		case query := <-s.internalQueries:
+			s.answerInternalQuery(query)
 		}
 	}
 }
 
-func (s *Serf) answer(query *serfagent.Handed) {
-	what := strings.TrimPrefix(string(query.Name), InternalQueryPrefix)
+// answerInternalQuery answers one of them.
+func (s *Serf) answerInternalQuery(query *serfagent.PendingQuery) {
+	suffix := strings.TrimPrefix(string(query.Name), InternalQueryPrefix)
 	var payload []byte
-	switch command := keyCommand(what); {
-	case what == "ping":
-		// (its ack is all)
+	switch command := keyCommand(suffix); {
+	case suffix == "ping":
+		// (a ping needs no response, only its ack)
 		return
-	case what == "conflict":
+	case suffix == "conflict":
 		name := string(query.Payload)
 		if name == s.config.NodeName {
 			return
 		}
-		if member, is := s.members.get(name); is {
-			payload = writeMember(&member)
+		if member, ok := s.members.get(name); ok {
+			payload = encodeMember(&member)
 		} else {
-			payload = writeMember(nil)
+			payload = encodeMember(nil)
 		}
 	case command == installKey || command == useKey || command == removeKey || command == listKeys:
-		s.log.Printf("[INFO] serf: Received %s query", what)
-		payload = s.keyAnswer(command, query.Payload)
+		s.log.Printf("[INFO] serf: Received %s query", suffix)
+		payload = s.answerKeyQuery(command, query.Payload)
 	default:
 		s.log.Printf("[WARN] serf: Unhandled internal query '%s'", query.Name)
 		return
@@ -50,49 +51,52 @@ func (s *Serf) answer(query *serfagent.Handed) {
 	}
 }
 
-// settleConflicts asks the others who has this node's name, where another has it too. The one that fewer know ends.
-func (s *Serf) settleConflicts() {
+// resolveConflicts asks the other nodes which node has this node's name, if another node claims it too. The node that fewer of them know
+// ends.
+func (s *Serf) resolveConflicts() {
 	for {
 		select {
 		case <-s.ctx.Done():
 			return
 		case <-s.conflicts:
-			if err := s.settleConflict(); err != nil {
-				s.end(err)
+			if err := s.resolveConflict(); err != nil {
+				s.endWith(err)
 				return
 			}
 		}
 	}
 }
 
-// isMajority says whether so many of those who answered are more than all others: at a tie both nodes of a name end.
+// isMajority reports whether the matching answers are more than all others. At a tie both nodes of a name end.
 func isMajority(matching, answers int) bool { return matching > answers/2 }
 
-func (s *Serf) settleConflict() error {
-	own := s.memberlist().LocalNode()
-	asked, err := s.ask(InternalQueryPrefix+"conflict", []byte(own.Name), QueryParam{})
+// resolveConflict asks once, and returns an error if this node has to end.
+func (s *Serf) resolveConflict() error {
+	self := s.memberlist().LocalNode()
+	query, err := s.fireQuery(InternalQueryPrefix+"conflict", []byte(self.Name), QueryParam{})
 	if err != nil {
-		s.log.Printf("[ERR] serf: nobody was asked who has this node's name: %v", err)
+		s.log.Printf("[ERR] serf: the query for the owner of this node's name failed: %v", err)
 		return nil
 	}
 	answers, matching := 0, 0
-	for answer := range asked.responses {
-		addr, port, err := readMember(answer.Payload)
+	for answer := range query.responses {
+		addr, port, err := decodeMemberAddr(answer.Payload)
 		if err != nil || len(addr) == 0 {
 			continue
 		}
 		answers++
-		if net.IP(addr).Equal(own.Addr) && port == own.Port {
+		if net.IP(addr).Equal(self.Addr) && port == self.Port {
 			matching++
 		}
 	}
 	if answers == 0 {
-		s.log.Print("[ERR] serf: nobody says which node has this one's name, so both stay")
+		s.log.Print("[ERR] serf: no member answered which node has this node's name, so both nodes continue")
 		return nil
 	}
 	if isMajority(matching, answers) {
 		s.log.Printf("[INFO] serf: majority in name conflict resolution [%d / %d]", matching, answers)
 		return nil
 	}
-	return fmt.Errorf("another node has the name %q, and more of the others know that one (%d of %d know this one)", own.Name, matching, answers)
+	return fmt.Errorf("another node has the name %q, and only %d of the %d members that answered know this node by it: "+
+		"change the name of one of the two", self.Name, matching, answers)
 }

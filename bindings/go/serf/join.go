@@ -12,68 +12,68 @@ import (
 	"kitchenrue.example/serfagent"
 )
 
-// sayTime is how long the word of a join waits that had no memory.
-const sayTime = time.Second
+// announceRetryDelay is the delay before a join intent for which there was no memory is sent again.
+const announceRetryDelay = time.Second
 
-// Join joins by addresses, names or name/address: how many were joined. With ignoreOld the events from before are ignored. The others
-// are told soon: that waits for the disk, and Join doesn't. The error is there where nobody was joined.
+// Join joins nodes by address, by name or by name/address, and returns how many were joined. With ignoreOld, earlier events are ignored.
+// The join intent is sent soon after: it has to wait for the disk, but Join does not. Join returns an error only if no node was joined.
 func (s *Serf) Join(existing []string, ignoreOld bool) (int, error) {
 	if s.State() != SerfAlive {
 		return 0, ErrLeft
 	}
 	if ignoreOld {
-		s.isIgnoring.Add(1)
-		defer s.isIgnoring.Add(-1)
+		s.ignoringJoins.Add(1)
+		defer s.ignoringJoins.Add(-1)
 	}
 	count, err := s.memberlist().Join(existing)
 	if count > 0 {
-		// (some were joined, so it worked)
-		tell(s.joined)
-		tell(s.lacking)
+		// (at least one was joined, so errors for the others don't matter)
+		signal(s.announceNeeded)
+		signal(s.missedEvents)
 		return count, nil
 	}
 	return 0, err
 }
 
-// sayJoins tells the others that this node is there, whenever it has joined, or others have it that it left.
-func (s *Serf) sayJoins() {
+// announceJoins sends a join intent whenever this node has joined, or has to refute that it left.
+func (s *Serf) announceJoins() {
 	for {
 		select {
 		case <-s.ctx.Done():
 			return
-		case <-s.joined:
+		case <-s.announceNeeded:
 		}
-		err := s.sayThere()
+		err := s.announce()
 		if err != nil && !errors.Is(err, ErrEnded) {
-			s.log.Printf("[WARN] serf: the others weren't told that this node is there: %v", err)
+			s.log.Printf("[WARN] serf: no join intent was sent: %v", err)
 		}
 		if err == serfagent.OutOfMemory {
-			time.AfterFunc(sayTime, func() { tell(s.joined) })
+			time.AfterFunc(announceRetryDelay, func() { signal(s.announceNeeded) })
 		}
 	}
 }
 
-// wronged has the others told that this node has not left.
-func (s *Serf) wronged() {
+// refuteLeave sends a new join intent, because others say that this node left.
+func (s *Serf) refuteLeave() {
 	if s.State() == SerfAlive {
 		s.log.Print("[DEBUG] serf: Refuting an older leave intent")
-		tell(s.joined)
+		signal(s.announceNeeded)
 	}
 }
 
-// sayThere tells the others that this node is there, unless it leaves: no such word comes behind that of its leave.
-func (s *Serf) sayThere() error {
-	s.saying.Lock()
-	defer s.saying.Unlock()
+// announce sends a join intent, unless the node is leaving: no join intent may follow its leave intent.
+func (s *Serf) announce() error {
+	s.announcing.Lock()
+	defer s.announcing.Unlock()
 	if s.State() != SerfAlive {
 		return nil
 	}
-	_, err := s.sayThat(serfagent.Intent{Node: []byte(s.config.NodeName)})
+	_, err := s.broadcastIntent(serfagent.Intent{Node: []byte(s.config.NodeName)})
 	return err
 }
 
-// sayThat sends an intent, with the next time, and takes it here too.
-func (s *Serf) sayThat(intent serfagent.Intent) (sent chan struct{}, err error) {
+// broadcastIntent sends an intent with the next member time, and applies it here too.
+func (s *Serf) broadcastIntent(intent serfagent.Intent) (sent chan struct{}, err error) {
 	err = s.inOrder(func() (err error) {
 		intent.Time, err = s.agent.NextMemberTime()
 		return err
@@ -90,29 +90,31 @@ func (s *Serf) sayThat(intent serfagent.Intent) (sent chan struct{}, err error) 
 		if intent.Leave {
 			status = StatusLeaving
 		}
-		s.members.own(status, intent.Time)
+		s.members.setOwnStatus(status, intent.Time)
 	} else {
-		s.members.take(intent)
+		s.members.receiveIntent(intent)
 	}
 	sent = make(chan struct{})
-	s.gossip(s.intents, packet, sent)
+	s.queueBroadcast(s.intents, packet, sent)
 	return sent, nil
 }
 
-// named is an address as memberlist joins it, with the node's name. One with a slash is left out: what is behind that would be looked up.
-func named(name, addr string) string {
+// joinAddress returns an address for memberlist's Join, with the node's name. It leaves out a name with a slash, since memberlist would
+// look up what follows the slash.
+func joinAddress(name, addr string) string {
 	if name == "" || strings.Contains(name, "/") {
 		return addr
 	}
 	return name + "/" + addr
 }
 
-// rejoin joins one of those that the snapshot leaves alive, whichever is there. The snapshot says which events are old.
+// rejoin joins one of the members that the snapshot has as alive: the first that can be reached, in random order. It does not ignore old
+// events, since the snapshot says which events are old.
 func (s *Serf) rejoin() {
 	var addrs []string
-	for _, one := range s.previous {
-		if one.Name != s.config.NodeName {
-			addrs = append(addrs, named(one.Name, one.Addr))
+	for _, previous := range s.previous {
+		if previous.Name != s.config.NodeName {
+			addrs = append(addrs, joinAddress(previous.Name, previous.Addr))
 		}
 	}
 	rand.Shuffle(len(addrs), func(i, j int) { addrs[i], addrs[j] = addrs[j], addrs[i] })
@@ -131,64 +133,65 @@ func (s *Serf) rejoin() {
 	}
 }
 
-// IsGoingOn says whether the file of the node keeps events and has a life before, which says which events are old. A join of a start
-// then wants what came to the others meanwhile: one with ignoreOld loses it. Serf has no such method.
+// IsGoingOn reports whether the node's file keeps events and comes from an earlier life, so that it says which events are old. The first
+// join should then accept the events that the other nodes received meanwhile: with ignoreOld they would be lost. Serf has no such method.
 func (s *Serf) IsGoingOn() bool {
 	if !s.config.KeepEvents || s.snapshot == nil {
 		return false
 	}
-	if s.snapshot.knowsEvents {
+	if s.snapshot.marksOldEvents {
 		return true
 	}
-	for _, one := range s.previous {
-		if one.Name != s.config.NodeName {
+	for _, previous := range s.previous {
+		if previous.Name != s.config.NodeName {
 			return true
 		}
 	}
 	return false
 }
 
-// Leave tells the others that this node leaves, and goes. Behind it the node only shuts down. Where it can't be said the node goes on as
-// before, and Leave may be called again. A second one behind a first does nothing, and one beside another is refused.
+// Leave sends a leave intent and leaves the cluster. After it, the only thing to do with the node is Shutdown. If the intent can't be sent,
+// the node continues as before, and Leave may be called again. After a successful Leave a second call does nothing; while one is running,
+// another is refused.
 func (s *Serf) Leave() error {
-	s.standing.Lock()
+	s.stateMu.Lock()
 	switch s.state {
 	case SerfLeft:
-		s.standing.Unlock()
+		s.stateMu.Unlock()
 		return nil
 	case SerfLeaving:
-		s.standing.Unlock()
+		s.stateMu.Unlock()
 		return errors.New("Leave already in progress")
 	case SerfShutdown:
-		s.standing.Unlock()
+		s.stateMu.Unlock()
 		return ErrEnded
 	}
 	s.state = SerfLeaving
-	s.standing.Unlock()
-	sent, err := s.sayLeave()
+	s.stateMu.Unlock()
+	sent, err := s.announceLeave()
 	if err != nil {
 		return err
 	}
-	if s.members.count(StatusAlive) > 0 && !s.waited(sent, s.config.BroadcastTimeout) {
-		s.log.Print("[WARN] serf: the leave may not have reached the others")
+	if s.members.count(StatusAlive) > 0 && !s.waitFor(sent, s.config.BroadcastTimeout) {
+		s.log.Print("[WARN] serf: the leave intent may not have reached the other nodes")
 	}
-	if err := s.leaveList(); err == ErrEnded {
+	if err := s.leaveMemberlist(); err == ErrEnded {
 		return err
 	} else if err != nil {
 		s.log.Printf("[WARN] serf: timeout waiting for leave broadcast: %v", err)
 	}
-	s.lines.add("leave\n")
-	s.waited(nil, s.config.LeavePropagateDelay)
-	s.standing.Lock()
-	defer s.standing.Unlock()
+	s.memberLines.add("leave\n")
+	s.waitFor(nil, s.config.LeavePropagateDelay)
+	s.stateMu.Lock()
+	defer s.stateMu.Unlock()
 	if s.state == SerfLeaving {
 		s.state = SerfLeft
 	}
 	return nil
 }
 
-// leaveList has memberlist leave. It is ErrEnded where the node was shut down meanwhile: memberlist panics there.
-func (s *Serf) leaveList() (err error) {
+// leaveMemberlist makes memberlist leave. If the node was shut down meanwhile, memberlist panics, and leaveMemberlist returns ErrEnded.
+func (s *Serf) leaveMemberlist() (err error) {
 	defer func() {
 		switch value := recover(); value {
 		case nil:
@@ -201,93 +204,95 @@ func (s *Serf) leaveList() (err error) {
 	return s.memberlist().Leave(s.config.BroadcastTimeout)
 }
 
-// sayLeave tells the others that this node leaves. Where that fails it doesn't leave, and says that it is there: no such word was said
+// announceLeave sends a leave intent. If that fails, the node does not leave, and sends a join intent in place of one that was held back
 // meanwhile.
-func (s *Serf) sayLeave() (sent chan struct{}, err error) {
-	s.saying.Lock()
-	defer s.saying.Unlock()
-	sent, err = s.sayThat(serfagent.Intent{Node: []byte(s.config.NodeName), Leave: true})
+func (s *Serf) announceLeave() (sent chan struct{}, err error) {
+	s.announcing.Lock()
+	defer s.announcing.Unlock()
+	sent, err = s.broadcastIntent(serfagent.Intent{Node: []byte(s.config.NodeName), Leave: true})
 	if err != nil {
-		s.standing.Lock()
+		s.stateMu.Lock()
 		if s.state == SerfLeaving {
 			s.state = SerfAlive
 		}
-		s.standing.Unlock()
-		tell(s.joined)
+		s.stateMu.Unlock()
+		signal(s.announceNeeded)
 	}
 	return sent, err
 }
 
-// waited waits for this, and says whether it came in time.
-func (s *Serf) waited(done <-chan struct{}, length time.Duration) bool {
-	late := time.NewTimer(length)
-	defer late.Stop()
+// waitFor waits until done is closed, for a limited time or until the node ends, and reports whether done was closed.
+func (s *Serf) waitFor(done <-chan struct{}, patience time.Duration) bool {
+	timeout := time.NewTimer(patience)
+	defer timeout.Stop()
 	select {
 	case <-done:
 		return true
-	case <-late.C:
+	case <-timeout.C:
 	case <-s.ctx.Done():
 	}
 	return false
 }
 
-// RemoveFailedNode says that a member that failed has left.
+// RemoveFailedNode makes a failed member a member that left.
 func (s *Serf) RemoveFailedNode(node string) error { return s.forceLeave(node, false) }
 
-// RemoveFailedNodePrune says that a member has left, and is to be forgotten at once.
+// RemoveFailedNodePrune makes a member one that left, and makes all nodes forget it at once.
 func (s *Serf) RemoveFailedNodePrune(node string) error { return s.forceLeave(node, true) }
 
+// forceLeave sends a leave intent for another member.
 func (s *Serf) forceLeave(name string, isPruning bool) error {
 	if name == s.config.NodeName {
-		return errors.New("a node leaves by Leave")
+		return errors.New("this is the name of the node itself: to leave, call Leave")
 	}
-	sent, err := s.sayThat(serfagent.Intent{Node: []byte(name), Leave: true, Prune: isPruning})
+	sent, err := s.broadcastIntent(serfagent.Intent{Node: []byte(name), Leave: true, Prune: isPruning})
 	if err != nil {
 		return err
 	}
-	if len(s.members.others(1)) > 0 && !s.waited(sent, s.config.BroadcastTimeout) {
+	if len(s.members.pickOthers(1)) > 0 && !s.waitFor(sent, s.config.BroadcastTimeout) {
 		return errors.New("timed out broadcasting node removal")
 	}
 	return nil
 }
 
+// ownTags returns this node's tags. SetTags replaces the map and never changes it.
 func (s *Serf) ownTags() map[string]string {
-	s.tagging.Lock()
-	defer s.tagging.Unlock()
+	s.tagsMu.Lock()
+	defer s.tagsMu.Unlock()
 	return s.tags
 }
 
-// tagsData is what memberlist carries of a node's tags: at protocol 2 the role alone.
-func (c *Config) tagsData(tags map[string]string) ([]byte, error) {
+// nodeMeta encodes tags as the metadata that memberlist sends with a node: at protocol 2 the role alone.
+func (c *Config) nodeMeta(tags map[string]string) ([]byte, error) {
 	if c.ProtocolVersion >= 3 {
-		return writeTags(tags)
+		return encodeTags(tags)
 	}
-	if len(tags["role"]) > maxTags {
-		return nil, errTags
+	if len(tags["role"]) > maxTagsLength {
+		return nil, errTagsTooLong
 	}
 	return []byte(tags["role"]), nil
 }
 
-// SetTags changes this node's tags, and tells the others. Tags that are too long change nothing.
+// SetTags changes this node's tags and sends them to the others. Tags that are too long change nothing.
 func (s *Serf) SetTags(tags map[string]string) error {
-	own := make(map[string]string, len(tags))
+	copied := make(map[string]string, len(tags))
 	for key, value := range tags {
-		own[key] = value
+		copied[key] = value
 	}
-	data, err := s.config.tagsData(own)
+	meta, err := s.config.nodeMeta(copied)
 	if err != nil {
 		return err
 	}
-	s.tagging.Lock()
-	s.tags, s.data = own, data
-	s.tagging.Unlock()
+	s.tagsMu.Lock()
+	s.tags, s.nodeMeta = copied, meta
+	s.tagsMu.Unlock()
 	if err := s.memberlist().UpdateNode(s.config.BroadcastTimeout); err != nil {
-		return fmt.Errorf("the others weren't told of the tags: %w", err)
+		return fmt.Errorf("the new tags may not have reached the other nodes: %w", err)
 	}
 	return nil
 }
 
-// reap forgets members that failed or left long ago.
+// reap forgets, at intervals, members that failed or left long ago.
 func (s *Serf) reap() {
 	ticker := time.NewTicker(s.config.ReapInterval)
 	defer ticker.Stop()
@@ -297,12 +302,12 @@ func (s *Serf) reap() {
 			return
 		case <-ticker.C:
 			s.members.reap(s.config.ReconnectTimeout, s.config.TombstoneTimeout, s.State() == SerfLeft)
-			s.places.keepThose(s.members.all())
+			s.coordinates.retain(s.members.all())
 		}
 	}
 }
 
-// reconnect tries members that failed.
+// reconnect tries, at intervals, to join a failed member again.
 func (s *Serf) reconnect() {
 	ticker := time.NewTicker(s.config.ReconnectInterval)
 	defer ticker.Stop()
@@ -312,11 +317,11 @@ func (s *Serf) reconnect() {
 			return
 		case <-ticker.C:
 		}
-		if member, is := s.members.failed(); is && s.State() == SerfAlive {
+		if member, ok := s.members.pickFailed(); ok && s.State() == SerfAlive {
 			addr := net.JoinHostPort(member.Addr.String(), strconv.Itoa(int(member.Port)))
 			s.log.Printf("[INFO] serf: attempting reconnect to %s %s", member.Name, addr)
-			if _, err := s.memberlist().Join([]string{named(member.Name, addr)}); err != nil {
-				s.log.Printf("[DEBUG] serf: %s isn't there: %v", member.Name, err)
+			if _, err := s.memberlist().Join([]string{joinAddress(member.Name, addr)}); err != nil {
+				s.log.Printf("[DEBUG] serf: reconnecting to %s failed: %v", member.Name, err)
 			}
 		}
 	}

@@ -6,56 +6,56 @@ import (
 	"time"
 )
 
-// A join doesn't wait until the disk has its word, which the others get soon, though memory for it is wanting at first.
-func TestAJoinDoesNotWaitForTheDisk(t *testing.T) {
-	f := &fake{word: make(chan struct{})}
-	f.wanting.Store(2)
-	a, b := start(t, "a", t.TempDir()), start(t, "b", "", withAgent(f))
+// Join does not wait until its intent is on the disk. The other nodes receive the intent soon after, even if memory runs out at first.
+func TestJoinDoesNotWaitForDisk(t *testing.T) {
+	f := &fakeAgent{memberTimeGate: make(chan struct{})}
+	f.memoryFailures.Store(2)
+	a, b := startNode(t, "a", t.TempDir()), startNode(t, "b", "", withAgent(f))
 	var flushed sync.Once
-	flush := func() { flushed.Do(func() { close(f.word) }) }
+	flush := func() { flushed.Do(func() { close(f.memberTimeGate) }) }
 	t.Cleanup(flush)
-	soon(t, "a join", func() {
+	promptly(t, "a join", func() {
 		if _, err := b.Join([]string{a.address()}, true); err != nil {
 			t.Error(err)
 		}
 	})
-	if intents := b.intents.NumQueued(); intents > 0 || b.status("a") != "alive" {
-		t.Error(intents, b.status("a"))
+	if intents := b.intents.NumQueued(); intents > 0 || b.statusOf("a") != "alive" {
+		t.Error(intents, b.statusOf("a"))
 	}
 	flush()
-	eventually(t, "a hears that b is there", func() bool { return a.timeOf("b") == f.wordTime() })
+	eventually(t, "a receives b's join intent", func() bool { return a.statusTime("b") == f.ownMemberTime() })
 }
 
-// No word that a node is there comes behind the word that it leaves.
-func TestNoWordBehindTheLeave(t *testing.T) {
-	_, b := pair(t)
+// No join intent follows the leave intent.
+func TestNoJoinIntentAfterLeave(t *testing.T) {
+	_, b := startPair(t)
 	must(t, b.Leave())
 	before, err := b.agent.Clocks()
 	must(t, err)
-	for _, say := range []func() error{b.sayThere, func() error { b.wronged(); return nil }, func() error { tell(b.joined); return nil }} {
+	for _, say := range []func() error{b.announce, func() error { b.refuteLeave(); return nil }, func() error { signal(b.announceNeeded); return nil }} {
 		check(t, say())
 	}
-	eventually(t, "the word of a join was looked at", func() bool { return len(b.joined) == 0 })
-	b.saying.Lock()
-	defer b.saying.Unlock()
+	eventually(t, "the request for a join intent was read", func() bool { return len(b.announceNeeded) == 0 })
+	b.announcing.Lock()
+	defer b.announcing.Unlock()
 	if after, err := b.agent.Clocks(); err != nil || after.Member != before.Member {
 		t.Error(before, after, err)
 	}
 }
 
-// A leave that waits until it is sent ends where the node is shut down meanwhile.
-func TestALeaveBesideAShutdown(t *testing.T) {
-	a := start(t, "a", "", withAgent(&fake{}), func(m *made) {
+// A leave that waits until its intent is sent ends if the node is shut down meanwhile.
+func TestLeaveDuringShutdown(t *testing.T) {
+	a := startNode(t, "a", "", withAgent(&fakeAgent{}), func(o *nodeOptions) {
 		// (nothing is ever sent)
-		m.MemberlistConfig.GossipInterval, m.BroadcastTimeout = 0, time.Hour
+		o.MemberlistConfig.GossipInterval, o.BroadcastTimeout = 0, time.Hour
 	})
-	a.own().NotifyJoin(b())
-	said := make(chan error, 1)
-	go func() { said <- a.Leave() }()
-	eventually(t, "it leaves", func() bool { return a.intents.NumQueued() == 1 })
-	soon(t, "both end", func() {
+	a.delegate().NotifyJoin(nodeB())
+	left := make(chan error, 1)
+	go func() { left <- a.Leave() }()
+	eventually(t, "the leave intent is queued", func() bool { return a.intents.NumQueued() == 1 })
+	promptly(t, "both end", func() {
 		check(t, a.Shutdown())
-		if err := <-said; err != ErrEnded {
+		if err := <-left; err != ErrEnded {
 			t.Error(err)
 		}
 	})

@@ -5,7 +5,7 @@ import (
 	"fmt"
 )
 
-// keyCommand is what is done to keys, as the agents' queries name it.
+// keyCommand is an operation on keys, by the name of its query.
 type keyCommand string
 
 const (
@@ -15,124 +15,125 @@ const (
 	listKeys   keyCommand = "list-keys"
 )
 
-// KeyManager changes the keys of all nodes. One call at a time has a meaning, since keys are changed one after another.
+// KeyManager changes the keys of all nodes. Make one call at a time: each change builds on the one before.
 type KeyManager struct{ serf *Serf }
 
-// KeyManager is the cluster's.
+// KeyManager returns the manager of the cluster's keys.
 func (s *Serf) KeyManager() *KeyManager { return &KeyManager{s} }
 
-// KeyRequestOptions say how the nodes are asked.
+// KeyRequestOptions are options for the query that changes or lists keys.
 type KeyRequestOptions struct {
-	// RelayFactor is by how many other nodes each answer is sent too.
+	// RelayFactor is the number of other nodes through which each response is also sent.
 	RelayFactor uint8
 }
 
-// KeyResponse is what the nodes said.
+// KeyResponse has what the nodes answered.
 type KeyResponse struct {
-	// Messages are what was wrong at which node.
+	// Messages are the errors or notes that nodes sent, by the node's name.
 	Messages map[string]string
-	// NumNodes is how many nodes there are, NumResp how many answered, and NumErr how many of these refused.
+	// NumNodes is the number of nodes, NumResp how many answered, and NumErr how many of these reported a failure.
 	NumNodes int
 	NumResp  int
 	NumErr   int
-	// Keys has in base64 how many nodes have which key, and PrimaryKeys how many encrypt by which.
+	// Keys has how many nodes have each key (in base64), and PrimaryKeys how many encrypt with it.
 	Keys        map[string]int
 	PrimaryKeys map[string]int
 }
 
-// InstallKey has all nodes take a key, which they then decrypt by. Here and below the key is in base64, and the error says how many nodes
-// refused, or didn't answer; what each said is beside it.
+// InstallKey adds a key on all nodes, which can then decrypt with it. Here and below, the key is in base64. The error says how many nodes
+// failed or did not answer; the response lists the message of each.
 func (k *KeyManager) InstallKey(key string) (*KeyResponse, error) {
 	return k.InstallKeyWithOptions(key, nil)
 }
 
 // InstallKeyWithOptions is InstallKey with options.
 func (k *KeyManager) InstallKeyWithOptions(key string, opts *KeyRequestOptions) (*KeyResponse, error) {
-	return k.do(installKey, key, opts)
+	return k.request(installKey, key, opts)
 }
 
-// UseKey has all nodes encrypt by a key that they have.
+// UseKey makes all nodes encrypt with a key that they have.
 func (k *KeyManager) UseKey(key string) (*KeyResponse, error) { return k.UseKeyWithOptions(key, nil) }
 
 // UseKeyWithOptions is UseKey with options.
 func (k *KeyManager) UseKeyWithOptions(key string, opts *KeyRequestOptions) (*KeyResponse, error) {
-	return k.do(useKey, key, opts)
+	return k.request(useKey, key, opts)
 }
 
-// RemoveKey has all nodes forget a key that they don't encrypt by.
+// RemoveKey removes a key from all nodes. A node refuses to remove the key that it encrypts with.
 func (k *KeyManager) RemoveKey(key string) (*KeyResponse, error) {
 	return k.RemoveKeyWithOptions(key, nil)
 }
 
 // RemoveKeyWithOptions is RemoveKey with options.
 func (k *KeyManager) RemoveKeyWithOptions(key string, opts *KeyRequestOptions) (*KeyResponse, error) {
-	return k.do(removeKey, key, opts)
+	return k.request(removeKey, key, opts)
 }
 
-// ListKeys asks all nodes for their keys.
+// ListKeys returns the keys of all nodes.
 func (k *KeyManager) ListKeys() (*KeyResponse, error) { return k.ListKeysWithOptions(nil) }
 
 // ListKeysWithOptions is ListKeys with options.
 func (k *KeyManager) ListKeysWithOptions(opts *KeyRequestOptions) (*KeyResponse, error) {
-	return k.do(listKeys, "", opts)
+	return k.request(listKeys, "", opts)
 }
 
-// do does this to the keys of all nodes, and gathers what they say.
-func (k *KeyManager) do(what keyCommand, text string, opts *KeyRequestOptions) (*KeyResponse, error) {
-	found := &KeyResponse{Messages: map[string]string{}}
-	key, err := base64.StdEncoding.DecodeString(text)
+// request sends a command to all nodes and collects their answers.
+func (k *KeyManager) request(command keyCommand, encodedKey string, opts *KeyRequestOptions) (*KeyResponse, error) {
+	response := &KeyResponse{Messages: map[string]string{}}
+	key, err := base64.StdEncoding.DecodeString(encodedKey)
 	if err != nil {
-		return found, err
+		return response, err
 	}
 	params := *k.serf.DefaultQueryParams()
 	if opts != nil {
 		params.RelayFactor = opts.RelayFactor
 	}
-	k.serf.log.Printf("[INFO] serf: Initiating %s", what)
-	asked, err := k.serf.ask(InternalQueryPrefix+string(what), writeKeyAsked(key), params)
+	k.serf.log.Printf("[INFO] serf: Initiating %s", command)
+	query, err := k.serf.fireQuery(InternalQueryPrefix+string(command), encodeKeyRequest(key), params)
 	if err != nil {
-		return found, err
+		return response, err
 	}
-	defer asked.Close()
-	if what == listKeys {
-		found.Keys, found.PrimaryKeys = map[string]int{}, map[string]int{}
+	defer query.Close()
+	if command == listKeys {
+		response.Keys, response.PrimaryKeys = map[string]int{}, map[string]int{}
 	}
-	found.NumNodes = k.serf.memberlist().NumMembers()
-	for answer := range asked.responses {
-		found.take(answer)
-		if found.NumResp == found.NumNodes {
-			// (nobody else can answer)
+	response.NumNodes = k.serf.memberlist().NumMembers()
+	for answer := range query.responses {
+		response.count(answer)
+		if response.NumResp == response.NumNodes {
+			// (all nodes have answered)
 			break
 		}
 	}
-	return found, found.fault()
+	return response, response.failure()
 }
 
-// take counts what a node said.
-func (r *KeyResponse) take(answer NodeResponse) {
+// count adds one node's answer.
+func (r *KeyResponse) count(answer NodeResponse) {
 	r.NumResp++
-	said, err := readKeyAnswered(answer.Payload)
+	reply, err := decodeKeyResponse(answer.Payload)
 	if err != nil {
-		said = keyAnswered{Message: err.Error()}
+		reply = nodeKeyResponse{Message: err.Error()}
 	}
-	if !said.Result {
+	if !reply.Result {
 		r.NumErr++
 	}
-	if said.Message != "" {
-		r.Messages[answer.From] = said.Message
+	if reply.Message != "" {
+		r.Messages[answer.From] = reply.Message
 	}
-	if r.Keys == nil || !said.Result {
+	if r.Keys == nil || !reply.Result {
 		return
 	}
-	for _, key := range said.Keys {
+	for _, key := range reply.Keys {
 		r.Keys[key]++
 	}
-	if said.PrimaryKey != "" {
-		r.PrimaryKeys[said.PrimaryKey]++
+	if reply.PrimaryKey != "" {
+		r.PrimaryKeys[reply.PrimaryKey]++
 	}
 }
 
-func (r *KeyResponse) fault() error {
+// failure returns an error unless all nodes answered and none reported a failure.
+func (r *KeyResponse) failure() error {
 	switch {
 	case r.NumErr > 0:
 		return fmt.Errorf("%d/%d nodes reported failure", r.NumErr, r.NumNodes)
@@ -142,10 +143,10 @@ func (r *KeyResponse) fault() error {
 	return nil
 }
 
-// keyAnswer does what a query of keys asks for, and says how it went.
-func (s *Serf) keyAnswer(command keyCommand, payload []byte) []byte {
-	answer := keyAnswered{}
-	key, err := readKeyAsked(payload)
+// answerKeyQuery carries out a query about keys and returns the encoded response.
+func (s *Serf) answerKeyQuery(command keyCommand, payload []byte) []byte {
+	answer := nodeKeyResponse{}
+	key, err := decodeKeyRequest(payload)
 	switch {
 	case command == listKeys:
 		answer.Keys, err = s.keys.list()
@@ -164,21 +165,21 @@ func (s *Serf) keyAnswer(command keyCommand, payload []byte) []byte {
 		s.log.Printf("[ERR] serf: %s failed: %v", command, err)
 		answer.Message = err.Error()
 	}
-	return fitting(s.config.QueryResponseSizeLimit, answer)
+	return encodeFitting(s.config.QueryResponseSizeLimit, answer)
 }
 
-// fitting is an answer that isn't too long for a limit: with as many keys as have room.
-func fitting(limit int, answer keyAnswered) []byte {
-	all := len(answer.Keys)
+// encodeFitting encodes a response, with as many keys as fit into the limit for a response's packet.
+func encodeFitting(limit int, answer nodeKeyResponse) []byte {
+	total := len(answer.Keys)
 	if len(answer.Message) > 512 {
 		answer.Message = answer.Message[:512]
 	}
 	for {
-		written := writeKeyAnswered(answer)
-		if len(written) <= limit-160-greatestName || len(answer.Keys) == 0 {
-			return written
+		encoded := encodeKeyResponse(answer)
+		if len(encoded) <= limit-160-maxNameLength || len(answer.Keys) == 0 {
+			return encoded
 		}
 		answer.Keys = answer.Keys[:len(answer.Keys)-1]
-		answer.Message = fmt.Sprintf("truncated key list response, showing first %d of %d keys", len(answer.Keys), all)
+		answer.Message = fmt.Sprintf("truncated key list response, showing first %d of %d keys", len(answer.Keys), total)
 	}
 }

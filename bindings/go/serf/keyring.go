@@ -12,36 +12,40 @@ import (
 	"kitchenrue.example/serfagent"
 )
 
-// Serf's own words for a node that doesn't encrypt.
+// Errors of a node that doesn't encrypt.
 var (
-	errNoKeys = errors.New("No keyring to modify (encryption not enabled)")
-	errListed = errors.New("Keyring is empty (encryption not enabled)")
+	//lint:ignore ST1005 Serf's own message
+	errNoKeyring = errors.New("No keyring to modify (encryption not enabled)")
+	//lint:ignore ST1005 Serf's own message
+	errEmptyKeyring = errors.New("Keyring is empty (encryption not enabled)")
 )
 
-// keyring are the keys of gossip, the one that encrypts in front, and the file that keeps their changes. A nil one encrypts nothing.
+// keyring has the gossip keys, of which the first one encrypts, and the path of the file to which changes are written. A nil keyring means
+// that gossip is not encrypted.
 type keyring struct {
 	mu   sync.Mutex
 	ring *memberlist.Keyring
 	path string
 }
 
-// keyringOf is that of a configuration; nil where there is no key.
-func keyringOf(c *Config) (*keyring, error) {
-	list := c.MemberlistConfig
-	if list.Keyring == nil && len(list.SecretKey) > 0 {
-		ring, err := memberlist.NewKeyring(nil, list.SecretKey)
+// newKeyring returns the keyring of a configuration, or nil if it has no key.
+func newKeyring(c *Config) (*keyring, error) {
+	config := c.MemberlistConfig
+	if config.Keyring == nil && len(config.SecretKey) > 0 {
+		ring, err := memberlist.NewKeyring(nil, config.SecretKey)
 		if err != nil {
 			return nil, err
 		}
-		list.Keyring = ring
+		config.Keyring = ring
 	}
-	if list.Keyring == nil {
+	if config.Keyring == nil {
 		return nil, nil
 	}
-	return &keyring{ring: list.Keyring, path: c.KeyringFile}, nil
+	return &keyring{ring: config.Keyring, path: c.KeyringFile}, nil
 }
 
-func (k *keyring) texts() []string {
+// base64Keys returns the keys in base64, the one that encrypts first. mu is held.
+func (k *keyring) base64Keys() []string {
 	var texts []string
 	for _, key := range k.ring.GetKeys() {
 		texts = append(texts, base64.StdEncoding.EncodeToString(key))
@@ -49,28 +53,28 @@ func (k *keyring) texts() []string {
 	return texts
 }
 
-// changed makes a change, and keeps it in the file.
-func (k *keyring) changed(change func() error) error {
+// change makes a change and writes the keys to the file.
+func (k *keyring) change(change func() error) error {
 	if k == nil {
-		return errNoKeys
+		return errNoKeyring
 	}
 	k.mu.Lock()
 	defer k.mu.Unlock()
 	if err := change(); err != nil || k.path == "" {
 		return err
 	}
-	data, err := json.MarshalIndent(k.texts(), "", "  ")
+	data, err := json.MarshalIndent(k.base64Keys(), "", "  ")
 	if err != nil {
 		return err
 	}
 	return serfagent.WriteFile(k.path, data, 0o600)
 }
 
-// install adds a key, which then decrypts.
+// install adds a key for decryption.
 func (k *keyring) install(key []byte) error {
-	return k.changed(func() error {
+	return k.change(func() error {
 		if len(k.ring.GetKeys()) >= maxKeys {
-			return fmt.Errorf("there are %d keys already", maxKeys)
+			return fmt.Errorf("the keyring has %d keys, which is the maximum: remove one first", maxKeys)
 		}
 		return k.ring.AddKey(key)
 	})
@@ -78,20 +82,20 @@ func (k *keyring) install(key []byte) error {
 
 // use makes a key the one that encrypts.
 func (k *keyring) use(key []byte) error {
-	return k.changed(func() error { return k.ring.UseKey(key) })
+	return k.change(func() error { return k.ring.UseKey(key) })
 }
 
-// remove takes a key away; not the one that encrypts.
+// remove removes a key. The one that encrypts can't be removed.
 func (k *keyring) remove(key []byte) error {
-	return k.changed(func() error { return k.ring.RemoveKey(key) })
+	return k.change(func() error { return k.ring.RemoveKey(key) })
 }
 
-// list gives the keys in base64, the one that encrypts in front.
+// list returns the keys in base64, the one that encrypts first.
 func (k *keyring) list() ([]string, error) {
 	if k == nil {
-		return nil, errListed
+		return nil, errEmptyKeyring
 	}
 	k.mu.Lock()
 	defer k.mu.Unlock()
-	return k.texts(), nil
+	return k.base64Keys(), nil
 }

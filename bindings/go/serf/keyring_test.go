@@ -16,24 +16,24 @@ func testKey(fill byte) []byte { return bytes.Repeat([]byte{fill}, 16) }
 
 func keyText(fill byte) string { return base64.StdEncoding.EncodeToString(testKey(fill)) }
 
-// keys is a keyring with a key, whose changes are kept in a file.
-func keys(t *testing.T, path string) *keyring {
+// newTestKeyring returns a keyring with one key that writes its changes to a file.
+func newTestKeyring(t *testing.T, path string) *keyring {
 	t.Helper()
-	c := quiet("a")
+	c := loopbackConfig("a")
 	c.KeyringFile, c.MemberlistConfig.SecretKey = path, testKey(1)
-	k, err := keyringOf(&c)
+	k, err := newKeyring(&c)
 	must(t, err)
 	return k
 }
 
-func TestChangesOfKeys(t *testing.T) {
+func TestKeyChanges(t *testing.T) {
 	path := filepath.Join(t.TempDir(), "keys")
-	k := keys(t, path)
+	k := newTestKeyring(t, path)
 	steps := []struct {
-		change func([]byte) error
-		key    []byte
-		says   string
-		keys   []string
+		change  func([]byte) error
+		key     []byte
+		wantErr string
+		keys    []string
 	}{
 		{k.install, testKey(2), "", []string{keyText(1), keyText(2)}},
 		{k.install, []byte("short"), "key size", []string{keyText(1), keyText(2)}},
@@ -45,7 +45,7 @@ func TestChangesOfKeys(t *testing.T) {
 	}
 	for i, step := range steps {
 		err := step.change(step.key)
-		if (err == nil) != (step.says == "") || err != nil && !strings.Contains(err.Error(), step.says) {
+		if (err == nil) != (step.wantErr == "") || err != nil && !strings.Contains(err.Error(), step.wantErr) {
 			t.Errorf("%d: %v", i, err)
 		}
 		if all, err := k.list(); err != nil || !reflect.DeepEqual(all, step.keys) {
@@ -60,14 +60,14 @@ func TestChangesOfKeys(t *testing.T) {
 			t.Errorf("%d: the file has %v %v", i, kept, err)
 		}
 	}
-	if about, err := os.Stat(path); err != nil || about.Mode().Perm() != 0o600 {
-		t.Error(about.Mode(), err)
+	if info, err := os.Stat(path); err != nil || info.Mode().Perm() != 0o600 {
+		t.Error(info.Mode(), err)
 	}
 }
 
-// There are no more keys than are read of an answer.
-func TestKeysAreBounded(t *testing.T) {
-	k := keys(t, "")
+// A keyring has at most as many keys as are read of a response.
+func TestNumberOfKeysIsLimited(t *testing.T) {
+	k := newTestKeyring(t, "")
 	for i := 1; i < maxKeys; i++ {
 		must(t, k.install([]byte(fmt.Sprintf("%016d", i))))
 	}
@@ -79,27 +79,27 @@ func TestKeysAreBounded(t *testing.T) {
 	}
 }
 
-// A change that can't be kept is a fault, and the keys that there were are there.
-func TestKeysThatCannotBeKept(t *testing.T) {
+// If a change can't be written, that is an error, and the earlier keys are still there.
+func TestKeyChangeThatCannotBeWritten(t *testing.T) {
 	folder := filepath.Join(t.TempDir(), "folder")
 	must(t, os.Mkdir(folder, 0o700))
-	k := keys(t, filepath.Join(folder, "keys"))
+	k := newTestKeyring(t, filepath.Join(folder, "keys"))
 	must(t, os.RemoveAll(folder))
 	if err := k.install(testKey(2)); err == nil {
-		t.Error("it isn't kept")
+		t.Error("no error, although the change can't be written")
 	}
 	if all, err := k.list(); err != nil || len(all) == 0 || all[0] != keyText(1) {
 		t.Error(all, err)
 	}
 }
 
-func TestNoKeys(t *testing.T) {
-	c := quiet("a")
-	k, err := keyringOf(&c)
+func TestNoKeyring(t *testing.T) {
+	c := loopbackConfig("a")
+	k, err := newKeyring(&c)
 	if err != nil || k != nil {
 		t.Fatal(k, err)
 	}
 	if _, err := k.list(); err == nil || k.install(testKey(1)) == nil || k.use(testKey(1)) == nil || k.remove(testKey(1)) == nil {
-		t.Error("there are no keys")
+		t.Error("no error, although there are no keys")
 	}
 }

@@ -7,46 +7,47 @@ import (
 	"kitchenrue.example/guard/msgpack"
 )
 
-// maxKeys is how many keys of an answer are read.
+// maxKeys is the maximum number of keys of a node, and of the keys that are read of a response.
 const maxKeys = 1024
 
-// keyAsked is what a query of keys carries.
-type keyAsked struct{ Key []byte }
+// keyRequest is the payload of a query about keys.
+type keyRequest struct{ Key []byte }
 
-func writeKeyAsked(key []byte) []byte { return written(keyAsked{key}, keyAskedType) }
+func encodeKeyRequest(key []byte) []byte { return encode(keyRequest{key}, keyRequestType) }
 
-func readKeyAsked(payload []byte) ([]byte, error) {
-	var found keyAsked
-	if err := readWhole(payload, keyAskedType, &found); err != nil {
-		return nil, fmt.Errorf("a query of keys: %w", err)
+func decodeKeyRequest(payload []byte) ([]byte, error) {
+	var found keyRequest
+	if err := decodeWhole(payload, keyRequestType, &found); err != nil {
+		return nil, fmt.Errorf("query about keys: %w", err)
 	}
 	return found.Key, nil
 }
 
-// keyAnswered is what a node says of its keys.
-type keyAnswered struct {
+// nodeKeyResponse is a node's response to such a query.
+type nodeKeyResponse struct {
 	Result     bool
 	Message    string
 	Keys       []string
 	PrimaryKey string
 }
 
-func writeKeyAnswered(answer keyAnswered) []byte { return written(answer, keyAnsweredType) }
+func encodeKeyResponse(answer nodeKeyResponse) []byte { return encode(answer, keyResponseType) }
 
-func readKeyAnswered(payload []byte) (keyAnswered, error) {
-	var found keyAnswered
-	err := readWhole(payload, keyAnsweredType, &found)
+func decodeKeyResponse(payload []byte) (nodeKeyResponse, error) {
+	var found nodeKeyResponse
+	err := decodeWhole(payload, keyResponseType, &found)
 	if err == nil && len(found.Keys) > maxKeys {
 		err = msgpack.ErrLong
 	}
 	if err != nil {
-		return keyAnswered{}, fmt.Errorf("an answer of keys: %w", err)
+		return nodeKeyResponse{}, fmt.Errorf("response about keys: %w", err)
 	}
 	return found, nil
 }
 
-// asMember is the answer to who a member is. (Who it is, is asked; its tags may be too long for an answer.)
-type asMember struct {
+// wireMember is the response to a query that asks which node has a name. Its tags are left empty, since they might be too long for a
+// response.
+type wireMember struct {
 	Addr                                  []byte
 	DelegateCur, DelegateMax, DelegateMin uint8
 	Name                                  string
@@ -56,21 +57,22 @@ type asMember struct {
 	Tags                                  map[string]string
 }
 
-// writeMember makes that answer; nil is nobody.
-func writeMember(m *Member) []byte {
+// encodeMember encodes that response; nil means that no member has the name.
+func encodeMember(m *Member) []byte {
 	if m == nil {
-		return written(nil, conflictType)
+		return encode(nil, conflictResponseType)
 	}
-	return written(asMember{
-		short(m.Addr), m.DelegateCur, m.DelegateMax, m.DelegateMin, m.Name, m.Port, m.ProtocolCur, m.ProtocolMax, m.ProtocolMin, m.Status, map[string]string{},
-	}, conflictType)
+	return encode(wireMember{
+		shortIP(m.Addr), m.DelegateCur, m.DelegateMax, m.DelegateMin, m.Name, m.Port,
+		m.ProtocolCur, m.ProtocolMax, m.ProtocolMin, m.Status, map[string]string{},
+	}, conflictResponseType)
 }
 
-// readMember reads where a member is.
-func readMember(payload []byte) (addr net.IP, port uint16, err error) {
-	var found asMember
-	if err := readWhole(payload, conflictType, &found); err != nil {
-		return nil, 0, fmt.Errorf("an answer of who a member is: %w", err)
+// decodeMemberAddr decodes the address and the port of that response.
+func decodeMemberAddr(payload []byte) (addr net.IP, port uint16, err error) {
+	var found wireMember
+	if err := decodeWhole(payload, conflictResponseType, &found); err != nil {
+		return nil, 0, fmt.Errorf("response about a member: %w", err)
 	}
 	return found.Addr, found.Port, nil
 }

@@ -5,18 +5,18 @@ import "sync/atomic"
 // LamportTime is a time of a Lamport clock.
 type LamportTime uint64
 
-// LamportClock is a Lamport clock, which many goroutines may use at once. The clocks of a node are the proved agent's, and not of this
-// type: it is here for programs that have clocks of their own.
+// LamportClock is a Lamport clock that many goroutines may use at once. It is for programs that need their own clocks. A node's clocks
+// are those of the proved agent, which are not of this type.
 type LamportClock struct{ counter atomic.Uint64 }
 
-// Time is the clock's time.
+// Time returns the clock's time.
 func (l *LamportClock) Time() LamportTime { return LamportTime(l.counter.Load()) }
 
-// Increment moves the clock on by one, and gives its time then.
+// Increment advances the clock by one and returns its new time.
 func (l *LamportClock) Increment() LamportTime { return LamportTime(l.counter.Add(1)) }
 
-// Witness moves the clock above a time that came from elsewhere, where it isn't above it already. The greatest time of all moves
-// nothing, since no time is above it.
+// Witness advances the clock beyond a time that was received, unless it is later already. The largest time, 2^64 - 1, has no effect, since
+// no time is later.
 func (l *LamportClock) Witness(v LamportTime) {
 	for {
 		now := l.counter.Load()

@@ -5,10 +5,10 @@ import (
 	"net"
 )
 
-// MemberStatus is how a member stands.
+// MemberStatus is the status of a member.
 type MemberStatus int
 
-// How members stand.
+// The statuses of members.
 const (
 	StatusNone MemberStatus = iota
 	StatusAlive
@@ -19,7 +19,7 @@ const (
 
 var memberStatuses = []string{"none", "alive", "leaving", "left", "failed"}
 
-// String panics, as Serf's does, where there is no such status.
+// String panics if there is no such status, as Serf's does.
 func (s MemberStatus) String() string {
 	if s < 0 || int(s) >= len(memberStatuses) {
 		panic(fmt.Sprintf("unknown MemberStatus: %d", int(s)))
@@ -27,7 +27,7 @@ func (s MemberStatus) String() string {
 	return memberStatuses[s]
 }
 
-// Member is a node of the cluster, as this one knows it.
+// Member is a node of the cluster, as this node knows it.
 type Member struct {
 	Name   string
 	Addr   net.IP
@@ -35,7 +35,7 @@ type Member struct {
 	Tags   map[string]string
 	Status MemberStatus
 
-	// The versions of memberlist's protocol, and of Serf's, that it understands and speaks.
+	// The versions of memberlist's protocol, and of Serf's, that the node supports and speaks.
 	ProtocolMin uint8
 	ProtocolMax uint8
 	ProtocolCur uint8

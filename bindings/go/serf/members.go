@@ -13,261 +13,267 @@ import (
 	"kitchenrue.example/serfagent"
 )
 
-// maxIntents is how many intents of members that aren't known may wait.
+// maxIntents is the maximum number of intents that are held for nodes that aren't members yet.
 const maxIntents = 4096
 
-// memberList is the members. Its lock is held for a moment only: memberlist may ask at any time. What it tells, it tells outside of
-// that lock, in order, one at a time.
+// memberList has the members. Its lock is held only briefly, since memberlist may call at any time. It reports changes without holding the
+// lock, one at a time and in order.
 type memberList struct {
 	self string
 	log  *log.Logger
-	// intentTime is how long an intent of a member that isn't known waits for it.
-	intentTime time.Duration
-	// flapTime is how soon a member that failed has to be back so that it flaps.
-	flapTime time.Duration
-	// tell gets each event, and keep each line for the snapshot. Neither may wait.
-	tell func(MemberEvent)
-	keep func(line string)
+	// intentTimeout is how long an intent is held for a node that isn't a member yet.
+	intentTimeout time.Duration
+	// flapTimeout is how soon a failed member has to be alive again to count as flapping.
+	flapTimeout time.Duration
+	// report receives each event, and addLine each line for the snapshot. Neither may block.
+	report  func(MemberEvent)
+	addLine func(line string)
 
 	mu      sync.Mutex
 	members map[string]*member
-	// last is this node as it was when it was forgotten, behind a leave.
-	last    Member
-	intents map[string]heldIntent
-	waiting []toldOf
-	isBusy  bool
-	// known is how many members are known.
+	// forgottenSelf is this node as it was when it was forgotten after a leave.
+	forgottenSelf Member
+	intents       map[string]pendingIntent
+	unreported    []memberChange
+	isReporting   bool
+	// known is the number of members.
 	known atomic.Int64
 }
 
-// member is one, with the time of its status.
+// member is a member, with the time of its status.
 type member struct {
 	Member
 	time uint64
-	// since is when it failed or left.
-	since time.Time
-	// isPruned: when it has left, it is forgotten.
+	// changedAt is when the member failed or left.
+	changedAt time.Time
+	// isPruned: the member is to be forgotten when it has left.
 	isPruned bool
 }
 
-type heldIntent struct {
+type pendingIntent struct {
 	serfagent.Intent
 	at time.Time
 }
 
-// toldOf is what is to be told of a member.
-type toldOf struct {
+// memberChange is a change to report: an event, and the line for the snapshot or an empty text.
+type memberChange struct {
 	event MemberEvent
 	line  string
 }
 
-// newMembers makes an empty list.
-func newMembers(c *Config, logger *log.Logger, tell func(MemberEvent), keep func(string)) *memberList {
+// newMembers returns an empty list.
+func newMembers(c *Config, logger *log.Logger, report func(MemberEvent), addLine func(string)) *memberList {
 	return &memberList{
-		self: c.NodeName, log: logger, intentTime: c.RecentIntentTimeout, flapTime: c.FlapTimeout, tell: tell, keep: keep, members: map[string]*member{}, intents: map[string]heldIntent{},
+		self: c.NodeName, log: logger, intentTimeout: c.RecentIntentTimeout, flapTimeout: c.FlapTimeout,
+		report: report, addLine: addLine, members: map[string]*member{}, intents: map[string]pendingIntent{},
 	}
 }
 
-// change makes a change under the lock, and tells what it noted behind it.
-func (l *memberList) change(made func()) {
+// change applies a change under the lock, and then reports what the change recorded.
+func (l *memberList) change(apply func()) {
 	l.mu.Lock()
 	defer l.mu.Unlock()
-	made()
-	for len(l.waiting) > 0 && !l.isBusy {
-		first := l.waiting[0]
-		l.waiting = l.waiting[1:]
-		l.isBusy = true
+	apply()
+	for len(l.unreported) > 0 && !l.isReporting {
+		first := l.unreported[0]
+		l.unreported = l.unreported[1:]
+		l.isReporting = true
 		l.mu.Unlock()
 		if first.line != "" {
-			l.keep(first.line)
+			l.addLine(first.line)
 		}
-		l.tell(first.event)
+		l.report(first.event)
 		l.mu.Lock()
-		l.isBusy = false
+		l.isReporting = false
 	}
 }
 
-func (l *memberList) note(kind EventType, m *member, line string) {
-	if word, is := countedChanges[kind]; is {
-		countOf("member", word)
+// record records a change, which is reported once the lock is released. mu is held.
+func (l *memberList) record(kind EventType, m *member, line string) {
+	if metric, ok := changeMetrics[kind]; ok {
+		incrCounter("member", metric)
 	}
 	l.known.Store(int64(len(l.members)))
-	l.waiting = append(l.waiting, toldOf{MemberEvent{kind, []Member{m.Member}}, line})
+	l.unreported = append(l.unreported, memberChange{MemberEvent{kind, []Member{m.Member}}, line})
 }
 
-// countedChanges are Serf's names for what happens to members.
-var countedChanges = map[EventType]string{EventMemberJoin: "join", EventMemberLeave: "left", EventMemberFailed: "failed", EventMemberUpdate: "update"}
+// changeMetrics has Serf's metric names of these changes.
+var changeMetrics = map[EventType]string{
+	EventMemberJoin: "join", EventMemberLeave: "left", EventMemberFailed: "failed", EventMemberUpdate: "update",
+}
 
-func alive(m *member) string {
+func aliveLine(m *member) string {
 	return "alive: " + m.Name + " " + net.JoinHostPort(m.Addr.String(), strconv.Itoa(int(m.Port))) + "\n"
 }
 
-func notAlive(m *member) string { return "not-alive: " + m.Name + "\n" }
+func notAliveLine(m *member) string { return "not-alive: " + m.Name + "\n" }
 
-// joined takes a member that is there.
-func (l *memberList) joined(is Member) {
+// memberJoined receives a member that is alive.
+func (l *memberList) memberJoined(joined Member) {
 	l.change(func() {
-		m := l.members[is.Name]
+		m := l.members[joined.Name]
 		if m == nil {
 			m = &member{}
-			l.members[is.Name] = m
+			l.members[joined.Name] = m
 		}
-		if m.Status == StatusFailed && time.Since(m.since) < l.flapTime {
-			countOf("member", "flap")
+		if m.Status == StatusFailed && time.Since(m.changedAt) < l.flapTimeout {
+			incrCounter("member", "flap")
 		}
-		m.Member, m.since, m.isPruned = is, time.Time{}, false
+		m.Member, m.changedAt, m.isPruned = joined, time.Time{}, false
 		m.Status = StatusAlive
-		if waits, has := l.intents[is.Name]; has {
-			delete(l.intents, is.Name)
-			if waits.Time > m.time && time.Since(waits.at) < l.intentTime {
-				m.time = waits.Time
-				if waits.Leave {
-					m.Status, m.isPruned = StatusLeaving, waits.Prune
+		if pending, hasIntent := l.intents[joined.Name]; hasIntent {
+			delete(l.intents, joined.Name)
+			if pending.Time > m.time && time.Since(pending.at) < l.intentTimeout {
+				m.time = pending.Time
+				if pending.Leave {
+					m.Status, m.isPruned = StatusLeaving, pending.Prune
 				}
 			}
 		}
 		l.log.Printf("[INFO] serf: EventMemberJoin: %s %s", m.Name, m.Addr)
-		l.note(EventMemberJoin, m, alive(m))
+		l.record(EventMemberJoin, m, aliveLine(m))
 	})
 }
 
-// gone takes a member that isn't there any more: it has left where it said so before, and failed otherwise.
-func (l *memberList) gone(name string) {
+// memberLeft receives a member that memberlist no longer has: it left if it announced that before, and failed otherwise.
+func (l *memberList) memberLeft(name string) {
 	l.change(func() {
 		m := l.members[name]
 		if m == nil || m.Status == StatusLeft || m.Status == StatusFailed {
 			return
 		}
-		m.since = time.Now()
+		m.changedAt = time.Now()
 		if m.Status == StatusLeaving {
-			l.left(m)
+			l.markLeft(m)
 			return
 		}
 		m.Status = StatusFailed
 		l.log.Printf("[INFO] serf: EventMemberFailed: %s %s", m.Name, m.Addr)
-		l.note(EventMemberFailed, m, notAlive(m))
+		l.record(EventMemberFailed, m, notAliveLine(m))
 	})
 }
 
-// left notes that a member has left, and forgets it where it is to be.
-func (l *memberList) left(m *member) {
+// markLeft records that a member left, and forgets it if it is to be pruned.
+func (l *memberList) markLeft(m *member) {
 	m.Status = StatusLeft
 	l.log.Printf("[INFO] serf: EventMemberLeave: %s %s", m.Name, m.Addr)
-	l.note(EventMemberLeave, m, notAlive(m))
+	l.record(EventMemberLeave, m, notAliveLine(m))
 	if m.isPruned {
 		l.forget(m, "forced")
 	}
 }
 
-func (l *memberList) forget(m *member, why string) {
+// forget removes a member. mu is held.
+func (l *memberList) forget(m *member, reason string) {
 	delete(l.members, m.Name)
-	l.log.Printf("[INFO] serf: EventMemberReap (%s): %s %s", why, m.Name, m.Addr)
-	l.note(EventMemberReap, m, "")
+	l.log.Printf("[INFO] serf: EventMemberReap (%s): %s %s", reason, m.Name, m.Addr)
+	l.record(EventMemberReap, m, "")
 }
 
-// updated takes a member's new tags.
-func (l *memberList) updated(is Member) {
+// memberUpdated receives a member whose tags changed.
+func (l *memberList) memberUpdated(updated Member) {
 	l.change(func() {
-		m := l.members[is.Name]
+		m := l.members[updated.Name]
 		if m == nil {
 			return
 		}
 		status := m.Status
-		m.Member = is
+		m.Member = updated
 		m.Status = status
 		l.log.Printf("[INFO] serf: EventMemberUpdate: %s", m.Name)
-		l.note(EventMemberUpdate, m, "")
+		l.record(EventMemberUpdate, m, "")
 	})
 }
 
-// outcome is what came of an intent.
-type outcome struct {
-	// isNew: it is to be sent on.
+// intentOutcome is the result of an intent.
+type intentOutcome struct {
+	// isNew: the intent is to be sent on.
 	isNew bool
-	// isWrong: it says that this node leaves, which it doesn't. The others have to be told.
-	isWrong bool
+	// isWronglyLeft: the intent says that this node leaves, but it does not. The node has to refute that.
+	isWronglyLeft bool
 }
 
-// take takes an intent. It counts where its time is above the one that is known of the member.
-func (l *memberList) take(is serfagent.Intent) (found outcome) {
-	l.change(func() { found = l.intend(is) })
+// receiveIntent applies an intent. It has an effect only if its time is larger than that of the member's status.
+func (l *memberList) receiveIntent(intent serfagent.Intent) (found intentOutcome) {
+	l.change(func() { found = l.applyIntent(intent) })
 	return found
 }
 
-func (l *memberList) intend(is serfagent.Intent) outcome {
-	m := l.members[string(is.Node)]
+// applyIntent is receiveIntent with mu held.
+func (l *memberList) applyIntent(intent serfagent.Intent) intentOutcome {
+	m := l.members[string(intent.Node)]
 	if m == nil {
-		return outcome{isNew: l.wait(is)}
+		return intentOutcome{isNew: l.holdIntent(intent)}
 	}
-	if is.Time <= m.time {
-		return outcome{}
+	if intent.Time <= m.time {
+		return intentOutcome{}
 	}
-	if is.Leave && string(is.Node) == l.self && m.Status == StatusAlive {
-		return outcome{isWrong: true}
+	if intent.Leave && string(intent.Node) == l.self && m.Status == StatusAlive {
+		return intentOutcome{isWronglyLeft: true}
 	}
-	m.time = is.Time
-	if !is.Leave {
+	m.time = intent.Time
+	if !intent.Leave {
 		if m.Status == StatusLeaving {
 			m.Status, m.isPruned = StatusAlive, false
 		}
-		return outcome{isNew: true}
+		return intentOutcome{isNew: true}
 	}
-	m.isPruned = m.isPruned || is.Prune
+	m.isPruned = m.isPruned || intent.Prune
 	switch m.Status {
 	case StatusAlive:
 		m.Status = StatusLeaving
 	case StatusFailed:
-		m.since = time.Now()
-		l.left(m)
+		m.changedAt = time.Now()
+		l.markLeft(m)
 	case StatusLeft:
-		if is.Prune {
+		if intent.Prune {
 			l.forget(m, "forced")
 		}
 	}
-	return outcome{isNew: true}
+	return intentOutcome{isNew: true}
 }
 
-// wait keeps an intent of a member that isn't known, where there is room: whether it is new. One of a name that no member can
-// have is none.
-func (l *memberList) wait(is serfagent.Intent) bool {
-	now, name := time.Now(), string(is.Node)
-	if name == "" || len(name) > greatestName {
+// holdIntent holds an intent for a node that isn't a member yet, and reports whether it is new. It holds none for a name that no member can
+// have, and none if maxIntents are held.
+func (l *memberList) holdIntent(intent serfagent.Intent) bool {
+	now, name := time.Now(), string(intent.Node)
+	if name == "" || len(name) > maxNameLength {
 		return false
 	}
-	if old, has := l.intents[name]; has && old.Time >= is.Time {
+	if old, isHeld := l.intents[name]; isHeld && old.Time >= intent.Time {
 		return false
-	} else if !has && len(l.intents) >= maxIntents {
+	} else if !isHeld && len(l.intents) >= maxIntents {
 		return false
 	}
-	l.intents[name] = heldIntent{is, now}
+	l.intents[name] = pendingIntent{intent, now}
 	return true
 }
 
-// merged takes what another node's state says: who left, and the times of the others. It says whether that is wrong of this
-// node.
-func (l *memberList) merged(said *serfagent.Members) (isWrong bool) {
-	times := make(map[string]uint64, len(said.Statuses))
-	for _, one := range said.Statuses {
-		times[one.Name] = one.Time
+// mergeState applies the statuses of another node's state: which members left, and the times of the others. It reports whether the state
+// says wrongly that this node left.
+func (l *memberList) mergeState(state *serfagent.Members) (isWronglyLeft bool) {
+	times := make(map[string]uint64, len(state.Statuses))
+	for _, status := range state.Statuses {
+		times[status.Name] = status.Time
 	}
 	l.change(func() {
-		for _, name := range said.Left {
-			if l.intend(serfagent.Intent{Time: times[name], Node: []byte(name), Leave: true}).isWrong {
-				isWrong = true
+		for _, name := range state.Left {
+			if l.applyIntent(serfagent.Intent{Time: times[name], Node: []byte(name), Leave: true}).isWronglyLeft {
+				isWronglyLeft = true
 			}
 		}
-		for _, name := range said.Left {
+		for _, name := range state.Left {
 			delete(times, name)
 		}
 		for name, time := range times {
-			l.intend(serfagent.Intent{Time: time, Node: []byte(name)})
+			l.applyIntent(serfagent.Intent{Time: time, Node: []byte(name)})
 		}
 	})
-	return isWrong
+	return isWronglyLeft
 }
 
-// own says how this node stands, from a time on.
-func (l *memberList) own(status MemberStatus, time uint64) {
+// setOwnStatus sets the status of this node and its time.
+func (l *memberList) setOwnStatus(status MemberStatus, time uint64) {
 	l.change(func() {
 		if m := l.members[l.self]; m != nil {
 			m.Status = status
@@ -278,31 +284,31 @@ func (l *memberList) own(status MemberStatus, time uint64) {
 	})
 }
 
-// reap forgets the members that failed or left long ago, this node itself only where it is gone by a leave, and the intents that nobody
-// claimed.
-func (l *memberList) reap(failedFor, leftFor time.Duration, isGone bool) {
+// reap forgets the members that failed or left long ago, and the held intents whose node never joined. It forgets this node itself only
+// after it left.
+func (l *memberList) reap(failedFor, leftFor time.Duration, hasLeft bool) {
 	l.change(func() {
 		now := time.Now()
 		for _, m := range l.members {
-			if m.Name == l.self && !isGone {
+			if m.Name == l.self && !hasLeft {
 				continue
 			}
-			if m.Status == StatusFailed && now.Sub(m.since) > failedFor || m.Status == StatusLeft && now.Sub(m.since) > leftFor {
+			if m.Status == StatusFailed && now.Sub(m.changedAt) > failedFor || m.Status == StatusLeft && now.Sub(m.changedAt) > leftFor {
 				if m.Name == l.self {
-					l.last = m.Member
+					l.forgottenSelf = m.Member
 				}
 				l.forget(m, "timeout")
 			}
 		}
-		for name, waits := range l.intents {
-			if now.Sub(waits.at) > l.intentTime {
+		for name, pending := range l.intents {
+			if now.Sub(pending.at) > l.intentTimeout {
 				delete(l.intents, name)
 			}
 		}
 	})
 }
 
-// all are the members, by name.
+// all returns the members, sorted by name.
 func (l *memberList) all() []Member {
 	l.mu.Lock()
 	defer l.mu.Unlock()
@@ -314,17 +320,17 @@ func (l *memberList) all() []Member {
 	return all
 }
 
-// ownMember is this node, also behind a leave when it was forgotten.
+// ownMember returns this node, even after a leave, when it is no longer among the members.
 func (l *memberList) ownMember() Member {
-	if found, is := l.get(l.self); is {
+	if found, ok := l.get(l.self); ok {
 		return found
 	}
 	l.mu.Lock()
 	defer l.mu.Unlock()
-	return l.last
+	return l.forgottenSelf
 }
 
-// get is a member, and false where it isn't known.
+// get returns a member, and false if there is none of this name.
 func (l *memberList) get(name string) (Member, bool) {
 	l.mu.Lock()
 	defer l.mu.Unlock()
@@ -335,7 +341,7 @@ func (l *memberList) get(name string) (Member, bool) {
 	return m.Member, true
 }
 
-// count is how many members stand so.
+// count returns how many members have a status.
 func (l *memberList) count(status MemberStatus) int {
 	l.mu.Lock()
 	defer l.mu.Unlock()
@@ -348,25 +354,25 @@ func (l *memberList) count(status MemberStatus) int {
 	return count
 }
 
-// size is how many members are known. It takes no lock.
+// size returns the number of members. It takes no lock.
 func (l *memberList) size() int { return int(l.known.Load()) }
 
-// lines are those of the snapshot for the members that are there.
-func (l *memberList) lines() []string {
+// aliveLines returns the snapshot's lines of the members that are alive or leaving.
+func (l *memberList) aliveLines() []string {
 	l.mu.Lock()
 	defer l.mu.Unlock()
 	lines := make([]string, 0, len(l.members))
 	for _, m := range l.members {
 		if m.Status == StatusAlive || m.Status == StatusLeaving {
-			lines = append(lines, alive(m))
+			lines = append(lines, aliveLine(m))
 		}
 	}
 	sort.Strings(lines)
 	return lines
 }
 
-// states are the times of all members' status, and who left.
-func (l *memberList) states() (statuses []serfagent.Status, left []string) {
+// statuses returns the times of all members' statuses, and the names of those that left.
+func (l *memberList) statuses() (statuses []serfagent.Status, left []string) {
 	l.mu.Lock()
 	defer l.mu.Unlock()
 	statuses = make([]serfagent.Status, 0, len(l.members))
@@ -379,8 +385,8 @@ func (l *memberList) states() (statuses []serfagent.Status, left []string) {
 	return statuses, left
 }
 
-// failed is one of the members that failed, by chance, as often as Serf tries them; false where it is none's turn.
-func (l *memberList) failed() (Member, bool) {
+// pickFailed returns a random failed member, with the probability with which Serf tries to reconnect; false if none is to be tried now.
+func (l *memberList) pickFailed() (Member, bool) {
 	l.mu.Lock()
 	defer l.mu.Unlock()
 	var failed []*member
@@ -402,8 +408,8 @@ func (l *memberList) failed() (Member, bool) {
 	return failed[rand.Intn(len(failed))].Member, true
 }
 
-// others are up to so many members that are there, by chance, without these.
-func (l *memberList) others(count int, without ...string) []Member {
+// pickOthers returns up to count random members that are alive, except this node and the named ones.
+func (l *memberList) pickOthers(count int, without ...string) []Member {
 	l.mu.Lock()
 	defer l.mu.Unlock()
 	var found []Member

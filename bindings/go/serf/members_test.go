@@ -13,55 +13,57 @@ import (
 	"kitchenrue.example/serfagent"
 )
 
-// cluster is a list, and what it told.
-type cluster struct {
+// testMembers is a member list, with the events and the lines that it reported.
+type testMembers struct {
 	*memberList
-	told, kept []string
+	events, lines []string
 }
 
-func newCluster() *cluster {
-	c := &cluster{}
-	conf := quiet("self")
+func newTestMembers() *testMembers {
+	c := &testMembers{}
+	conf := loopbackConfig("self")
 	c.memberList = newMembers(&conf, log.New(io.Discard, "", 0), func(e MemberEvent) {
-		c.told = append(c.told, e.String()+" "+e.Members[0].Name)
-	}, func(line string) { c.kept = append(c.kept, line) })
-	c.joined(node("self"))
-	c.told, c.kept = nil, nil
+		c.events = append(c.events, e.String()+" "+e.Members[0].Name)
+	}, func(line string) { c.lines = append(c.lines, line) })
+	c.memberJoined(aliveMember("self"))
+	c.events, c.lines = nil, nil
 	return c
 }
 
-func node(name string) Member {
+func aliveMember(name string) Member {
 	return Member{Name: name, Addr: net.IPv4(127, 0, 0, 1), Port: 7946}
 }
 
-func (c *cluster) do(words string) string {
-	var said []string
+// run applies steps such as "join a; leaves a 3; gone a", and returns the outcomes of the intents. memberlist reports join, update and
+// gone. The steps came, leaves and pruned are intents with a time.
+func (c *testMembers) run(words string) string {
+	var outcomes []string
 	for _, step := range strings.Split(words, "; ") {
 		var what, name string
 		var time uint64
 		fmt.Sscan(step, &what, &name, &time)
 		switch what {
 		case "join":
-			c.joined(node(name))
+			c.memberJoined(aliveMember(name))
 		case "gone":
-			c.gone(name)
+			c.memberLeft(name)
 		case "update":
-			c.updated(node(name))
+			c.memberUpdated(aliveMember(name))
 		case "came", "leaves", "pruned":
-			outcome := c.take(serfagent.Intent{Time: time, Node: []byte(name), Leave: what != "came", Prune: what == "pruned"})
+			outcome := c.receiveIntent(serfagent.Intent{Time: time, Node: []byte(name), Leave: what != "came", Prune: what == "pruned"})
 			if outcome.isNew {
-				said = append(said, "new")
+				outcomes = append(outcomes, "new")
 			}
-			if outcome.isWrong {
-				said = append(said, "wrong")
+			if outcome.isWronglyLeft {
+				outcomes = append(outcomes, "wrong")
 			}
 		}
 	}
-	return strings.Join(said, " ")
+	return strings.Join(outcomes, " ")
 }
 
-func TestWays(t *testing.T) {
-	for _, one := range []struct{ words, said, status, told string }{
+func TestMemberHistories(t *testing.T) {
+	for _, test := range []struct{ words, outcomes, status, events string }{
 		{"join a", "", "alive", "member-join a"},
 		{"join a; gone a", "", "failed", "member-join a, member-failed a"},
 		{"join a; gone a; gone a", "", "failed", "member-join a, member-failed a"},
@@ -86,34 +88,34 @@ func TestWays(t *testing.T) {
 		{"came self 3; leaves self 3", "new", "", ""},
 		{"gone b", "", "", ""},
 	} {
-		c := newCluster()
-		said := c.do(one.words)
+		c := newTestMembers()
+		outcomes := c.run(test.words)
 		status := ""
-		if m, is := c.get("a"); is {
+		if m, ok := c.get("a"); ok {
 			status = m.Status.String()
 		}
-		if told := strings.Join(c.told, ", "); said != one.said || status != one.status || told != one.told {
-			t.Errorf("%s: %q %q %q", one.words, said, status, told)
+		if events := strings.Join(c.events, ", "); outcomes != test.outcomes || status != test.status || events != test.events {
+			t.Errorf("%s: %q %q %q", test.words, outcomes, status, events)
 		}
 	}
 }
 
-func TestLines(t *testing.T) {
-	c := newCluster()
-	c.do("join a; join b; gone a; leaves b 3; gone b; join c")
+func TestSnapshotLines(t *testing.T) {
+	c := newTestMembers()
+	c.run("join a; join b; gone a; leaves b 3; gone b; join c")
 	want := []string{"alive: a 127.0.0.1:7946\n", "alive: b 127.0.0.1:7946\n", "not-alive: a\n", "not-alive: b\n", "alive: c 127.0.0.1:7946\n"}
-	if !reflect.DeepEqual(c.kept, want) {
-		t.Error(c.kept)
+	if !reflect.DeepEqual(c.lines, want) {
+		t.Error(c.lines)
 	}
-	if lines := c.lines(); !reflect.DeepEqual(lines, []string{want[4], "alive: self 127.0.0.1:7946\n"}) {
+	if lines := c.aliveLines(); !reflect.DeepEqual(lines, []string{want[4], "alive: self 127.0.0.1:7946\n"}) {
 		t.Error(lines)
 	}
 }
 
-func TestMerging(t *testing.T) {
-	one, two := newCluster(), newCluster()
-	one.do("join a; came a 2; join b; leaves b 3; gone b; join c; gone c")
-	statuses, left := one.states()
+func TestMergeState(t *testing.T) {
+	first, second := newTestMembers(), newTestMembers()
+	first.run("join a; came a 2; join b; leaves b 3; gone b; join c; gone c")
+	statuses, left := first.statuses()
 	times := map[string]uint64{}
 	for _, status := range statuses {
 		times[status.Name] = status.Time
@@ -121,119 +123,119 @@ func TestMerging(t *testing.T) {
 	if !reflect.DeepEqual(left, []string{"b"}) || !reflect.DeepEqual(times, map[string]uint64{"self": 0, "a": 2, "b": 3, "c": 0}) {
 		t.Error(statuses, left)
 	}
-	two.do("join a; leaves a 1; join b")
-	if two.merged(&serfagent.Members{Statuses: statuses, Left: left}) {
-		t.Error("it is wrong of nobody")
+	second.run("join a; leaves a 1; join b")
+	if second.mergeState(&serfagent.Members{Statuses: statuses, Left: left}) {
+		t.Error("a state is wrong, although it says nothing of this node")
 	}
-	two.do("gone a; gone b")
-	if a, _ := two.get("a"); a.Status != StatusFailed {
+	second.run("gone a; gone b")
+	if a, _ := second.get("a"); a.Status != StatusFailed {
 		t.Error(a.Status)
 	}
-	if b, _ := two.get("b"); b.Status != StatusLeft {
+	if b, _ := second.get("b"); b.Status != StatusLeft {
 		t.Error(b.Status)
 	}
-	if !two.merged(&serfagent.Members{Statuses: []serfagent.Status{{Name: "self", Time: 9}}, Left: []string{"self"}}) {
-		t.Error("this node has not left")
+	if !second.mergeState(&serfagent.Members{Statuses: []serfagent.Status{{Name: "self", Time: 9}}, Left: []string{"self"}}) {
+		t.Error("a state that says that this node left is not wrong")
 	}
 }
 
-func TestReaping(t *testing.T) {
-	c := newCluster()
-	c.do("join a; gone a; join b; leaves b 3; gone b; join c")
+func TestReap(t *testing.T) {
+	c := newTestMembers()
+	c.run("join a; gone a; join b; leaves b 3; gone b; join c")
 	c.reap(time.Hour, time.Hour, false)
 	if c.size() != 4 {
 		t.Error(c.size())
 	}
 	c.reap(-1, time.Hour, false)
-	if _, is := c.get("a"); is || c.size() != 3 {
-		t.Error("a is there")
+	if _, ok := c.get("a"); ok || c.size() != 3 {
+		t.Error("a was not forgotten")
 	}
 	c.reap(time.Hour, -1, false)
-	if _, is := c.get("b"); is || c.size() != 2 || c.count(StatusAlive) != 2 {
-		t.Error("b is there")
+	if _, ok := c.get("b"); ok || c.size() != 2 || c.count(StatusAlive) != 2 {
+		t.Error("b was not forgotten")
 	}
 }
 
-func TestIntentsAreBounded(t *testing.T) {
-	c := newCluster()
+func TestHeldIntentsAreLimited(t *testing.T) {
+	c := newTestMembers()
 	for i := 0; i < 2*maxIntents; i++ {
-		if new := c.do(fmt.Sprintf("leaves n%d 3", i)) == "new"; new != (i < maxIntents) {
+		if new := c.run(fmt.Sprintf("leaves n%d 3", i)) == "new"; new != (i < maxIntents) {
 			t.Fatal(i)
 		}
 	}
-	if c.do("leaves n0 4") != "new" || len(c.intents) != maxIntents {
-		t.Error("a known one is taken")
+	if c.run("leaves n0 4") != "new" || len(c.intents) != maxIntents {
+		t.Error("a newer intent for a held name was refused")
 	}
 }
 
-func TestIntentsOfNamesThatNobodyHas(t *testing.T) {
-	c := newCluster()
+func TestIntentsOfImpossibleNames(t *testing.T) {
+	c := newTestMembers()
 	for _, name := range []string{"", strings.Repeat("x", 129)} {
-		if c.take(serfagent.Intent{Time: 3, Node: []byte(name), Leave: true}).isNew || len(c.intents) > 0 {
-			t.Errorf("%q is kept", name)
+		if c.receiveIntent(serfagent.Intent{Time: 3, Node: []byte(name), Leave: true}).isNew || len(c.intents) > 0 {
+			t.Errorf("an intent for %q is held", name)
 		}
 	}
-	if c.do("leaves "+strings.Repeat("x", 128)+" 3") != "new" {
-		t.Error("a name of 128 bytes is one")
+	if c.run("leaves "+strings.Repeat("x", 128)+" 3") != "new" {
+		t.Error("an intent for a name of 128 bytes was refused")
 	}
 }
 
-func TestReconnecting(t *testing.T) {
-	c := newCluster()
-	if _, is := c.failed(); is {
-		t.Error("nobody failed")
+func TestPickFailedAndOthers(t *testing.T) {
+	c := newTestMembers()
+	if _, ok := c.pickFailed(); ok {
+		t.Error("a member was picked, although none failed")
 	}
-	c.do("join a; gone a")
-	if m, is := c.failed(); !is || m.Name != "a" {
-		t.Error(m, is)
+	c.run("join a; gone a")
+	if m, ok := c.pickFailed(); !ok || m.Name != "a" {
+		t.Error(m, ok)
 	}
-	c.do("join b; join c; join d")
-	if others := c.others(2, "b"); len(others) != 2 || others[0].Name == "b" || others[1].Name == "b" {
+	c.run("join b; join c; join d")
+	if others := c.pickOthers(2, "b"); len(others) != 2 || others[0].Name == "b" || others[1].Name == "b" {
 		t.Error(others)
 	}
 }
 
-func TestMembersThatLeaveHaveLines(t *testing.T) {
-	c := newCluster()
-	c.do("join a; leaves a 3; join b; gone b")
-	if lines := strings.Join(c.lines(), ""); lines != "alive: a 127.0.0.1:7946\nalive: self 127.0.0.1:7946\n" {
+func TestLeavingMembersHaveLines(t *testing.T) {
+	c := newTestMembers()
+	c.run("join a; leaves a 3; join b; gone b")
+	if lines := strings.Join(c.aliveLines(), ""); lines != "alive: a 127.0.0.1:7946\nalive: self 127.0.0.1:7946\n" {
 		t.Error(lines)
 	}
 }
 
-func TestOldIntentsAreNone(t *testing.T) {
+func TestHeldIntentsExpire(t *testing.T) {
 	for age, status := range map[time.Duration]MemberStatus{0: StatusLeaving, time.Hour: StatusAlive} {
-		c := newCluster()
-		c.do("leaves a 3")
+		c := newTestMembers()
+		c.run("leaves a 3")
 		waits := c.intents["a"]
 		waits.at = time.Now().Add(-age)
 		c.intents["a"] = waits
-		c.do("join a")
+		c.run("join a")
 		if a, _ := c.get("a"); a.Status != status {
 			t.Error(age, a.Status)
 		}
 	}
 }
 
-// Who was to be forgotten, and came again before that, is a member like others.
-func TestAMemberThatComesAgain(t *testing.T) {
-	c := newCluster()
-	c.do("join a; pruned a 4; join a; leaves a 6; gone a")
-	if a, is := c.get("a"); !is || a.Status != StatusLeft {
-		t.Error(a.Status, is, c.told)
+// A member that was to be pruned, and joined again before it left, is an ordinary member.
+func TestPrunedMemberThatRejoins(t *testing.T) {
+	c := newTestMembers()
+	c.run("join a; pruned a 4; join a; leaves a 6; gone a")
+	if a, ok := c.get("a"); !ok || a.Status != StatusLeft {
+		t.Error(a.Status, ok, c.events)
 	}
 }
 
-func TestANodeDoesNotForgetItself(t *testing.T) {
-	c := newCluster()
-	c.own(StatusLeft, 5)
+func TestNodeForgetsItselfOnlyAfterLeave(t *testing.T) {
+	c := newTestMembers()
+	c.setOwnStatus(StatusLeft, 5)
 	c.reap(-1, -1, false)
-	if self, is := c.get("self"); !is || self.Status != StatusLeft {
-		t.Error(self, is)
+	if self, ok := c.get("self"); !ok || self.Status != StatusLeft {
+		t.Error(self, ok)
 	}
-	// behind a leave it does, as Serf's, and still knows who it is
+	// after a leave it does, as Serf's node does, and ownMember still returns it
 	c.reap(-1, -1, true)
-	if _, is := c.get("self"); is || c.ownMember().Name != "self" {
+	if _, ok := c.get("self"); ok || c.ownMember().Name != "self" {
 		t.Error(c.ownMember())
 	}
 }

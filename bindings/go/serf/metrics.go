@@ -7,79 +7,80 @@ import (
 	"github.com/armon/go-metrics"
 )
 
-// What the node counts it gives to go-metrics, under Serf's names: whoever sets a sink, as memberlist's own figures need one, has them all.
+// The node sends its metrics to go-metrics, under Serf's names. A program that sets a global sink receives them, together with
+// memberlist's.
 
-// How many names of events, and how many of queries, are counted each on its own, and how many bytes of a name count. Names come from
-// the network, and a sink keeps each that it was ever told.
+// How many names of events, and of queries, have separate counters, and how many bytes of a name are used. Names come from the network,
+// and a sink keeps every name that it has received.
 const (
-	countedNames  = 128
-	countedLength = 64
+	maxCountedNames  = 128
+	maxCountedLength = 64
 )
 
-// names are those that are counted on their own: the first ones that came.
-type names struct {
+// nameCounter counts events, or queries, by name. Only the first names that arrive have separate counters.
+type nameCounter struct {
 	kind string
 
 	mu sync.Mutex
-	// known are those that came, and fresh how often each did since that was told, by its plain name; all is how often any did.
-	known map[string]*name
-	fresh map[string]*int
-	all   int
+	// known are the names that arrived. unreported has the counts since the last report, by sink name, and total the count of all names.
+	known      map[string]*countedName
+	unreported map[string]*int
+	total      int
 }
 
-// name is a name that came, and how often it did.
-type name struct {
-	text  string
-	fresh *int
+// countedName is a name that arrived, and its count since the last report.
+type countedName struct {
+	text       string
+	unreported *int
 }
 
-func namesOf(kind string) *names {
-	return &names{kind: kind, known: map[string]*name{}, fresh: map[string]*int{}}
+func newNameCounter(kind string) *nameCounter {
+	return &nameCounter{kind: kind, known: map[string]*countedName{}, unreported: map[string]*int{}}
 }
 
-// tellNames tells the sink what events and queries came: once a second, since to tell of one takes longer than to take it.
-func (s *Serf) tellNames() {
-	s.eventNames.tell()
-	s.queryNames.tell()
+// reportNames sends the counts to the sink. It is called once a second, since a report takes longer than processing an event.
+func (s *Serf) reportNames() {
+	s.eventNames.report()
+	s.queryNames.report()
 }
 
-// count counts one of a name, and gives it as a text. A sink is told by tell.
-func (n *names) count(text []byte) string {
+// count adds one to a name's count and returns the name as a string. report sends the count later.
+func (n *nameCounter) count(text []byte) string {
 	n.mu.Lock()
 	defer n.mu.Unlock()
-	n.all++
-	one := n.known[string(text)]
-	if one == nil {
-		if one = n.of(string(text)); len(n.known) < countedNames && len(text) <= countedLength {
-			n.known[one.text] = one
+	n.total++
+	name := n.known[string(text)]
+	if name == nil {
+		if name = n.addName(string(text)); len(n.known) < maxCountedNames && len(text) <= maxCountedLength {
+			n.known[name.text] = name
 		}
 	}
-	*one.fresh++
-	return one.text
+	*name.unreported++
+	return name.text
 }
 
-// of is a name that isn't known, of which its plain name may be.
-func (n *names) of(text string) *name {
-	plain := plainName(text)
-	fresh := n.fresh[plain]
+// addName makes the entry of a name that isn't known yet. Several names may share a sink name, and so a count.
+func (n *nameCounter) addName(text string) *countedName {
+	plain := sinkName(text)
+	fresh := n.unreported[plain]
 	if fresh == nil {
-		if fresh = new(int); len(n.fresh) < countedNames {
-			n.fresh[plain] = fresh
+		if fresh = new(int); len(n.unreported) < maxCountedNames {
+			n.unreported[plain] = fresh
 		}
 	}
-	return &name{text, fresh}
+	return &countedName{text, fresh}
 }
 
-// tell tells the sink what came.
-func (n *names) tell() {
+// report sends the counts to the sink.
+func (n *nameCounter) report() {
 	n.mu.Lock()
 	defer n.mu.Unlock()
-	if n.all == 0 {
+	if n.total == 0 {
 		return
 	}
-	metrics.IncrCounter([]string{"serf", n.kind}, float32(n.all))
-	n.all = 0
-	for name, count := range n.fresh {
+	metrics.IncrCounter([]string{"serf", n.kind}, float32(n.total))
+	n.total = 0
+	for name, count := range n.unreported {
 		if *count > 0 {
 			metrics.IncrCounter([]string{"serf", n.kind, name}, float32(*count))
 			*count = 0
@@ -87,10 +88,10 @@ func (n *names) tell() {
 	}
 }
 
-// plainName is a name with an underline for each character that a sink's protocol could take for its own.
-func plainName(name string) string {
-	if len(name) > countedLength {
-		name = name[:countedLength]
+// sinkName replaces each character that a sink's protocol might interpret by an underscore.
+func sinkName(name string) string {
+	if len(name) > maxCountedLength {
+		name = name[:maxCountedLength]
 	}
 	return strings.Map(func(r rune) rune {
 		if r >= 'a' && r <= 'z' || r >= 'A' && r <= 'Z' || r >= '0' && r <= '9' || r == '-' || r == '.' {
@@ -100,10 +101,10 @@ func plainName(name string) string {
 	}, name)
 }
 
-// countOf counts something.
-func countOf(words ...string) { metrics.IncrCounter(append([]string{"serf"}, words...), 1) }
+// incrCounter adds one to a counter.
+func incrCounter(name ...string) { metrics.IncrCounter(append([]string{"serf"}, name...), 1) }
 
-// What is noted of each packet, or of each burst. (A sink gets a copy where it changes anything.)
+// The metrics of each packet or each burst. (go-metrics copies a key before it changes it.)
 var (
 	receivedKey = []string{"serf", "msgs", "received"}
 	sentKey     = []string{"serf", "msgs", "sent"}
@@ -112,5 +113,5 @@ var (
 	compactKey  = []string{"serf", "snapshot", "compact"}
 )
 
-// sample notes a size.
-func sample(size int, key []string) { metrics.AddSample(key, float32(size)) }
+// addSample adds a size to a metric.
+func addSample(size int, key []string) { metrics.AddSample(key, float32(size)) }

@@ -10,27 +10,29 @@ import (
 	"github.com/armon/go-metrics"
 )
 
-// tally is a sink that adds up.
-type tally struct {
+// sumSink is a metrics sink that adds up values.
+type sumSink struct {
 	metrics.BlackholeSink
 
 	mu   sync.Mutex
 	sums map[string]float32
 }
 
-func (t *tally) add(key []string, val float32) {
+func (t *sumSink) add(key []string, val float32) {
 	t.mu.Lock()
 	defer t.mu.Unlock()
 	t.sums[strings.Join(key, ".")] += val
 }
 
-func (t *tally) IncrCounterWithLabels(key []string, val float32, _ []metrics.Label) { t.add(key, val) }
-func (t *tally) AddSampleWithLabels(key []string, val float32, _ []metrics.Label)   { t.add(key, val) }
+func (t *sumSink) IncrCounterWithLabels(key []string, val float32, _ []metrics.Label) {
+	t.add(key, val)
+}
+func (t *sumSink) AddSampleWithLabels(key []string, val float32, _ []metrics.Label) { t.add(key, val) }
 
-// counting gives all that is counted from here on.
-func counting(t *testing.T) func() string {
+// captureMetrics returns a function that returns all metrics from now on.
+func captureMetrics(t *testing.T) func() string {
 	t.Helper()
-	sink := &tally{sums: map[string]float32{}}
+	sink := &sumSink{sums: map[string]float32{}}
 	conf := metrics.DefaultConfig("")
 	conf.EnableHostname, conf.EnableRuntimeMetrics = false, false
 	if _, err := metrics.NewGlobal(conf, sink); err != nil {
@@ -40,27 +42,27 @@ func counting(t *testing.T) func() string {
 	return func() string {
 		sink.mu.Lock()
 		defer sink.mu.Unlock()
-		all := "\n"
-		for name, is := range sink.sums {
-			all += fmt.Sprintf("%s=%v\n", name, is)
+		text := "\n"
+		for name, sum := range sink.sums {
+			text += fmt.Sprintf("%s=%v\n", name, sum)
 		}
-		return all
+		return text
 	}
 }
 
-// What Serf counts is counted under its names, and so is what memberlist does.
+// Serf's metrics are counted under Serf's names, and memberlist's are there too.
 func TestMetrics(t *testing.T) {
-	counted := counting(t)
-	a, b := pair(t, func(m *made) { m.QueueCheckInterval, m.ReapInterval = 10*time.Millisecond, time.Hour })
+	counted := captureMetrics(t)
+	a, b := startPair(t, func(o *nodeOptions) { o.QueueCheckInterval, o.ReapInterval = 10*time.Millisecond, time.Hour })
 	must(t, a.UserEvent("deploy app", nil, false))
-	asked, err := a.Query("load", nil, &QueryParam{RequestAck: true, Timeout: time.Minute})
+	response, err := a.Query("load", nil, &QueryParam{RequestAck: true, Timeout: time.Minute})
 	must(t, err)
-	eventually(t, "b is asked", func() bool { return b.query("load") != nil })
-	must(t, b.query("load").Respond([]byte("1")))
-	<-asked.ResponseCh()
+	eventually(t, "b has the query", func() bool { return b.lastQuery("load") != nil })
+	must(t, b.lastQuery("load").Respond([]byte("1")))
+	<-response.ResponseCh()
 	must(t, b.SetTags(map[string]string{"x": "y"}))
-	a.own().NotifyLeave(b.memberlist().LocalNode())
-	a.own().NotifyJoin(b.memberlist().LocalNode())
+	a.delegate().NotifyLeave(b.memberlist().LocalNode())
+	a.delegate().NotifyJoin(b.memberlist().LocalNode())
 	for _, what := range []string{
 		"serf.events=2", "serf.events.deploy_app=2", "serf.queries=2", "serf.queries.load=2", "serf.query_acks=", "serf.query_responses=1",
 		"serf.msgs.received=", "serf.msgs.sent=", "serf.member.join=", "serf.member.failed=1", "serf.member.flap=1", "serf.member.update=",
@@ -71,20 +73,20 @@ func TestMetrics(t *testing.T) {
 	}
 }
 
-// Names come from the network: only so many are counted on their own.
-func TestNamesThatAreCounted(t *testing.T) {
-	counted := counting(t)
-	all := namesOf("events")
-	for i := 0; i < 2*countedNames; i++ {
-		all.count([]byte(fmt.Sprint("e", i)))
-		all.count([]byte("e0"))
+// Names come from the network, so only a limited number have separate counters.
+func TestNumberOfCountedNamesIsLimited(t *testing.T) {
+	counted := captureMetrics(t)
+	names := newNameCounter("events")
+	for i := 0; i < 2*maxCountedNames; i++ {
+		names.count([]byte(fmt.Sprint("e", i)))
+		names.count([]byte("e0"))
 		if i%10 == 0 {
-			all.tell()
+			names.report()
 		}
 	}
-	all.tell()
+	names.report()
 	text := counted()
-	if count := strings.Count(text, "serf.events.e"); count != countedNames {
+	if count := strings.Count(text, "serf.events.e"); count != maxCountedNames {
 		t.Error(count)
 	}
 	for _, what := range []string{"\nserf.events=512\n", "\nserf.events.e0=257\n", "\nserf.events.e127=1\n"} {
@@ -92,7 +94,7 @@ func TestNamesThatAreCounted(t *testing.T) {
 			t.Errorf("%q: %s", what, text)
 		}
 	}
-	if name := plainName("a b:c|d\n.e-f_g{\"ü" + strings.Repeat("x", 99)); name != "a_b_c_d_.e-f_g___"+strings.Repeat("x", countedLength-18) {
+	if name := sinkName("a b:c|d\n.e-f_g{\"ü" + strings.Repeat("x", 99)); name != "a_b_c_d_.e-f_g___"+strings.Repeat("x", maxCountedLength-18) {
 		t.Error(name)
 	}
 }

@@ -4,5 +4,5 @@ package serf
 
 import "github.com/hashicorp/memberlist"
 
-// withFaults is for tests alone (faults.go): here nothing is lost.
+// withFaults adds nothing in a normal build. A build for tests injects faults (faults.go).
 func withFaults(transport memberlist.Transport) (memberlist.Transport, error) { return transport, nil }

@@ -18,24 +18,24 @@ import (
 	"kitchenrue.example/serfagent"
 )
 
-// pair are two nodes that know each other.
-func pair(t *testing.T, changes ...change) (*one, *one) {
+// startPair starts two nodes that know each other.
+func startPair(t *testing.T, opts ...option) (*testNode, *testNode) {
 	t.Helper()
 	folder := t.TempDir()
-	a := start(t, "a", folder, append(changes, withTags("role", "web"))...)
-	b := start(t, "b", folder, append(changes, withTags("role", "db", "n", "17"))...)
+	a := startNode(t, "a", folder, append(opts, withTags("role", "web"))...)
+	b := startNode(t, "b", folder, append(opts, withTags("role", "db", "n", "17"))...)
 	b.join(a)
-	eventually(t, "a sees b", func() bool { return a.status("b") == "alive" && b.status("a") == "alive" })
+	eventually(t, "a sees b", func() bool { return a.statusOf("b") == "alive" && b.statusOf("a") == "alive" })
 	return a, b
 }
 
-func TestEventsGoBothWays(t *testing.T) {
-	a, b := pair(t)
-	for i, from := range []*one{a, b, a, b} {
+func TestEventsReachBothNodes(t *testing.T) {
+	a, b := startPair(t)
+	for i, from := range []*testNode{a, b, a, b} {
 		must(t, from.UserEvent("deploy", []byte(fmt.Sprint(i)), false))
 		want := []string{"0", "1", "2", "3"}[:i+1]
 		eventually(t, "both have it", func() bool {
-			return reflect.DeepEqual(a.got("deploy"), want) && reflect.DeepEqual(b.got("deploy"), want)
+			return reflect.DeepEqual(a.payloads("deploy"), want) && reflect.DeepEqual(b.payloads("deploy"), want)
 		})
 	}
 	if err := a.UserEvent("deploy", bytes.Repeat([]byte("x"), 600), false); err == nil || !strings.Contains(err.Error(), "512 bytes") {
@@ -43,23 +43,23 @@ func TestEventsGoBothWays(t *testing.T) {
 	}
 }
 
-// answersOf gathers what comes until the time is over.
-func answersOf(asked *QueryResponse) (acks, responses []string) {
-	for from := range asked.AckCh() {
+// allAnswers collects the answers until the query is over.
+func allAnswers(response *QueryResponse) (acks, responses []string) {
+	for from := range response.AckCh() {
 		acks = append(acks, from)
 	}
-	for answer := range asked.ResponseCh() {
+	for answer := range response.ResponseCh() {
 		responses = append(responses, answer.From+" "+string(answer.Payload))
 	}
 	return acks, responses
 }
 
 func TestQueries(t *testing.T) {
-	a, b := pair(t)
+	a, b := startPair(t)
 	for _, test := range []struct {
-		name  string
-		by    QueryParam
-		takes string
+		name    string
+		by      QueryParam
+		reached string
 	}{
 		{"all", QueryParam{}, "ab"},
 		{"by name", QueryParam{FilterNodes: []string{"b", "c"}}, "b"},
@@ -72,46 +72,46 @@ func TestQueries(t *testing.T) {
 	} {
 		by := test.by
 		by.Timeout, by.RequestAck = 2*time.Second, true
-		asked, err := a.Query(test.name, []byte("pay"), &by)
+		response, err := a.Query(test.name, []byte("pay"), &by)
 		if err != nil {
 			t.Fatal(test.name, err)
 		}
-		for _, node := range []*one{a, b} {
-			if name := node.config.NodeName; strings.Contains(test.takes, name) {
-				eventually(t, name+" is asked "+test.name, func() bool { return node.query(test.name) != nil })
-				check(t, node.query(test.name).Respond([]byte("of "+name)))
-				if err := node.query(test.name).Respond(nil); err == nil {
-					t.Error("it answered twice")
+		for _, node := range []*testNode{a, b} {
+			if name := node.config.NodeName; strings.Contains(test.reached, name) {
+				eventually(t, name+" has the query "+test.name, func() bool { return node.lastQuery(test.name) != nil })
+				check(t, node.lastQuery(test.name).Respond([]byte("of "+name)))
+				if err := node.lastQuery(test.name).Respond(nil); err == nil {
+					t.Error("a second answer was accepted")
 				}
 			}
 		}
-		acks, responses := answersOf(asked)
-		if len(acks) != len(test.takes) || len(responses) != len(test.takes) {
+		acks, responses := allAnswers(response)
+		if len(acks) != len(test.reached) || len(responses) != len(test.reached) {
 			t.Errorf("%s: %v %v", test.name, acks, responses)
 		}
-		for _, node := range []*one{a, b} {
-			if !strings.Contains(test.takes, node.config.NodeName) && node.query(test.name) != nil {
-				t.Errorf("%s: %s is asked", test.name, node.config.NodeName)
+		for _, node := range []*testNode{a, b} {
+			if !strings.Contains(test.reached, node.config.NodeName) && node.lastQuery(test.name) != nil {
+				t.Errorf("%s: %s has the query", test.name, node.config.NodeName)
 			}
 		}
 	}
 }
 
-// Queries and answers are as long as their limits allow, and no byte longer.
-func TestLimitsOfQueriesAndAnswers(t *testing.T) {
+// Queries and responses may be exactly as long as their limits.
+func TestQueryAndResponseSizeLimits(t *testing.T) {
 	var queries, answers []int
 	for _, limits := range [][2]int{{1024, 1024}, {1025, 1024}, {1024, 1025}, {300, 9216}, {9216, 200}} {
-		a := start(t, "a", t.TempDir(), withLimits(limits[0], limits[1]))
-		query := longest(limits[0], func(payload []byte) error {
+		a := startNode(t, "a", t.TempDir(), withLimits(limits[0], limits[1]))
+		query := longestAccepted(limits[0], func(payload []byte) error {
 			_, err := a.Query("x", payload, &QueryParam{Timeout: time.Minute})
 			if err != nil && err.Error() != fmt.Sprintf("query exceeds limit of %d bytes", limits[0]) {
 				t.Error(err)
 			}
 			return err
 		})
-		eventually(t, "it is asked", func() bool { return a.query("x") != nil })
-		answer := longest(limits[1], func(payload []byte) error {
-			err := a.query("x").Respond(payload)
+		eventually(t, "the query is handed out", func() bool { return a.lastQuery("x") != nil })
+		answer := longestAccepted(limits[1], func(payload []byte) error {
+			err := a.lastQuery("x").Respond(payload)
 			if err != nil && err.Error() != fmt.Sprintf("response exceeds limit of %d bytes", limits[1]) {
 				t.Error(err)
 			}
@@ -119,17 +119,17 @@ func TestLimitsOfQueriesAndAnswers(t *testing.T) {
 		})
 		queries, answers = append(queries, limits[0]-query), append(answers, limits[1]-answer)
 	}
-	// what is around a payload has one length, but for that of the length itself
+	// what surrounds a payload has a constant length, apart from the encoding of the payload's length
 	for i := range queries {
 		if around := queries[i]; around > queries[0]+2 || around < queries[0]-2 || i < 3 && around != queries[0] {
-			t.Errorf("around queries: %v", queries)
+			t.Errorf("what surrounds the payloads of queries: %v", queries)
 		}
 		if around := answers[i]; around > answers[0]+2 || around < answers[0]-2 || i < 3 && around != answers[0] {
-			t.Errorf("around answers: %v", answers)
+			t.Errorf("what surrounds the payloads of responses: %v", answers)
 		}
 	}
-	// tags count as well
-	a := start(t, "a", t.TempDir(), withLimits(2000, 1024))
+	// tag filters count too
+	a := startNode(t, "a", t.TempDir(), withLimits(2000, 1024))
 	tagged := &QueryParam{FilterTags: map[string]string{"none": ""}}
 	if _, err := a.Query("x", bytes.Repeat([]byte("x"), 1600), tagged); err != nil {
 		t.Error(err)
@@ -139,24 +139,25 @@ func TestLimitsOfQueriesAndAnswers(t *testing.T) {
 	}
 }
 
-// longest is how long a payload is at most that isn't refused; it is tried from above, since the first that is taken may be the last.
-func longest(from int, takes func(payload []byte) error) int {
+// longestAccepted returns the length of the longest payload that is not refused. It begins with the longest, since the first one that is
+// accepted may be the last.
+func longestAccepted(from int, try func(payload []byte) error) int {
 	for length := from; length > 0; length-- {
-		if takes(make([]byte, length)) == nil {
+		if try(make([]byte, length)) == nil {
 			return length
 		}
 	}
 	return 0
 }
 
-func TestQueriesThatAreRefused(t *testing.T) {
-	a := start(t, "a", t.TempDir())
+func TestRefusedQueries(t *testing.T) {
+	a := startNode(t, "a", t.TempDir())
 	long := bytes.Repeat([]byte("x"), 1100)
-	for _, one := range []struct {
+	for _, test := range []struct {
 		name    string
 		payload []byte
 		params  QueryParam
-		says    string
+		wantErr string
 	}{
 		{"x", long, QueryParam{}, "1024 bytes"},
 		{"x", long[:930], QueryParam{FilterTags: map[string]string{"none": ""}}, "limit of 1024"},
@@ -164,18 +165,18 @@ func TestQueriesThatAreRefused(t *testing.T) {
 		{"x", nil, QueryParam{Timeout: -1}, ErrTimeout.Error()},
 		{"x", nil, QueryParam{Timeout: 2 * time.Hour}, ErrTimeout.Error()},
 	} {
-		if _, err := a.Query(one.name, one.payload, &one.params); err == nil || !strings.Contains(err.Error(), one.says) {
-			t.Errorf("%+v: %v", one, err)
+		if _, err := a.Query(test.name, test.payload, &test.params); err == nil || !strings.Contains(err.Error(), test.wantErr) {
+			t.Errorf("%+v: %v", test, err)
 		}
 	}
-	// (one that was closed is open still, as the library has it)
+	// (a query that was closed early still counts as open, since the library has it until its deadline)
 	for i := 0; i < MaxQueries; i++ {
-		asked, err := a.Query("x", nil, &QueryParam{Timeout: time.Hour})
+		response, err := a.Query("x", nil, &QueryParam{Timeout: time.Hour})
 		if err != nil {
 			t.Fatal(i, err)
 		}
 		if i%2 == 0 {
-			asked.Close()
+			response.Close()
 		}
 	}
 	if _, err := a.Query("x", nil, nil); err != ErrQueries {
@@ -186,130 +187,130 @@ func TestQueriesThatAreRefused(t *testing.T) {
 	}
 }
 
-func TestComingAndGoing(t *testing.T) {
+func TestJoinLeaveAndFail(t *testing.T) {
 	folder := t.TempDir()
-	a := start(t, "a", folder)
-	b := start(t, "b", folder)
-	c := start(t, "c", folder)
+	a := startNode(t, "a", folder)
+	b := startNode(t, "b", folder)
+	c := startNode(t, "c", folder)
 	b.join(a)
 	c.join(a)
-	for _, node := range []*one{a, b, c} {
-		eventually(t, "all are there", func() bool {
-			return node.status("a") == "alive" && node.status("b") == "alive" && node.status("c") == "alive"
+	for _, node := range []*testNode{a, b, c} {
+		eventually(t, "all are alive", func() bool {
+			return node.statusOf("a") == "alive" && node.statusOf("b") == "alive" && node.statusOf("c") == "alive"
 		})
 	}
 	must(t, b.SetTags(map[string]string{"size": "big"}))
-	eventually(t, "a sees tags", func() bool { m, _ := a.members.get("b"); return m.Tags["size"] == "big" })
+	eventually(t, "a has the new tags", func() bool { m, _ := a.members.get("b"); return m.Tags["size"] == "big" })
 	if err := b.SetTags(map[string]string{"size": strings.Repeat("x", 600)}); err == nil {
-		t.Error("too long")
+		t.Error("too long tags were set")
 	}
 	must(t, b.Leave())
 	if err := b.Leave(); err != nil || b.State() != SerfLeft {
-		t.Error("it left before", err)
+		t.Error("a second leave", err)
 	}
 	check(t, b.Shutdown())
-	for _, node := range []*one{a, c} {
-		eventually(t, "b left", func() bool { return node.status("b") == "left" })
+	for _, node := range []*testNode{a, c} {
+		eventually(t, "b left", func() bool { return node.statusOf("b") == "left" })
 	}
 	if text, err := os.ReadFile(filepath.Join(folder, "b")); err != nil || !strings.Contains(string(text), "leave\n") {
 		t.Errorf("%q %v", text, err)
 	}
 	check(t, c.Shutdown())
-	eventually(t, "c failed", func() bool { return a.status("c") == "failed" })
+	eventually(t, "c failed", func() bool { return a.statusOf("c") == "failed" })
 	check(t, a.RemoveFailedNode("c"))
 	check(t, a.RemoveFailedNodePrune("b"))
-	if a.status("c") != "left" || a.status("b") != "" {
-		t.Error(a.status("c"), a.status("b"))
+	if a.statusOf("c") != "left" || a.statusOf("b") != "" {
+		t.Error(a.statusOf("c"), a.statusOf("b"))
 	}
 	if err := a.RemoveFailedNode("a"); err == nil {
-		t.Error("it is itself")
+		t.Error("a node removed itself")
 	}
 }
 
-// A node that comes back by its snapshot knows whom to join, and is handed nothing twice.
-func TestComingBack(t *testing.T) {
+// A node that restarts on its snapshot knows which members to join, and hands out nothing twice.
+func TestRestartRejoins(t *testing.T) {
 	folder := t.TempDir()
-	a, b := start(t, "a", folder), start(t, "b", folder)
+	a, b := startNode(t, "a", folder), startNode(t, "b", folder)
 	b.join(a)
 	for i := 0; i < 5; i++ {
 		must(t, a.UserEvent("deploy", []byte(fmt.Sprint(i)), false))
 	}
-	eventually(t, "b has them", func() bool { return len(b.got("deploy")) == 5 })
-	eventually(t, "b keeps a", func() bool {
+	eventually(t, "b has them", func() bool { return len(b.payloads("deploy")) == 5 })
+	eventually(t, "b's snapshot has a", func() bool {
 		text, err := os.ReadFile(filepath.Join(folder, "b"))
 		return err == nil && strings.Contains(string(text), "alive: a ")
 	})
-	where := b.memberlist().LocalNode().Port
+	port := b.memberlist().LocalNode().Port
 	must(t, b.Shutdown())
-	again := start(t, "b", folder, at(where))
-	eventually(t, "it is back", func() bool { return again.status("a") == "alive" })
+	again := startNode(t, "b", folder, atPort(port))
+	eventually(t, "b has rejoined", func() bool { return again.statusOf("a") == "alive" })
 	must(t, a.UserEvent("deploy", []byte("last"), false))
-	eventually(t, "it has the new one", func() bool { return len(again.got("deploy")) > 0 })
+	eventually(t, "b has the new event", func() bool { return len(again.payloads("deploy")) > 0 })
 	time.Sleep(300 * time.Millisecond)
-	if found := again.got("deploy"); !reflect.DeepEqual(found, []string{"last"}) {
+	if found := again.payloads("deploy"); !reflect.DeepEqual(found, []string{"last"}) {
 		t.Error(found)
 	}
 }
 
-func TestOldLeavesAreRefuted(t *testing.T) {
-	a, b := pair(t)
+func TestStaleLeavesAreRefuted(t *testing.T) {
+	a, b := startPair(t)
 	for i := uint64(1); i < 4; i++ {
-		a.own().NotifyMsg(intent(t, i*100, "a", true))
-		eventually(t, "b hears that a is there", func() bool { return b.timeOf("a") >= i*100 })
-		if b.status("a") != "alive" || a.status("a") != "alive" {
-			t.Error(a.status("a"), b.status("a"))
+		a.delegate().NotifyMsg(intentPacket(t, i*100, "a", true))
+		eventually(t, "b receives a's join intent", func() bool { return b.statusTime("a") >= i*100 })
+		if b.statusOf("a") != "alive" || a.statusOf("a") != "alive" {
+			t.Error(a.statusOf("a"), b.statusOf("a"))
 		}
 	}
 }
 
 func TestStatesThatSayItLeftAreRefuted(t *testing.T) {
-	a, b := pair(t)
+	a, b := startPair(t)
 	state, err := b.agent.LocalState([]serfagent.Status{{Name: "a", Time: 900}}, []string{"a"})
 	must(t, err)
 	must(t, a.agent.ObserveMember(899))
-	a.own().MergeRemoteState(state, false)
-	eventually(t, "b hears that a is there", func() bool { return b.timeOf("a") >= 900 })
-	if b.status("a") != "alive" || a.status("a") != "alive" {
-		t.Error(a.status("a"), b.status("a"))
+	a.delegate().MergeRemoteState(state, false)
+	eventually(t, "b receives a's join intent", func() bool { return b.statusTime("a") >= 900 })
+	if b.statusOf("a") != "alive" || a.statusOf("a") != "alive" {
+		t.Error(a.statusOf("a"), b.statusOf("a"))
 	}
 }
 
-func withKey(fill byte) change {
-	return func(m *made) { m.MemberlistConfig.SecretKey = bytes.Repeat([]byte{fill}, 32) }
+func withKey(fill byte) option {
+	return func(o *nodeOptions) { o.MemberlistConfig.SecretKey = bytes.Repeat([]byte{fill}, 32) }
 }
 
 func TestKeys(t *testing.T) {
 	text := func(fill byte) string { return base64.StdEncoding.EncodeToString(bytes.Repeat([]byte{fill}, 32)) }
 	folder := t.TempDir()
 	file := filepath.Join(folder, "keyring")
-	a, b := start(t, "a", folder, withKey(1), func(m *made) { m.KeyringFile = file }), start(t, "b", folder, withKey(1))
+	a, b := startNode(t, "a", folder, withKey(1), func(o *nodeOptions) { o.KeyringFile = file }), startNode(t, "b", folder, withKey(1))
 	b.join(a)
 	if !a.EncryptionEnabled() {
-		t.Error("a has a key")
+		t.Error("a is not encrypted")
 	}
 	keys := a.KeyManager()
 	list := func(string) (*KeyResponse, error) { return keys.ListKeys() }
 	for _, step := range []struct {
-		what func(string) (*KeyResponse, error)
-		key  string
-		says string
+		call    func(string) (*KeyResponse, error)
+		key     string
+		wantErr string
 	}{
 		{keys.InstallKey, text(2), ""}, {keys.UseKey, text(2), ""}, {keys.UseKey, text(3), "2/2 nodes reported failure"},
 		{keys.RemoveKey, text(2), "2/2 nodes reported failure"}, {keys.RemoveKey, text(1), ""}, {list, "", ""}, {keys.InstallKey, "%", "illegal base64"},
 	} {
 		var found *KeyResponse
 		var err error
-		isSaid := func() bool {
-			return (err == nil) == (step.says == "") && (err == nil || strings.Contains(err.Error(), step.says))
+		isExpected := func() bool {
+			return (err == nil) == (step.wantErr == "") && (err == nil || strings.Contains(err.Error(), step.wantErr))
 		}
-		// (on a machine with much to do an answer may come too late; what was done once may be done again)
+		// (on a busy machine an answer may arrive too late, and each step may be repeated)
 		for tries := 0; tries < 20; tries++ {
-			if found, err = step.what(step.key); isSaid() {
+			if found, err = step.call(step.key); isExpected() {
 				break
 			}
 		}
 		all := map[string]int{text(2): 2}
-		if !isSaid() || found.Keys != nil && (!reflect.DeepEqual(found.Keys, all) || !reflect.DeepEqual(found.PrimaryKeys, all)) {
+		if !isExpected() || found.Keys != nil && (!reflect.DeepEqual(found.Keys, all) || !reflect.DeepEqual(found.PrimaryKeys, all)) {
 			t.Errorf("%+v: %+v %v", step, found, err)
 		}
 	}
@@ -318,47 +319,47 @@ func TestKeys(t *testing.T) {
 		t.Errorf("%q %v", kept, err)
 	}
 	must(t, b.UserEvent("deploy", nil, false))
-	eventually(t, "the event goes on", func() bool { return len(a.got("deploy")) == 1 })
+	eventually(t, "the event arrives", func() bool { return len(a.payloads("deploy")) == 1 })
 }
 
-func TestKeysThatAreTooMany(t *testing.T) {
-	answer := keyAnswered{Result: true}
+func TestKeyListIsTruncated(t *testing.T) {
+	answer := nodeKeyResponse{Result: true}
 	for i := 0; i < 100; i++ {
 		answer.Keys = append(answer.Keys, fmt.Sprintf("%044d", i))
 	}
 	before := 0
 	for _, limit := range []int{500, 1024, 2048} {
-		written := fitting(limit, answer)
-		found, err := readKeyAnswered(written)
+		written := encodeFitting(limit, answer)
+		found, err := decodeKeyResponse(written)
 		if err != nil || len(written) > limit-288 || !strings.Contains(found.Message, "of 100 keys") {
 			t.Errorf("%d: %d %+v %v", limit, len(written), found, err)
 		}
 		if limit > 1000 && len(found.Keys) < before+10 {
-			t.Errorf("%d: %d keys, and %d before", limit, len(found.Keys), before)
+			t.Errorf("%d: %d keys, and %d with the smaller limit", limit, len(found.Keys), before)
 		}
 		before = len(found.Keys)
 	}
 }
 
-func TestWhoHasAName(t *testing.T) {
-	a, b := pair(t)
-	if err := a.settleConflict(); err != nil {
-		t.Errorf("b knows it as it is: %v", err)
+func TestResolveConflict(t *testing.T) {
+	a, b := startPair(t)
+	if err := a.resolveConflict(); err != nil {
+		t.Errorf("b knows the node by its name: %v", err)
 	}
-	b.members.joined(Member{Name: "a", Addr: []byte{127, 9, 9, 9}, Port: 1})
-	if err := a.settleConflict(); err == nil || !strings.Contains(err.Error(), "another node has the name") {
+	b.members.memberJoined(Member{Name: "a", Addr: []byte{127, 9, 9, 9}, Port: 1})
+	if err := a.resolveConflict(); err == nil || !strings.Contains(err.Error(), "another node has the name") {
 		t.Error(err)
 	}
 }
 
-// A node that is to end while the others are asked who has its name doesn't wait for what they say.
-func TestEndsWhileItsNameIsAskedFor(t *testing.T) {
-	a, _ := pair(t)
-	a.own().NotifyConflict(a.memberlist().LocalNode(), &memberlist.Node{Name: "a", Addr: []byte{127, 9, 9, 9}, Port: 1})
-	eventually(t, "the others are asked", func() bool {
+// Shutdown does not wait for the answers of a query about a name conflict.
+func TestShutdownDuringConflictQuery(t *testing.T) {
+	a, _ := startPair(t)
+	a.delegate().NotifyConflict(a.memberlist().LocalNode(), &memberlist.Node{Name: "a", Addr: []byte{127, 9, 9, 9}, Port: 1})
+	eventually(t, "the query is open", func() bool {
 		a.order.Lock()
 		defer a.order.Unlock()
-		return len(a.open) == 1
+		return len(a.openQueries) == 1
 	})
 	ended := make(chan error, 1)
 	go func() { ended <- a.Shutdown() }()
@@ -366,21 +367,21 @@ func TestEndsWhileItsNameIsAskedFor(t *testing.T) {
 	case err := <-ended:
 		check(t, err)
 	case <-time.After(20 * time.Second):
-		t.Fatal("it goes on")
+		t.Fatal("Shutdown is still waiting")
 	}
 }
 
-// The second node of a name ends, and the first stays.
-func TestTwoNodesOfOneName(t *testing.T) {
-	a, b := pair(t)
-	c := start(t, "c", t.TempDir())
+// The second node with a name ends, and the first one continues.
+func TestTwoNodesWithOneName(t *testing.T) {
+	a, b := startPair(t)
+	c := startNode(t, "c", t.TempDir())
 	c.join(b)
-	eventually(t, "c knows a", func() bool { return c.status("a") == "alive" && a.status("c") == "alive" })
-	twin := start(t, "a", t.TempDir())
+	eventually(t, "c knows a", func() bool { return c.statusOf("a") == "alive" && a.statusOf("c") == "alive" })
+	twin := startNode(t, "a", t.TempDir())
 	if _, err := twin.Join([]string{b.address()}, true); err != nil {
 		t.Log(err)
 	}
-	soon(t, "the end of the second one", func() { <-twin.ShutdownCh() })
+	promptly(t, "the second node ends", func() { <-twin.ShutdownCh() })
 	if err := twin.Fault(); err == nil || !strings.Contains(err.Error(), "another node has the name") {
 		t.Error(err)
 	}
@@ -389,54 +390,54 @@ func TestTwoNodesOfOneName(t *testing.T) {
 	}
 }
 
-// A name that no agent takes comes only from a stranger: it is a member like others, and its intents are none.
-func TestANameOf129Bytes(t *testing.T) {
-	a, b := pair(t)
+// A name that is too long for an agent can only come from a stranger. It is an ordinary member, but its intents are not held.
+func TestMemberWithTooLongName(t *testing.T) {
+	a, b := startPair(t)
 	name := strings.Repeat("x", 129)
-	a.own().NotifyJoin(&memberlist.Node{Name: name, Addr: []byte{127, 0, 0, 9}, Port: 1, Meta: []byte("\xff\x80")})
-	a.own().NotifyMsg(intent(t, 9, name, true))
-	a.own().NotifyMsg(intent(t, 9, strings.Repeat("y", 129), true))
+	a.delegate().NotifyJoin(&memberlist.Node{Name: name, Addr: []byte{127, 0, 0, 9}, Port: 1, Meta: []byte("\xff\x80")})
+	a.delegate().NotifyMsg(intentPacket(t, 9, name, true))
+	a.delegate().NotifyMsg(intentPacket(t, 9, strings.Repeat("y", 129), true))
 	must(t, b.UserEvent("deploy", nil, false))
-	eventually(t, "events go on", func() bool { return len(a.got("deploy")) == 1 })
-	a.own().NotifyLeave(&memberlist.Node{Name: name})
-	if a.status(name) == "" || a.Fault() != nil {
-		t.Error(a.status(name), a.Fault())
+	eventually(t, "events still arrive", func() bool { return len(a.payloads("deploy")) == 1 })
+	a.delegate().NotifyLeave(&memberlist.Node{Name: name})
+	if a.statusOf(name) == "" || a.Fault() != nil {
+		t.Error(a.statusOf(name), a.Fault())
 	}
 }
 
-// What the network brings, whatever it is, ends nothing.
+// Nothing that the network sends ends the node.
 func TestHostilePackets(t *testing.T) {
-	a, b := pair(t)
+	a, b := startPair(t)
 	for kind := 0; kind < 256; kind++ {
 		for _, rest := range []string{"", "\x80", "\xc1", "\xdf\xff\xff\xff\xff", "\x81\xa4Node\xdb\xff\xff\xff\xff", "\x82\xa5LTime\xcf\xff\xff\xff\xff\xff\xff\xff\xff\xa4Node\xa1x", strings.Repeat("\x91", 100), "\x81\xa8DestAddr\x81\xa2IP\xa41234x"} {
-			a.own().NotifyMsg(append([]byte{byte(kind)}, rest...))
-			a.own().MergeRemoteState(append([]byte{byte(kind)}, rest...), kind%2 == 0)
+			a.delegate().NotifyMsg(append([]byte{byte(kind)}, rest...))
+			a.delegate().MergeRemoteState(append([]byte{byte(kind)}, rest...), kind%2 == 0)
 		}
 	}
 	for i := 0; i < 3*4096; i++ {
-		a.own().NotifyMsg(intent(t, uint64(i), fmt.Sprint("n", i), i%2 == 0))
+		a.delegate().NotifyMsg(intentPacket(t, uint64(i), fmt.Sprint("n", i), i%2 == 0))
 	}
-	eventually(t, "all is taken", func() bool { return len(a.packets.came) == 0 && len(a.states.came) == 0 })
+	eventually(t, "all is processed", func() bool { return len(a.packets.ready) == 0 && len(a.states.ready) == 0 })
 	must(t, b.UserEvent("deploy", nil, false))
-	eventually(t, "events go on", func() bool { return len(a.got("deploy")) == 1 })
+	eventually(t, "events still arrive", func() bool { return len(a.payloads("deploy")) == 1 })
 	if a.Fault() != nil {
 		t.Error(a.Fault())
 	}
 }
 
-func TestRelaysGoToMembersAlone(t *testing.T) {
-	a, b := pair(t)
-	own := b.memberlist().LocalNode()
-	passed := relay{addr: own.Addr, port: own.Port, name: "b", message: []byte("\x03\x83\xa5LTime\x09\xa4Name\xa1r\xa7Payload\xa1x")}
-	a.own().NotifyMsg(writeRelay(passed))
-	eventually(t, "it is passed on", func() bool { return len(b.got("r")) == 1 })
+func TestRelaysGoToMembersOnly(t *testing.T) {
+	a, b := startPair(t)
+	self := b.memberlist().LocalNode()
+	relayed := relay{addr: self.Addr, port: self.Port, name: "b", message: []byte("\x03\x83\xa5LTime\x09\xa4Name\xa1r\xa7Payload\xa1x")}
+	a.delegate().NotifyMsg(encodeRelay(relayed))
+	eventually(t, "it is relayed", func() bool { return len(b.payloads("r")) == 1 })
 	stranger, err := net.ListenUDP("udp", &net.UDPAddr{IP: net.IPv4(127, 0, 0, 1)})
 	must(t, err)
 	defer stranger.Close()
-	passed.port = uint16(stranger.LocalAddr().(*net.UDPAddr).Port)
-	a.own().NotifyMsg(writeRelay(passed))
+	relayed.port = uint16(stranger.LocalAddr().(*net.UDPAddr).Port)
+	a.delegate().NotifyMsg(encodeRelay(relayed))
 	_ = stranger.SetReadDeadline(time.Now().Add(time.Second))
 	if count, err := stranger.Read(make([]byte, 1500)); err == nil {
-		t.Errorf("no member has this address, and it got %d bytes", count)
+		t.Errorf("an address that no member has received %d bytes", count)
 	}
 }

@@ -6,78 +6,80 @@ import (
 	"time"
 )
 
-// Waiting is how many events may wait for EventCh, and how many packets for the proved agent: Serf's own number. Where so many events
-// wait, nothing more is taken from the network and nothing is fired. A packet that comes above it is dropped, as a network may.
+// Waiting is the maximum number of events that wait for EventCh, and of packets that wait for the proved agent: Serf's own number. If so
+// many events are waiting, the node accepts nothing more from the network and fires nothing. Packets beyond the maximum are dropped, as a
+// network may drop them.
 const Waiting = 4096
 
-// pipe has what was handed out and waits for EventCh, in its order. Nothing in it is dropped, and who adds doesn't wait: who takes from
-// the network looks first whether there is room. Events of members come unasked, so above the bound the last one of each member
-// stands for the earlier ones.
+// pipe has the events that were handed out and wait for EventCh, in order. It drops no event, and add does not block: whoever receives from
+// the network or fires first checks that there is room. Member events can't be held back, so beyond the maximum the last event of each
+// member replaces its earlier ones.
 type pipe struct {
 	mu      sync.Mutex
 	waiting []Event
-	// places are where in waiting the event of one member stands, of those above the bound; behind taken, which is how many were taken.
-	places map[string]int
-	taken  int
-	holes  int
-	isOver bool
-	came   chan struct{}
-	// roomy is closed while there is room.
-	roomy  chan struct{}
+	// positions are the places in waiting of the member events beyond the maximum, by the member's name. They count from the first event
+	// ever added, and removed is how many events were removed at the front. holes is how many places in waiting are empty.
+	positions map[string]int
+	removed   int
+	holes     int
+	isEnded   bool
+	ready     chan struct{}
+	// roomCh is closed while there is room.
+	roomCh chan struct{}
 	isFull atomic.Bool
 }
 
 func newPipe() *pipe {
-	p := &pipe{places: map[string]int{}, came: make(chan struct{}, 1), roomy: make(chan struct{})}
-	close(p.roomy)
+	p := &pipe{positions: map[string]int{}, ready: make(chan struct{}, 1), roomCh: make(chan struct{})}
+	close(p.roomCh)
 	return p
 }
 
-// add adds events behind the others.
+// add appends events.
 func (p *pipe) add(events ...Event) {
 	p.mu.Lock()
 	defer p.mu.Unlock()
-	if p.isOver {
+	if p.isEnded {
 		return
 	}
 	for _, e := range events {
-		if about, is := e.(MemberEvent); is && p.size() >= Waiting {
-			for _, member := range about.Members {
-				p.fold(MemberEvent{about.Type, []Member{member}})
+		if memberEvent, isMember := e.(MemberEvent); isMember && p.size() >= Waiting {
+			for _, member := range memberEvent.Members {
+				p.addLatest(MemberEvent{memberEvent.Type, []Member{member}})
 			}
 		} else {
 			p.waiting = append(p.waiting, e)
 		}
 	}
-	p.noteRoom()
-	tell(p.came)
+	p.updateRoom()
+	signal(p.ready)
 }
 
-// fold adds an event of one member, in whose place an earlier one of it goes.
-func (p *pipe) fold(e MemberEvent) {
+// addLatest appends the event of one member and removes that member's earlier event, if that is beyond the maximum too.
+func (p *pipe) addLatest(e MemberEvent) {
 	name := e.Members[0].Name
-	if at, is := p.places[name]; is && at >= p.taken {
-		e.Type = lastType(p.waiting[at-p.taken].(MemberEvent).Type, e.Type)
-		p.waiting[at-p.taken] = nil
+	if position, ok := p.positions[name]; ok && position >= p.removed {
+		e.Type = mergedType(p.waiting[position-p.removed].(MemberEvent).Type, e.Type)
+		p.waiting[position-p.removed] = nil
 		p.holes++
 	}
-	p.places[name] = p.taken + len(p.waiting)
+	p.positions[name] = p.removed + len(p.waiting)
 	p.waiting = append(p.waiting, e)
 	if p.holes > Waiting {
-		p.close()
+		p.compact()
 	}
 }
 
-// close takes the holes out.
-func (p *pipe) close() {
+// compact removes the holes.
+func (p *pipe) compact() {
 	kept := p.waiting[:0]
-	p.places = map[string]int{}
+	p.positions = map[string]int{}
 	for _, e := range p.waiting {
 		if e == nil {
 			continue
 		}
-		if about, is := e.(MemberEvent); is && len(about.Members) == 1 && len(kept) >= Waiting {
-			p.places[about.Members[0].Name] = p.taken + len(kept)
+		if memberEvent, isMember := e.(MemberEvent); isMember && len(memberEvent.Members) == 1 && len(kept) >= Waiting {
+			p.positions[memberEvent.Members[0].Name] = p.removed + len(kept)
 		}
 		kept = append(kept, e)
 	}
@@ -87,30 +89,32 @@ func (p *pipe) close() {
 	p.waiting, p.holes = kept, 0
 }
 
-// lastType is what two events of a member come to: a member that came and changed has come, as it is now.
-func lastType(first, last EventType) EventType {
+// mergedType returns the type of two events of one member in a row. A member that joined and changed is reported as joined, with its
+// present data.
+func mergedType(first, last EventType) EventType {
 	if first == EventMemberJoin && last == EventMemberUpdate {
 		return first
 	}
 	return last
 }
 
+// size is length with mu held.
 func (p *pipe) size() int { return len(p.waiting) - p.holes }
 
-// noteRoom lets those go on that wait for room, or has them wait.
-func (p *pipe) noteRoom() {
+// updateRoom opens or closes roomCh by the number of events.
+func (p *pipe) updateRoom() {
 	isFull := p.size() >= Waiting
 	if isFull == p.isFull.Load() {
 		return
 	}
 	if p.isFull.Store(isFull); isFull {
-		p.roomy = make(chan struct{})
+		p.roomCh = make(chan struct{})
 	} else {
-		close(p.roomy)
+		close(p.roomCh)
 	}
 }
 
-// next takes the first event; false where none waits.
+// next removes the first event and returns it, or false if none is waiting.
 func (p *pipe) next() (Event, bool) {
 	p.mu.Lock()
 	defer p.mu.Unlock()
@@ -118,52 +122,53 @@ func (p *pipe) next() (Event, bool) {
 		first := p.waiting[0]
 		p.waiting[0] = nil
 		p.waiting = p.waiting[1:]
-		p.taken++
+		p.removed++
 		if first == nil {
 			p.holes--
 			continue
 		}
-		p.noteRoom()
+		p.updateRoom()
 		return first, true
 	}
-	p.places = map[string]int{}
+	p.positions = map[string]int{}
 	return nil, false
 }
 
-// length is how many events wait.
+// length returns how many events are waiting.
 func (p *pipe) length() int {
 	p.mu.Lock()
 	defer p.mu.Unlock()
 	return p.size()
 }
 
-// hasRoom says whether more may be taken from the network.
+// hasRoom reports whether more may be accepted from the network.
 func (p *pipe) hasRoom() bool { return !p.isFull.Load() }
 
-// room is closed while there is room.
+// room returns a channel that is closed while there is room.
 func (p *pipe) room() <-chan struct{} {
 	p.mu.Lock()
 	defer p.mu.Unlock()
-	return p.roomy
+	return p.roomCh
 }
 
-// end takes nothing more: how many wait.
+// end makes the pipe accept nothing more, and returns how many events are waiting.
 func (p *pipe) end() int {
 	p.mu.Lock()
 	defer p.mu.Unlock()
-	p.isOver = true
+	p.isEnded = true
 	return p.size()
 }
 
-// run offers what waits to a channel, until it is told to end, and then what is left for so long: how many were never taken.
-func (p *pipe) run(to chan<- Event, ends <-chan struct{}, grace time.Duration) int {
-	var late <-chan time.Time
+// deliver offers the waiting events to a channel until ends is closed. From then on it offers the remaining ones for the grace period. It
+// returns how many were never received.
+func (p *pipe) deliver(eventCh chan<- Event, done <-chan struct{}, grace time.Duration) int {
+	var graceOver <-chan time.Time
 	for {
-		e, is := p.next()
-		if !is {
+		e, ok := p.next()
+		if !ok {
 			select {
-			case <-p.came:
-			case <-ends:
+			case <-p.ready:
+			case <-done:
 				if p.end() == 0 {
 					return 0
 				}
@@ -171,32 +176,32 @@ func (p *pipe) run(to chan<- Event, ends <-chan struct{}, grace time.Duration) i
 			continue
 		}
 		select {
-		case to <- e:
+		case eventCh <- e:
 			continue
 		default:
 		}
 		select {
-		case to <- e:
+		case eventCh <- e:
 			continue
-		case <-ends:
+		case <-done:
 		}
-		if late == nil {
+		if graceOver == nil {
 			timer := time.NewTimer(grace)
 			defer timer.Stop()
-			late = timer.C
+			graceOver = timer.C
 		}
 		select {
-		case to <- e:
-		case <-late:
+		case eventCh <- e:
+		case <-graceOver:
 			return 1 + p.end()
 		}
 	}
 }
 
-// tell leaves something in a channel, where nothing is there yet.
-func tell(about chan<- struct{}) {
+// signal puts a value into a channel with room for one, unless it has one already.
+func signal(ch chan<- struct{}) {
 	select {
-	case about <- struct{}{}:
+	case ch <- struct{}{}:
 	default:
 	}
 }

@@ -12,74 +12,75 @@ import (
 	"kitchenrue.example/serfagent"
 )
 
-// Limits of this node's queries: how many may be open, whether or not Close was called; how long they may be; and how many answers wait
-// for who asked. The proved agent counts up to 1,024 acks, and as many responses, of one query.
+// Limits of this node's queries: how many may be open at once, including those that were closed by Close before their deadline; how long
+// they may be open; and how many answers wait for the caller. The proved agent counts up to 1,024 acks and as many responses of one query.
 const (
 	MaxQueries = 256
 	MaxTimeout = time.Hour
 	maxAnswers = 1024
 )
 
-// QueryParam says how a query is fired.
+// QueryParam has the options of a query.
 type QueryParam struct {
-	// FilterNodes are the names of the nodes that may answer; all where it is empty.
+	// FilterNodes are the names of the nodes that may answer. Empty means all nodes.
 	FilterNodes []string
-	// FilterTags are tags with expressions that their values have to match somewhere; a tag that isn't there is empty.
+	// FilterTags are tags and regular expressions. A node may answer if each expression matches somewhere in the value of its tag. A
+	// missing tag has an empty value.
 	FilterTags map[string]string
-	// RequestAck asks for an ack of each node that may answer.
+	// RequestAck requests an ack from each node that may answer.
 	RequestAck bool
-	// RelayFactor is by how many other nodes an answer is sent too.
+	// RelayFactor is the number of other nodes through which each answer is also sent.
 	RelayFactor uint8
-	// Timeout is how long the query is open: that of DefaultQueryTimeout where it is 0, and MaxTimeout at most.
+	// Timeout is how long the query is open, at most MaxTimeout. 0 means DefaultQueryTimeout.
 	Timeout time.Duration
 }
 
-// DefaultQueryParams are those of a query where none are given.
+// DefaultQueryParams returns the options of a query for which none are given.
 func (s *Serf) DefaultQueryParams() *QueryParam { return &QueryParam{Timeout: s.DefaultQueryTimeout()} }
 
-// NodeResponse is what a node answered.
+// NodeResponse is the response of one node.
 type NodeResponse struct {
 	From    string
 	Payload []byte
 }
 
-// QueryResponse is a query of this node that takes answers.
+// QueryResponse is a query of this node, and receives its acks and responses.
 type QueryResponse struct {
 	deadline  time.Time
 	acks      chan string
 	responses chan NodeResponse
 
-	// late has the query looked at when its time is over.
-	late *time.Timer
+	// expiry triggers closeDue when the query's time is over.
+	expiry *time.Timer
 
-	mu     sync.Mutex
-	isOver bool
+	mu       sync.Mutex
+	isClosed bool
 }
 
-// AckCh has the names of the nodes that acked; nil where no acks were asked for. It is closed when the query is over.
+// AckCh delivers the names of the nodes that acked. It is closed when the query is over, and nil if no acks were requested.
 func (r *QueryResponse) AckCh() <-chan string { return r.acks }
 
-// ResponseCh has the answers. It is closed when the query is over.
+// ResponseCh delivers the responses. It is closed when the query is over.
 func (r *QueryResponse) ResponseCh() <-chan NodeResponse { return r.responses }
 
-// Deadline is when the query is over.
+// Deadline returns when the query is over.
 func (r *QueryResponse) Deadline() time.Time { return r.deadline }
 
-// Finished says whether the query is over: its time is, or Close was called.
+// Finished reports whether the query is over: its deadline has passed, or Close was called.
 func (r *QueryResponse) Finished() bool {
 	r.mu.Lock()
 	defer r.mu.Unlock()
-	return r.isOver || time.Now().After(r.deadline)
+	return r.isClosed || time.Now().After(r.deadline)
 }
 
-// Close closes the query: no more answers come. The query counts for MaxQueries until its time is over.
+// Close ends the query, so no more answers are delivered. Until its deadline the query still counts towards MaxQueries.
 func (r *QueryResponse) Close() {
 	r.mu.Lock()
 	defer r.mu.Unlock()
-	if r.isOver {
+	if r.isClosed {
 		return
 	}
-	r.isOver = true
+	r.isClosed = true
 	if r.acks != nil {
 		close(r.acks)
 	}
@@ -88,11 +89,11 @@ func (r *QueryResponse) Close() {
 	}
 }
 
-// take gives an answer to who waits; false where it has no room, and nothing where the query is over.
-func (r *QueryResponse) take(answer *serfagent.Answer, isAck bool) bool {
+// deliver passes an answer to the caller. It returns false if the channel is full. Answers after the end of the query are ignored.
+func (r *QueryResponse) deliver(answer *serfagent.Answer, isAck bool) bool {
 	r.mu.Lock()
 	defer r.mu.Unlock()
-	if r.isOver || isAck && r.acks == nil {
+	if r.isClosed || isAck && r.acks == nil {
 		return true
 	}
 	if isAck {
@@ -111,16 +112,16 @@ func (r *QueryResponse) take(answer *serfagent.Answer, isAck bool) bool {
 	}
 }
 
-// asking names a query of this node.
-type asking struct {
+// queryKey identifies a query of this node.
+type queryKey struct {
 	time uint64
 	id   uint32
 }
 
-// Query asks the cluster, behind the states that came before. It returns behind the flush of the query's line.
+// Query sends a query to the cluster, after the states that were received before. It returns after the query's line was flushed.
 //
-// It is refused at a protocol below 4 (FeatureNotSupported), for its size by a sentence, with ErrInternal, ErrTimeout, ErrBusy, ErrQueries
-// or ErrEnded, and by the proved agent's own words. Nobody is asked then.
+// At a protocol below 4 it returns FeatureNotSupported, and for a query that is too large an error that names the limit. It can also return
+// ErrInternal, ErrTimeout, ErrBusy, ErrQueries, ErrEnded, and errors of the proved agent. In all these cases no query was sent.
 func (s *Serf) Query(name string, payload []byte, params *QueryParam) (*QueryResponse, error) {
 	if strings.HasPrefix(name, InternalQueryPrefix) && name != InternalQueryPrefix+"ping" {
 		return nil, ErrInternal
@@ -128,10 +129,11 @@ func (s *Serf) Query(name string, payload []byte, params *QueryParam) (*QueryRes
 	if params == nil {
 		params = s.DefaultQueryParams()
 	}
-	return s.ask(name, payload, *params)
+	return s.fireQuery(name, payload, *params)
 }
 
-func (s *Serf) ask(name string, payload []byte, params QueryParam) (*QueryResponse, error) {
+// fireQuery is Query for internal queries too.
+func (s *Serf) fireQuery(name string, payload []byte, params QueryParam) (*QueryResponse, error) {
 	if s.config.ProtocolVersion < 4 {
 		return nil, FeatureNotSupported
 	}
@@ -141,28 +143,29 @@ func (s *Serf) ask(name string, payload []byte, params QueryParam) (*QueryRespon
 	if params.Timeout == 0 {
 		params.Timeout = s.DefaultQueryTimeout()
 	}
-	own := s.memberlist().LocalNode()
-	filters := filtersOf(params)
-	how := serfagent.QueryParams{
-		Timeout: params.Timeout, Addr: []byte(short(own.Addr)), Port: own.Port, RelayFactor: params.RelayFactor, WantAck: params.RequestAck,
-		Filters: filters, TagsPass: passes(filters, s.ownTags()),
+	self := s.memberlist().LocalNode()
+	filters := encodeFilters(params)
+	agentParams := serfagent.QueryParams{
+		Timeout: params.Timeout, Addr: []byte(shortIP(self.Addr)), Port: self.Port,
+		RelayFactor: params.RelayFactor, WantAck: params.RequestAck,
+		Filters: filters, TagsPass: tagFiltersPass(filters, s.ownTags()),
 	}
 	var response *QueryResponse
-	var asked *serfagent.Asked
+	var fired *serfagent.FiredQuery
 	err := s.inOrder(func() (err error) {
 		if !s.pipe.hasRoom() {
 			return ErrBusy
 		}
-		if len(s.open) >= MaxQueries {
+		if len(s.openQueries) >= MaxQueries {
 			return ErrQueries
 		}
 		id := rand.Uint32()
-		if asked, err = s.agent.Query(s.now(), id, []byte(name), payload, how); err != nil {
+		if fired, err = s.agent.Query(s.now(), id, []byte(name), payload, agentParams); err != nil {
 			return err
 		}
-		response = s.opened(asking{asked.Time, id}, params)
-		s.handQuery(asked.Query)
-		s.handOver()
+		response = s.openQuery(queryKey{fired.Time, id}, params)
+		s.stageQuery(fired.Query)
+		s.flushStaged()
 		return nil
 	})
 	if errors.Is(err, serfagent.TooLarge) {
@@ -171,15 +174,15 @@ func (s *Serf) ask(name string, payload []byte, params QueryParam) (*QueryRespon
 	if err != nil {
 		return nil, err
 	}
-	if asked.Query != nil && asked.Ack != nil {
-		s.send(asked.Query, asked.Ack)
+	if fired.Query != nil && fired.Ack != nil {
+		s.sendReply(fired.Query, fired.Ack)
 	}
-	s.gossip(s.queries, asked.Packet, nil)
+	s.queueBroadcast(s.queries, fired.Packet, nil)
 	return response, nil
 }
 
-// filtersOf are the filters of a query.
-func filtersOf(params QueryParam) [][]byte {
+// encodeFilters returns the encoded filters of a query.
+func encodeFilters(params QueryParam) [][]byte {
 	var filters [][]byte
 	if len(params.FilterNodes) > 0 {
 		filters = append(filters, serfagent.FilterByNames(params.FilterNodes...))
@@ -195,47 +198,47 @@ func filtersOf(params QueryParam) [][]byte {
 	return filters
 }
 
-// opened keeps a query until its time is over. As many answers as members can send have room.
-func (s *Serf) opened(key asking, params QueryParam) *QueryResponse {
-	most := s.members.size() + 16
-	if most > maxAnswers {
-		most = maxAnswers
+// openQuery registers a query until its deadline. Its channels have room for as many answers as the members can send.
+func (s *Serf) openQuery(key queryKey, params QueryParam) *QueryResponse {
+	room := s.members.size() + 16
+	if room > maxAnswers {
+		room = maxAnswers
 	}
-	one := &QueryResponse{deadline: time.Now().Add(params.Timeout), responses: make(chan NodeResponse, most)}
+	response := &QueryResponse{deadline: time.Now().Add(params.Timeout), responses: make(chan NodeResponse, room)}
 	if params.RequestAck {
-		one.acks = make(chan string, most)
+		response.acks = make(chan string, room)
 	}
-	s.open[key] = one
-	one.late = time.AfterFunc(params.Timeout+time.Millisecond, func() { tell(s.due) })
-	return one
+	s.openQueries[key] = response
+	response.expiry = time.AfterFunc(params.Timeout+time.Millisecond, func() { signal(s.queryDue) })
+	return response
 }
 
-// counted gives an answer to who waits for it. order is held.
-func (s *Serf) counted(received *serfagent.Received) {
+// deliverAnswer passes an ack or a response to the query that it answers. order is held.
+func (s *Serf) deliverAnswer(received *serfagent.Received) {
 	answer := received.Answer
 	if answer == nil {
 		return
 	}
 	isAck := received.Kind == serfagent.Ack
 	if isAck {
-		countOf("query_acks")
+		incrCounter("query_acks")
 	} else {
-		countOf("query_responses")
+		incrCounter("query_responses")
 	}
-	if one := s.open[asking{answer.Time, answer.ID}]; one != nil && !one.take(answer, isAck) {
+	if response := s.openQueries[queryKey{answer.Time, answer.ID}]; response != nil && !response.deliver(answer, isAck) {
 		s.dropped.Add(1)
 	}
 }
 
-// closeDue closes the queries whose time is over.
+// closeDue closes the queries whose deadline has passed.
 func (s *Serf) closeDue() error {
 	return s.inOrder(func() error {
-		all, err := s.agent.CloseDue(s.now())
-		for _, closed := range all {
-			key := asking{closed.Time, closed.ID}
-			if one := s.open[key]; one != nil {
-				one.Close()
-				delete(s.open, key)
+		closedQueries, err := s.agent.CloseDue(s.now())
+		for _, closed := range closedQueries {
+			key := queryKey{closed.Time, closed.ID}
+			if response := s.openQueries[key]; response != nil {
+				response.Close()
+				delete(s.openQueries, key)
 			}
 		}
 		return err

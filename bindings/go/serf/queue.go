@@ -2,111 +2,112 @@ package serf
 
 import "sync"
 
-// waitingBytes is how many bytes of packets may wait for the proved agent, and of states.
-const waitingBytes = 64 << 20
+// maxQueuedBytes is how many bytes of packets may wait for the proved agent, and how many bytes of states.
+const maxQueuedBytes = 64 << 20
 
-// longestPacket is how long a packet may be that is taken: no agent sends one that a datagram has no room for.
-const longestPacket = 1 << 16
+// maxPacketLength is the maximum length of a packet. No agent sends one that does not fit into a datagram.
+const maxPacketLength = 1 << 16
 
-// piece is a packet, or a state with whether it is of a join that takes no old events.
-type piece struct {
+// queuedMessage is a packet, or a state. isJoin says that the state came with a join that ignores old events.
+type queuedMessage struct {
 	data   []byte
 	isJoin bool
 }
 
-// queue has what came of the network and waits. Nobody holds its lock for long.
+// queue has the packets, or the states, that were received and wait. Its lock is held only briefly.
 type queue struct {
-	mu     sync.Mutex
-	pieces []piece
-	bytes  int
-	// came has something where a piece waits.
-	came chan struct{}
+	mu       sync.Mutex
+	messages []queuedMessage
+	bytes    int
+	// ready has a value when a message is waiting.
+	ready chan struct{}
 }
 
-func newQueue() *queue { return &queue{came: make(chan struct{}, 1)} }
+func newQueue() *queue { return &queue{ready: make(chan struct{}, 1)} }
 
-// add takes a copy, since memberlist lends the data for the call alone; false where there is no room.
+// add queues a copy of a message, since memberlist reuses the bytes after the call. It returns false if there is no room.
 func (q *queue) add(data []byte, isJoin bool) bool {
 	q.mu.Lock()
 	defer q.mu.Unlock()
-	if len(q.pieces) >= Waiting || q.bytes+len(data) > waitingBytes {
+	if len(q.messages) >= Waiting || q.bytes+len(data) > maxQueuedBytes {
 		return false
 	}
-	q.pieces = append(q.pieces, piece{append([]byte(nil), data...), isJoin})
+	q.messages = append(q.messages, queuedMessage{append([]byte(nil), data...), isJoin})
 	q.bytes += len(data)
-	q.tell()
+	q.signalIfWaiting()
 	return true
 }
 
-// next takes the first piece; false where none waits.
-func (q *queue) next() (piece, bool) {
+// next removes the first message and returns it, or false if none is waiting.
+func (q *queue) next() (queuedMessage, bool) {
 	q.mu.Lock()
 	defer q.mu.Unlock()
-	if len(q.pieces) == 0 {
-		return piece{}, false
+	if len(q.messages) == 0 {
+		return queuedMessage{}, false
 	}
-	first := q.pieces[0]
-	q.pieces[0] = piece{}
-	q.pieces = q.pieces[1:]
+	first := q.messages[0]
+	q.messages[0] = queuedMessage{}
+	q.messages = q.messages[1:]
 	q.bytes -= len(first.data)
-	q.tell()
+	q.signalIfWaiting()
 	return first, true
 }
 
-// again tells once more that pieces wait, where they do: for who was told, and took none.
-func (q *queue) again() {
+// signalAgain signals again if messages are waiting. It is for a receiver that was signalled and processed none.
+func (q *queue) signalAgain() {
 	q.mu.Lock()
 	defer q.mu.Unlock()
-	q.tell()
+	q.signalIfWaiting()
 }
 
-func (q *queue) tell() {
-	if len(q.pieces) > 0 {
-		tell(q.came)
+// signalIfWaiting signals if messages are waiting. mu is held.
+func (q *queue) signalIfWaiting() {
+	if len(q.messages) > 0 {
+		signal(q.ready)
 	}
 }
 
-// maxLines is how many lines of the snapshot may wait.
-const maxLines = 1 << 16
+// maxQueuedLines is how many lines of the snapshot may wait.
+const maxQueuedLines = 1 << 16
 
-// lines are lines of the snapshot that wait.
-type lines struct {
-	mu        sync.Mutex
-	all       []string
-	isTooMany bool
-	came      chan struct{}
+// lineQueue has the lines of the snapshot that wait to be written.
+type lineQueue struct {
+	mu           sync.Mutex
+	waiting      []string
+	isOverflowed bool
+	ready        chan struct{}
 }
 
-func newLines() *lines { return &lines{came: make(chan struct{}, 1)} }
+func newLineQueue() *lineQueue { return &lineQueue{ready: make(chan struct{}, 1)} }
 
-// add takes a line. Where too many wait, all that is known is written anew.
-func (l *lines) add(line string) {
+// add queues a line. If too many are waiting, the lines of all members are rewritten instead.
+func (l *lineQueue) add(line string) {
 	if line == "" {
 		return
 	}
 	l.mu.Lock()
 	defer l.mu.Unlock()
-	if len(l.all) < maxLines {
-		l.all = append(l.all, line)
+	if len(l.waiting) < maxQueuedLines {
+		l.waiting = append(l.waiting, line)
 	} else {
-		l.isTooMany = true
+		l.isOverflowed = true
 	}
-	tell(l.came)
+	signal(l.ready)
 }
 
-// lost has all that is known written anew.
-func (l *lines) lost() {
+// rewriteAll requests that the lines of all members are rewritten.
+func (l *lineQueue) rewriteAll() {
 	l.mu.Lock()
 	defer l.mu.Unlock()
-	l.isTooMany = true
-	tell(l.came)
+	l.isOverflowed = true
+	signal(l.ready)
 }
 
-// take gives all that wait, and whether some were lost.
-func (l *lines) take() ([]string, bool) {
+// take removes all waiting lines and returns them, and whether the lines of all members have to be rewritten.
+func (l *lineQueue) take() ([]string, bool) {
 	l.mu.Lock()
 	defer l.mu.Unlock()
-	all, isTooMany := l.all, l.isTooMany
-	l.all, l.isTooMany = nil, false
-	return all, isTooMany
+	lines, isOverflowed := l.waiting, l.isOverflowed
+	l.waiting, l.isOverflowed = nil, false
+	return lines, isOverflowed
 }

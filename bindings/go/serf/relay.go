@@ -7,7 +7,7 @@ import (
 	"kitchenrue.example/guard/msgpack"
 )
 
-// relay is a message that is to be passed to another node.
+// relay is a message to forward to another node.
 type relay struct {
 	addr    net.IP
 	port    uint16
@@ -15,42 +15,42 @@ type relay struct {
 	message []byte
 }
 
-// relayHead is what stands before that message.
-type relayHead struct {
-	DestAddr place
+// relayHeader is encoded before that message.
+type relayHeader struct {
+	DestAddr destination
 	DestName string
 }
 
-// place is where a node is.
-type place struct {
+// destination is the address of the node that the message is for.
+type destination struct {
 	IP   []byte
 	Port uint16
 	Zone string
 }
 
-// readRelay reads a packet of type 9.
-func readRelay(packet []byte) (relay, error) {
-	var head relayHead
-	rest, err := readFirst(packet, relayType, &head)
-	to := head.DestAddr
-	if err == nil && (len(rest) == 0 || len(to.IP) != net.IPv4len && len(to.IP) != net.IPv6len) {
+// decodeRelay decodes a packet of type 9.
+func decodeRelay(packet []byte) (relay, error) {
+	var head relayHeader
+	rest, err := decodeFirst(packet, relayType, &head)
+	dest := head.DestAddr
+	if err == nil && (len(rest) == 0 || len(dest.IP) != net.IPv4len && len(dest.IP) != net.IPv6len) {
 		err = msgpack.ErrKind
 	}
 	if err != nil {
-		return relay{}, fmt.Errorf("a relay: %w", err)
+		return relay{}, fmt.Errorf("relay: %w", err)
 	}
-	return relay{to.IP, to.Port, head.DestName, rest}, nil
+	return relay{dest.IP, dest.Port, head.DestName, rest}, nil
 }
 
-// short is an address in its shortest form.
-func short(addr net.IP) []byte {
+// shortIP returns an address in its shortest form: 4 bytes for IPv4.
+func shortIP(addr net.IP) []byte {
 	if four := addr.To4(); four != nil {
 		return four
 	}
 	return addr
 }
 
-// writeRelay makes a packet of type 9.
-func writeRelay(to relay) []byte {
-	return append(written(relayHead{place{short(to.addr), to.port, ""}, to.name}, relayType), to.message...)
+// encodeRelay encodes a packet of type 9.
+func encodeRelay(relayed relay) []byte {
+	return append(encode(relayHeader{destination{shortIP(relayed.addr), relayed.port, ""}, relayed.name}, relayType), relayed.message...)
 }

@@ -1,10 +1,10 @@
-// Package serf is a node of a Serf cluster, with the interface of HashiCorp's package serf: a program changes its import, and nothing
-// else. Stock nodes and nodes of this package are in one cluster.
+// Package serf is a node of a Serf cluster, with the interface of HashiCorp's package serf: a program that uses that package changes its
+// import and nothing else. Stock nodes and nodes of this package can be in one cluster.
 //
-// What it promises beside: an event or a query comes on EventCh once at most in all lives of a node that keeps its SnapshotPath, whatever
-// the network brings and whenever the process is killed. Each packet of an event, a query, an answer, a state and an intent goes through
-// the proved agent (package serfagent). This package is tested, and not proved. docs/GO.md says what a program owes, and where this
-// package does otherwise than Serf's.
+// It adds one promise: EventCh delivers an event or a query at most once in all lives of a node that keeps its SnapshotPath, whatever the
+// network sends and whenever the process is killed. Each packet of an event, a query, an answer, a state and an intent is processed by the
+// proved agent (package serfagent). This package is tested, not proved. docs/GO.md has what a program must do, and where this package
+// differs from Serf's.
 package serf
 
 import (
@@ -24,20 +24,20 @@ import (
 	"kitchenrue.example/serfagent"
 )
 
-// endGrace is how long, at the end, what was handed out may still be taken from EventCh.
+// endGrace is how long, after Shutdown, the events that were handed out may still be received from EventCh.
 const endGrace = 500 * time.Millisecond
 
-// How many bytes of a datagram memberlist takes for itself beside one packet that it gossips: two for a compound's head, two for the
-// packet's length and one for its type. With a key there are a version, a nonce and a tag more.
+// How many bytes of a datagram memberlist needs in addition to one gossiped packet: two for the header of a compound message, two for the
+// packet's length and one for its type. With a key there are a version, a nonce and a tag as well.
 const (
 	gossipOverhead = 2 + 2 + 1
 	keyOverhead    = 1 + 12 + 16
 )
 
-// SerfState is how a node stands.
+// SerfState is the state of a node.
 type SerfState int
 
-// How a node stands.
+// The states of a node.
 const (
 	SerfAlive SerfState = iota
 	SerfLeaving
@@ -54,126 +54,128 @@ func (s SerfState) String() string {
 	return serfStates[s]
 }
 
-// Serf is a node of a cluster. Its methods may be called by many goroutines at once.
+// Serf is a node of a cluster. Many goroutines may call its methods at once.
 type Serf struct {
-	config   *Config
-	log      *log.Logger
-	agent    Agent
-	keys     *keyring
-	members  *memberList
-	places   *places
-	snapshot *snapshotFile
-	previous []PreviousNode
-	list     atomic.Pointer[memberlist.Memberlist]
-	guard    *guard.Transport
-	began    time.Time
+	config      *Config
+	log         *log.Logger
+	agent       Agent
+	keys        *keyring
+	members     *memberList
+	coordinates *coordinates
+	snapshot    *snapshotFile
+	previous    []PreviousNode
+	list        atomic.Pointer[memberlist.Memberlist]
+	guard       *guard.Transport
+	began       time.Time
 
-	ctx  context.Context
-	stop context.CancelFunc
-	over sync.WaitGroup
-	// shutdown is closed behind the last event; ending is held while the node ends, and fault is why it ended by itself.
-	shutdown chan struct{}
-	ending   sync.Mutex
-	fault    atomic.Pointer[error]
-	// standing guards state.
-	standing sync.Mutex
-	state    SerfState
+	ctx      context.Context
+	stop     context.CancelFunc
+	routines sync.WaitGroup
+	// shutdown is closed after the last event. shutdownMu is held while the node ends, and fault is why it ended by itself.
+	shutdown   chan struct{}
+	shutdownMu sync.Mutex
+	fault      atomic.Pointer[error]
+	// stateMu guards state.
+	stateMu sync.Mutex
+	state   SerfState
 
 	coalescer *coalescer
 	pipe      *pipe
-	// left has how many events were never taken from EventCh.
-	left chan int
+	// undelivered has the number of events that were never received from EventCh.
+	undelivered chan int
 
-	// order is held over each call that hands out, and its flush, until what was handed out waits in the pipe. memberlist never takes
-	// it.
+	// order is held during each call of the proved agent that hands out events, and its flush, until these events are in the pipe.
+	// memberlist's callbacks never lock it.
 	order   sync.Mutex
 	isEnded bool
-	// handing is what a call handed out, until it goes on together.
-	handing []Event
-	open    map[asking]*QueryResponse
-	firings *firings
+	// staged has what was handed out while order is held, until flushStaged publishes it. The slice is reused.
+	staged      []Event
+	openQueries map[queryKey]*QueryResponse
+	firings     *firingQueue
 
-	// What came of the network and waits; how much of it was dropped without room, and how much since its time is far.
-	packets, states *queue
-	dropped, far    atomic.Int64
-	// due has something where the time of a query may be over.
-	due chan struct{}
-	// internal are the queries of the agents among themselves, and conflicts another node that says it is this one.
-	internal  chan *serfagent.Handed
-	conflicts chan struct{}
+	// Packets and states that were received and wait, and how many were dropped because there was no room, or because of a far time.
+	packets, states     *queue
+	dropped, droppedFar atomic.Int64
+	// queryDue has a value when the deadline of a query may have passed.
+	queryDue chan struct{}
+	// internalQueries are queries that agents send each other. conflicts has a value if another node claims this node's name.
+	internalQueries chan *serfagent.PendingQuery
+	conflicts       chan struct{}
 
-	// What waits to be gossiped; longest is how long a packet is at most that memberlist can gossip.
-	intents, queries, events *broadcasts
-	longest                  int
-	// turns counts how often packets of a queue were longer than half of the room.
-	turns atomic.Uint64
+	// The packets that wait to be gossiped, and the maximum length of a packet that memberlist can gossip.
+	intents, queries, events *broadcastQueue
+	maxGossipPacket          int
+	// longTurns counts how often all packets of a queue were longer than half of the room.
+	longTurns atomic.Uint64
 
-	// isIgnoring counts joins that take no old events. saying is held while this node says that it is there, or leaves; joined has
-	// something where it joined, and says so soon.
-	isIgnoring atomic.Int64
-	saying     sync.Mutex
-	joined     chan struct{}
+	// ignoringJoins counts the running joins that ignore old events. announcing is held while the node sends its own join or leave intent.
+	// announceNeeded has a value when a join intent is to be sent.
+	ignoringJoins  atomic.Int64
+	announcing     sync.Mutex
+	announceNeeded chan struct{}
 
-	tagging sync.Mutex
-	tags    map[string]string
-	data    []byte
+	tagsMu   sync.Mutex
+	tags     map[string]string
+	nodeMeta []byte
 
-	// made guards the last state that was made, which memberlist asks for.
-	made      sync.Mutex
-	lastState []byte
-	asked     chan chan<- []byte
+	// lastStateMu guards the last state that was made. memberlist's requests for a new one go through stateRequests.
+	lastStateMu   sync.Mutex
+	lastState     []byte
+	stateRequests chan chan<- []byte
 
-	lines *lines
+	memberLines *lineQueue
 
-	// kept bounds what is kept of events; nil where none is. grown is how much the file has grown since it was last looked at: order is
-	// held.
-	kept   *kept
-	unkept atomic.Int64
-	grown  int
+	// keptEvents limits the kept events, or is nil if none are kept. droppedKept counts what was dropped for lack of room there. grownBytes
+	// is how much the file has grown since it was last checked; order is held.
+	keptEvents  *keptEvents
+	droppedKept atomic.Int64
+	grownBytes  int
 
-	// nextTime is behind the times of all events that were handed out: order is held. lacking has something where some may be missed.
-	nextTime uint64
-	lacking  chan struct{}
+	// nextEventTime is later than the times of all events that were handed out; order is held. missedEvents has a value when the node may
+	// have missed events.
+	nextEventTime uint64
+	missedEvents  chan struct{}
 
-	// Names of events, and of queries, that are counted.
-	eventNames, queryNames *names
+	// The counts of events, and of queries, by name.
+	eventNames, queryNames *nameCounter
 }
 
-// Create makes a node, and joins the members that its snapshot names. The configuration is copied.
+// Create creates a node and joins one of the members that its snapshot names. It copies the configuration.
 //
-// Where it is refused nothing is left behind but a file that was made.
+// If Create returns an error, nothing is left behind except a file that it may have created.
 func Create(conf *Config) (*Serf, error) {
-	own, err := conf.copied()
+	config, err := conf.withDefaults()
 	if err != nil {
 		return nil, err
 	}
-	data, err := own.tagsData(own.Tags)
+	meta, err := config.nodeMeta(config.Tags)
 	if err != nil {
 		return nil, err
 	}
-	keys, err := keyringOf(own)
+	keys, err := newKeyring(config)
 	if err != nil {
 		return nil, err
 	}
-	agent, file, previous, err := openAgent(own)
+	agent, file, previous, err := openAgent(config)
 	if err != nil {
 		return nil, err
 	}
-	if own.Wrap != nil {
-		wrapped, err := own.Wrap(agent, own.settings())
+	if config.Wrap != nil {
+		wrapped, err := config.Wrap(agent, config.agentSettings())
 		if err != nil {
 			closeAgent(agent, file)
 			return nil, err
 		}
 		agent = wrapped
 	}
-	s, err := create(own, agent, file, keys, data, previous)
+	s, err := create(config, agent, file, keys, meta, previous)
 	if err != nil {
 		closeAgent(agent, file)
 	}
 	return s, err
 }
 
+// closeAgent closes what openAgent opened.
 func closeAgent(agent Agent, file *snapshotFile) {
 	_ = agent.Close()
 	if file != nil {
@@ -181,29 +183,32 @@ func closeAgent(agent Agent, file *snapshotFile) {
 	}
 }
 
-// create makes a node over a proved agent.
-func create(c *Config, agent Agent, file *snapshotFile, keys *keyring, data []byte, previous []PreviousNode) (*Serf, error) {
+// create creates a node over a proved agent.
+func create(c *Config, agent Agent, file *snapshotFile, keys *keyring, meta []byte, previous []PreviousNode) (*Serf, error) {
 	ctx, stop := context.WithCancel(context.Background())
 	s := &Serf{
 		config: c, log: c.logger(), agent: agent, keys: keys, snapshot: file, previous: previous, began: time.Now(), ctx: ctx, stop: stop,
-		shutdown: make(chan struct{}), pipe: newPipe(), left: make(chan int, 1), open: map[asking]*QueryResponse{}, firings: newFirings(), packets: newQueue(),
-		states: newQueue(), due: make(chan struct{}, 1), internal: make(chan *serfagent.Handed, 64), conflicts: make(chan struct{}, 1), lacking: make(chan struct{}, 1),
-		joined: make(chan struct{}, 1), tags: c.Tags, data: data, asked: make(chan chan<- []byte), lines: newLines(), eventNames: namesOf("events"),
-		queryNames: namesOf("queries"),
+		shutdown: make(chan struct{}), pipe: newPipe(), undelivered: make(chan int, 1),
+		openQueries: map[queryKey]*QueryResponse{}, firings: newFiringQueue(), packets: newQueue(),
+		states: newQueue(), queryDue: make(chan struct{}, 1),
+		internalQueries: make(chan *serfagent.PendingQuery, 64), conflicts: make(chan struct{}, 1), missedEvents: make(chan struct{}, 1),
+		announceNeeded: make(chan struct{}, 1), tags: c.Tags, nodeMeta: meta, stateRequests: make(chan chan<- []byte),
+		memberLines: newLineQueue(),
+		eventNames:  newNameCounter("events"), queryNames: newNameCounter("queries"),
 	}
 	s.coalescer = newCoalescer(c, s.pipe.add)
-	s.members = newMembers(c, s.log, func(e MemberEvent) { s.out(e) }, s.lines.add)
+	s.members = newMembers(c, s.log, func(e MemberEvent) { s.publish(e) }, s.memberLines.add)
 	var err error
 	if s.lastState, err = agent.LocalState(nil, nil); err != nil {
 		stop()
 		return nil, err
 	}
-	if s.places, err = newPlaces(c); err != nil {
+	if s.coordinates, err = newCoordinates(c); err != nil {
 		stop()
 		return nil, err
 	}
-	s.tellOfFarClocks()
-	if err := s.boundKept(); err != nil {
+	s.warnOfFarClocks()
+	if err := s.limitKept(); err != nil {
 		stop()
 		return nil, err
 	}
@@ -213,140 +218,144 @@ func create(c *Config, agent Agent, file *snapshotFile, keys *keyring, data []by
 	}
 	go func() {
 		if c.EventCh != nil {
-			s.left <- s.pipe.run(c.EventCh, ctx.Done(), endGrace)
+			s.undelivered <- s.pipe.deliver(c.EventCh, ctx.Done(), endGrace)
 		} else {
-			s.left <- 0
+			s.undelivered <- 0
 		}
 	}()
 	for _, run := range []func(){
-		s.take, s.fireAll, s.makeStates, s.answerInternal, s.settleConflicts, s.sayJoins, s.keep, s.reap, s.checkQueues,
+		s.receive, s.fireAll, s.serveStates, s.answerInternalQueries, s.resolveConflicts, s.announceJoins,
+		s.writeSnapshot, s.reap, s.checkQueues,
 	} {
-		s.over.Add(1)
+		s.routines.Add(1)
 		go func(run func()) {
-			defer s.over.Done()
+			defer s.routines.Done()
 			run()
 		}(run)
 	}
-	// (these may wait for a node that doesn't answer, which the end doesn't wait for: they call the proved agent nowhere)
+	// (these may wait for a node that does not answer, so Shutdown does not wait for them; they never call the proved agent)
 	go s.reconnect()
 	go s.rejoin()
 	go s.catchUp()
 	return s, nil
 }
 
-// listen makes the node a member of memberlist.
+// listen starts memberlist.
 func (s *Serf) listen() error {
 	conf := s.config.MemberlistConfig
-	own := delegate{s}
-	conf.Name, conf.Delegate, conf.Events, conf.Conflict = s.config.NodeName, own, own, own
-	if s.places != nil {
-		conf.Ping = own
+	calls := delegate{s}
+	conf.Name, conf.Delegate, conf.Events, conf.Conflict = s.config.NodeName, calls, calls, calls
+	if s.coordinates != nil {
+		conf.Ping = calls
 	}
 	if s.config.Merge != nil {
-		conf.Merge, conf.Alive = own, own
+		conf.Merge, conf.Alive = calls, calls
 	}
 	conf.DelegateProtocolMin, conf.DelegateProtocolMax = ProtocolVersionMin, ProtocolVersionMax
 	conf.DelegateProtocolVersion, conf.ProtocolVersion = s.config.ProtocolVersion, ProtocolVersionMap[s.config.ProtocolVersion]
 	conf.Logger, conf.LogOutput = s.log, nil
-	if err := s.guardIt(conf); err != nil {
+	if err := s.installGuard(conf); err != nil {
 		return err
 	}
-	for _, queue := range []**broadcasts{&s.intents, &s.queries, &s.events} {
-		*queue = &broadcasts{serf: s, queue: memberlist.TransmitLimitedQueue{RetransmitMult: conf.RetransmitMult, NumNodes: s.members.size}}
+	for _, queue := range []**broadcastQueue{&s.intents, &s.queries, &s.events} {
+		*queue = &broadcastQueue{
+			serf: s, queue: memberlist.TransmitLimitedQueue{RetransmitMult: conf.RetransmitMult, NumNodes: s.members.size},
+		}
 	}
-	list, err := memberlist.Create(conf)
+	node, err := memberlist.Create(conf)
 	if err != nil {
 		if s.guard != nil {
 			_ = conf.Transport.Shutdown()
 		}
 		return fmt.Errorf("memberlist: %w", err)
 	}
-	if at := net.ParseIP(conf.BindAddr); !conf.EncryptionEnabled() && !at.IsLoopback() {
-		s.log.Printf("[WARN] serf: there is no key, so whoever reaches %s may join, and speak as any node", conf.BindAddr)
+	if ip := net.ParseIP(conf.BindAddr); !conf.EncryptionEnabled() && !ip.IsLoopback() {
+		s.log.Printf("[WARN] serf: gossip is not encrypted: whoever can reach %s may join, and send messages in the name of any node",
+			conf.BindAddr)
 	}
-	s.longest = conf.UDPBufferSize - gossipOverhead
+	s.maxGossipPacket = conf.UDPBufferSize - gossipOverhead
 	if conf.EncryptionEnabled() {
-		s.longest -= keyOverhead
+		s.maxGossipPacket -= keyOverhead
 	}
-	s.list.Store(list)
+	s.list.Store(node)
 	return nil
 }
 
-// out lets events go on that were handed out. It doesn't wait.
-func (s *Serf) out(events ...Event) {
+// publish passes events on to EventCh, through the coalescer and the pipe. It does not block.
+func (s *Serf) publish(events ...Event) {
 	if s.config.EventCh != nil && len(events) > 0 {
 		s.coalescer.add(events...)
 	}
 }
 
-// now is a moment of a clock that doesn't go back.
+// now returns the time since the node began, in nanoseconds. It never goes back.
 func (s *Serf) now() uint64 { return uint64(time.Since(s.began)) }
 
-// inOrder merges the states that wait, as far as there is room for what they bring, and makes a call that hands out. It is refused at
-// the end.
+// inOrder merges the waiting states, as long as there is room for their events, and then calls the proved agent. After the end it returns
+// ErrEnded.
 func (s *Serf) inOrder(call func() error) error {
 	s.order.Lock()
 	defer s.order.Unlock()
 	for !s.isEnded && s.pipe.hasRoom() {
-		state, more := s.states.next()
-		if !more {
+		state, ok := s.states.next()
+		if !ok {
 			break
 		}
-		if err := s.merge(state); isClosed(err) {
-			return s.failed(err)
+		if err := s.mergeState(state); isClosed(err) {
+			return s.endOnFailure(err)
 		}
 	}
 	if s.isEnded {
 		return ErrEnded
 	}
-	return s.failed(call())
+	return s.endOnFailure(call())
 }
 
-// isOver says whether this error means that nothing more is taken.
-func isOver(err error) bool { return errors.Is(err, ErrEnded) || isClosed(err) }
+// isFinal reports whether this error means that the node accepts nothing more.
+func isFinal(err error) bool { return errors.Is(err, ErrEnded) || isClosed(err) }
 
-// failed ends the node where this error says that the proved agent is closed.
-func (s *Serf) failed(err error) error {
+// endOnFailure ends the node if this error means that the proved agent is closed. It returns the error.
+func (s *Serf) endOnFailure(err error) error {
 	if isClosed(err) && !s.isEnded {
 		s.isEnded = true
-		s.end(fmt.Errorf("the snapshot failed, so nothing more is taken: %w", err))
+		s.endWith(fmt.Errorf("the snapshot failed, so the node accepts nothing more: %w", err))
 	}
 	return err
 }
 
-// end has the node end by itself. It doesn't wait.
-func (s *Serf) end(why error) {
-	if s.fault.CompareAndSwap(nil, &why) {
-		s.log.Printf("[ERR] serf: the node ends: %v", why)
+// endWith makes the node end by itself, for this reason. It does not wait for that.
+func (s *Serf) endWith(reason error) {
+	if s.fault.CompareAndSwap(nil, &reason) {
+		s.log.Printf("[ERR] serf: the node ends: %v", reason)
 		go s.Shutdown()
 	}
 }
 
-// Fault is why the node ended by itself, as behind a disk that failed; nil where it didn't. It is there before ShutdownCh is closed.
-// Serf has no such method.
+// Fault returns why the node ended by itself, for example because its disk failed, or nil if it did not. It is set before ShutdownCh is
+// closed. Serf has no such method.
 func (s *Serf) Fault() error {
-	if why := s.fault.Load(); why != nil {
-		return *why
+	if reason := s.fault.Load(); reason != nil {
+		return *reason
 	}
 	return nil
 }
 
-// State is how the node stands.
+// State returns the state of the node.
 func (s *Serf) State() SerfState {
-	s.standing.Lock()
-	defer s.standing.Unlock()
+	s.stateMu.Lock()
+	defer s.stateMu.Unlock()
 	return s.state
 }
 
-// Shutdown ends the node at once, without a word to the others. What was handed out may be taken from EventCh for half a second more;
+// Shutdown ends the node at once, without a leave. Events that were handed out can be received from EventCh for another half second, and
 // then ShutdownCh is closed. A second call waits for the first.
 func (s *Serf) Shutdown() error {
-	s.ending.Lock()
-	defer s.ending.Unlock()
-	s.standing.Lock()
+	s.shutdownMu.Lock()
+	defer s.shutdownMu.Unlock()
+	s.stateMu.Lock()
 	before := s.state
 	s.state = SerfShutdown
-	s.standing.Unlock()
+	s.stateMu.Unlock()
 	if before == SerfShutdown {
 		return nil
 	}
@@ -355,39 +364,39 @@ func (s *Serf) Shutdown() error {
 	}
 	err := s.memberlist().Shutdown()
 	s.order.Lock()
-	isFaulty := s.isEnded
+	hasFailed := s.isEnded
 	s.isEnded = true
-	for key, one := range s.open {
-		one.Close()
-		// (it would keep the node in memory)
-		one.late.Stop()
-		delete(s.open, key)
+	for key, response := range s.openQueries {
+		response.Close()
+		// (the timer would keep the node in memory)
+		response.expiry.Stop()
+		delete(s.openQueries, key)
 	}
 	s.coalescer.flush()
 	s.order.Unlock()
 	s.stop()
-	s.over.Wait()
-	if left := <-s.left; left > 0 {
-		s.log.Printf("[WARN] serf: %d events were handed out, and never taken from EventCh", left)
+	s.routines.Wait()
+	if undelivered := <-s.undelivered; undelivered > 0 {
+		s.log.Printf("[WARN] serf: %d events were handed out but never received from EventCh", undelivered)
 	}
-	if closed := s.closeFile(isFaulty); err == nil {
-		err = closed
+	if closeErr := s.closeFile(hasFailed); err == nil {
+		err = closeErr
 	}
-	if why := s.Fault(); why != nil {
-		// (the last line says it too: a program that knows no Fault may end with status 0)
-		s.log.Printf("[ERR] serf: the node has ended: %v", why)
+	if reason := s.Fault(); reason != nil {
+		// (the last line of the log has it too, since a program that does not call Fault may exit with status 0)
+		s.log.Printf("[ERR] serf: the node has ended: %v", reason)
 	}
 	close(s.shutdown)
 	return err
 }
 
-// closeFile writes what waits for the file, and closes it. Of one that failed already nothing is said.
-func (s *Serf) closeFile(isFaulty bool) (err error) {
-	if !isFaulty {
+// closeFile writes what waits for the file and closes the file. If the file has failed already, errors are not reported again.
+func (s *Serf) closeFile(hasFailed bool) (err error) {
+	if !hasFailed {
 		err = s.finishSnapshot()
 	}
-	if closed := s.agent.Close(); err == nil && !isFaulty {
-		err = closed
+	if closeErr := s.agent.Close(); err == nil && !hasFailed {
+		err = closeErr
 	}
 	if s.snapshot != nil {
 		_ = s.snapshot.close()
@@ -395,30 +404,31 @@ func (s *Serf) closeFile(isFaulty bool) (err error) {
 	return err
 }
 
-// ShutdownCh is closed when the node has ended, behind all that was handed out.
+// ShutdownCh is closed when the node has ended, after all events that were handed out.
 func (s *Serf) ShutdownCh() <-chan struct{} { return s.shutdown }
 
+// memberlist returns memberlist's node.
 func (s *Serf) memberlist() *memberlist.Memberlist { return s.list.Load() }
 
-// Memberlist is memberlist's node.
+// Memberlist returns memberlist's node.
 func (s *Serf) Memberlist() *memberlist.Memberlist { return s.memberlist() }
 
-// Members are all that are known, in whatever state, by name. Who changes their tags changes the node's.
+// Members returns all members, whatever their status, sorted by name. Their tags are shared with the node and must not be changed.
 func (s *Serf) Members() []Member { return s.members.all() }
 
-// LocalMember is this node, also behind a leave when its members don't have it any more.
+// LocalMember returns this node, even after a leave, when it is no longer among the members.
 func (s *Serf) LocalMember() Member { return s.members.ownMember() }
 
-// NumNodes is how many nodes are known, in whatever state.
+// NumNodes returns the number of members, whatever their status.
 func (s *Serf) NumNodes() int { return s.members.size() }
 
-// ProtocolVersion is the version of Serf's protocol that is spoken.
+// ProtocolVersion returns the version of Serf's protocol that the node speaks.
 func (s *Serf) ProtocolVersion() uint8 { return s.config.ProtocolVersion }
 
-// EncryptionEnabled says whether gossip is encrypted.
+// EncryptionEnabled reports whether gossip is encrypted.
 func (s *Serf) EncryptionEnabled() bool { return s.keys != nil }
 
-// DefaultQueryTimeout is the timeout of a query where none is given: it grows with the number of nodes.
+// DefaultQueryTimeout returns the timeout of a query for which none is given. It grows with the number of members.
 func (s *Serf) DefaultQueryTimeout() time.Duration {
 	steps := math.Ceil(math.Log10(float64(s.members.size() + 1)))
 	return s.config.MemberlistConfig.GossipInterval * time.Duration(s.config.QueryTimeoutMult) * time.Duration(steps)

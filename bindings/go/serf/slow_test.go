@@ -12,133 +12,133 @@ import (
 	"kitchenrue.example/serfagent"
 )
 
-// While the disk is slow another node's pings are acked, and it joins.
-func TestPingsWhileTheDiskIsSlow(t *testing.T) {
-	f := &fake{flush: make(chan struct{})}
-	a := start(t, "a", "", withAgent(f))
-	other := start(t, "b", "", withAgent(&fake{}), func(m *made) {
-		m.MemberlistConfig.ProbeInterval, m.MemberlistConfig.ProbeTimeout, m.MemberlistConfig.TCPTimeout = time.Hour, 20*time.Second, 20*time.Second
+// While the disk is slow, the node still acks pings and accepts joins.
+func TestPingsWhileDiskIsSlow(t *testing.T) {
+	f := &fakeAgent{flushGate: make(chan struct{})}
+	a := startNode(t, "a", "", withAgent(f))
+	other := startNode(t, "b", "", withAgent(&fakeAgent{}), func(o *nodeOptions) {
+		o.MemberlistConfig.ProbeInterval, o.MemberlistConfig.ProbeTimeout, o.MemberlistConfig.TCPTimeout = time.Hour, 20*time.Second, 20*time.Second
 	})
-	a.own().NotifyMsg([]byte("\x03\x80"))
+	a.delegate().NotifyMsg([]byte("\x03\x80"))
 	eventually(t, "the agent flushes", f.isBusy)
-	where, err := net.ResolveUDPAddr("udp", a.address())
+	addr, err := net.ResolveUDPAddr("udp", a.address())
 	must(t, err)
 	for i := 0; i < 3; i++ {
 		other.join(a)
-		if _, err := other.memberlist().Ping("a", where); err != nil {
+		if _, err := other.memberlist().Ping("a", addr); err != nil {
 			t.Error(err)
 		}
 	}
-	close(f.flush)
+	close(f.flushGate)
 }
 
-// What memberlist lends for a call is copied.
-func TestWhatMemberlistLends(t *testing.T) {
-	f := &failing{fake: fake{flush: make(chan struct{})}}
-	a := start(t, "a", "", withAgent(f))
-	a.own().NotifyMsg([]byte("\x03first"))
+// Bytes that memberlist reuses after a call are copied.
+func TestBorrowedBytesAreCopied(t *testing.T) {
+	f := &failingAgent{fakeAgent: fakeAgent{flushGate: make(chan struct{})}}
+	a := startNode(t, "a", "", withAgent(f))
+	a.delegate().NotifyMsg([]byte("\x03first"))
 	eventually(t, "the agent flushes", f.isBusy)
-	packet, state, node := []byte("\x03lent"), []byte("\x02lent"), b()
-	a.own().NotifyMsg(packet)
-	a.own().MergeRemoteState(state, false)
-	a.own().NotifyJoin(node)
-	for _, lent := range [][]byte{packet, state, node.Addr, node.Meta} {
-		for i := range lent {
-			lent[i] = 'x'
+	packet, state, node := []byte("\x03lent"), []byte("\x02lent"), nodeB()
+	a.delegate().NotifyMsg(packet)
+	a.delegate().MergeRemoteState(state, false)
+	a.delegate().NotifyJoin(node)
+	for _, borrowed := range [][]byte{packet, state, node.Addr, node.Meta} {
+		for i := range borrowed {
+			borrowed[i] = 'x'
 		}
 	}
-	close(f.flush)
-	eventually(t, "both come as they were", func() bool {
-		return reflect.DeepEqual(a.got("fake"), []string{"first", "lent"}) && reflect.DeepEqual(a.got("merged"), []string{"\x02lent"})
+	close(f.flushGate)
+	eventually(t, "both arrive unchanged", func() bool {
+		return reflect.DeepEqual(a.payloads("fake"), []string{"first", "lent"}) && reflect.DeepEqual(a.payloads("merged"), []string{"\x02lent"})
 	})
 	if m, _ := a.members.get("b"); m.Addr.String() != "127.0.0.9" || m.Tags["t"] != "v" {
 		t.Error(m)
 	}
 }
 
-// What has no room is counted, and told once; and so is a packet that no datagram has room for.
+// Packets for which there is no room are counted and logged once. A packet that is too long for a datagram is dropped too.
 func TestDroppedPackets(t *testing.T) {
-	f, said := &fake{flush: make(chan struct{})}, &logged{}
-	a := start(t, "a", "", withAgent(f), withLog(said), func(m *made) { m.MaxQueueDepth = 2 * Waiting })
-	a.own().NotifyMsg([]byte("\x03\x80"))
+	f, logs := &fakeAgent{flushGate: make(chan struct{})}, &logBuffer{}
+	a := startNode(t, "a", "", withAgent(f), withLog(logs), func(o *nodeOptions) { o.MaxQueueDepth = 2 * Waiting })
+	a.delegate().NotifyMsg([]byte("\x03\x80"))
 	eventually(t, "the agent flushes", f.isBusy)
 	for i := 0; i < Waiting+1234; i++ {
-		a.own().NotifyMsg([]byte("\x03\x80"))
+		a.delegate().NotifyMsg([]byte("\x03\x80"))
 	}
-	close(f.flush)
-	eventually(t, "it is told", func() bool {
-		return strings.Contains(said.String(), " 1234 packets or states were dropped, since too many wait")
+	close(f.flushGate)
+	eventually(t, "it is logged", func() bool {
+		return strings.Contains(logs.String(), " 1234 packets or states were dropped, since too many are waiting")
 	})
-	eventually(t, "the others are taken", func() bool { return len(a.got("fake")) == Waiting+1 })
-	if text := said.String(); strings.Count(text, "since too many wait") != 1 || a.Stats()["dropped"] != "1234" {
+	eventually(t, "the others are processed", func() bool { return len(a.payloads("fake")) == Waiting+1 })
+	if text := logs.String(); strings.Count(text, "since too many are waiting") != 1 || a.Stats()["dropped"] != "1234" {
 		t.Error(a.Stats(), text)
 	}
 	for more := 0; more < 2; more++ {
-		a.own().NotifyMsg(append([]byte{3}, make([]byte, longestPacket-1+more)...))
+		a.delegate().NotifyMsg(append([]byte{3}, make([]byte, maxPacketLength-1+more)...))
 	}
-	eventually(t, "the shorter one is taken", func() bool { return len(a.got("fake")) == Waiting+2 })
+	eventually(t, "the shorter packet is processed", func() bool { return len(a.payloads("fake")) == Waiting+2 })
 	if lost := a.dropped.Load(); lost != 1236 {
-		// (it is too long to be sent on)
+		// (the shorter packet was processed, but is too long to be gossiped)
 		t.Error(lost)
 	}
 }
 
-// A firing comes behind the states that came before it.
-func TestAFiringComesBehindTheStatesBefore(t *testing.T) {
-	a := start(t, "a", "", withAgent(&failing{}))
+// A firing follows the states that were received before it.
+func TestFiringFollowsEarlierStates(t *testing.T) {
+	a := startNode(t, "a", "", withAgent(&failingAgent{}))
 	for i := 0; i < 500; i++ {
-		a.own().MergeRemoteState([]byte("\x02\x80"), true)
-		if at, err := a.Fire("x", nil, false); err != nil || at != LamportTime(2*i+2) {
-			t.Fatalf("the firing %d is at %d: %v", i, at, err)
+		a.delegate().MergeRemoteState([]byte("\x02\x80"), true)
+		if time, err := a.Fire("x", nil, false); err != nil || time != LamportTime(2*i+2) {
+			t.Fatalf("firing %d has the time %d: %v", i, time, err)
 		}
 	}
 }
 
-// heap is how much memory of Go's is reached.
-func heap() int64 {
+// heapInUse returns the size of Go's live heap.
+func heapInUse() int64 {
 	runtime.GC()
-	var about runtime.MemStats
-	runtime.ReadMemStats(&about)
-	return int64(about.HeapAlloc)
+	var stats runtime.MemStats
+	runtime.ReadMemStats(&stats)
+	return int64(stats.HeapAlloc)
 }
 
-// Nobody takes events, and a million packets come: what is kept has a bound, and the node is a member still.
-func TestAMillionPacketsBehindAStuckReader(t *testing.T) {
-	a := start(t, "a", "", withAgent(&fake{}))
-	a.hold(true)
+// If nobody receives events and a million packets arrive, memory stays limited, and the node remains a member.
+func TestMillionPacketsWithoutReader(t *testing.T) {
+	a := startNode(t, "a", "", withAgent(&fakeAgent{}))
+	a.pauseReading(true)
 	packet := append([]byte{3}, make([]byte, 511)...)
 	flood := func(count int) {
 		for i := 0; i < count; i++ {
-			a.own().NotifyMsg(packet)
+			a.delegate().NotifyMsg(packet)
 		}
 	}
-	eventually(t, "it is full", func() bool {
+	eventually(t, "the queue is full", func() bool {
 		flood(Burst)
 		a.packets.mu.Lock()
 		defer a.packets.mu.Unlock()
-		return !a.pipe.hasRoom() && len(a.packets.pieces) == Waiting
+		return !a.pipe.hasRoom() && len(a.packets.messages) == Waiting
 	})
-	before, dropped := heap(), a.dropped.Load()
+	before, dropped := heapInUse(), a.dropped.Load()
 	flood(1_000_000)
-	if grown, lost := heap()-before, a.dropped.Load()-dropped; grown > 4<<20 || lost < 1_000_000-Waiting {
-		t.Errorf("it grew by %d bytes, and dropped %d", grown, lost)
+	if grown, lost := heapInUse()-before, a.dropped.Load()-dropped; grown > 4<<20 || lost < 1_000_000-Waiting {
+		t.Errorf("the heap grew by %d bytes, and %d packets were dropped", grown, lost)
 	}
-	soon(t, "what a member does", func() {
-		if err := a.SetTags(map[string]string{"role": "web"}); err != nil || a.LocalMember().Tags["role"] != "web" || len(a.own().LocalState(false)) == 0 {
+	promptly(t, "what a member does", func() {
+		if err := a.SetTags(map[string]string{"role": "web"}); err != nil || a.LocalMember().Tags["role"] != "web" || len(a.delegate().LocalState(false)) == 0 {
 			t.Error(err, a.LocalMember())
 		}
 		check(t, a.Leave())
 	})
 }
 
-// Who takes an event may call the node from there, and shut it down.
-func TestAReaderThatCallsBack(t *testing.T) {
-	over := make(chan struct{})
-	var a *one
-	var asked *QueryResponse
-	made := make(chan struct{})
+// The goroutine that receives events may call the node, and shut it down.
+func TestReaderThatCallsBack(t *testing.T) {
+	done := make(chan struct{})
+	var a *testNode
+	var response *QueryResponse
+	isMade := make(chan struct{})
 	reads := func(e Event) {
-		<-made
+		<-isMade
 		var err error
 		switch e := e.(type) {
 		case UserEvent:
@@ -149,85 +149,85 @@ func TestAReaderThatCallsBack(t *testing.T) {
 			if err = a.SetTags(map[string]string{"role": "web"}); err != nil || len(a.Members()) != 1 || a.Stats()["members"] != "1" {
 				t.Error(err, a.Members(), a.Stats())
 			}
-			a.own().NotifyMsg([]byte("\x03\x80"))
-			a.own().MergeRemoteState(a.own().LocalState(false), false)
-			if asked, err = a.Query("who", nil, &QueryParam{Timeout: MaxTimeout}); err != nil {
+			a.delegate().NotifyMsg([]byte("\x03\x80"))
+			a.delegate().MergeRemoteState(a.delegate().LocalState(false), false)
+			if response, err = a.Query("who", nil, &QueryParam{Timeout: MaxTimeout}); err != nil {
 				t.Error(err)
 			}
 		case *Query:
 			check(t, e.Respond([]byte("here")))
-			if answer := <-asked.ResponseCh(); answer.From != "a" || string(answer.Payload) != "here" {
+			if answer := <-response.ResponseCh(); answer.From != "a" || string(answer.Payload) != "here" {
 				t.Error(answer)
 			}
-			// (what nobody takes meanwhile doesn't hold the end up)
+			// (events that nobody receives meanwhile don't delay the end)
 			check(t, a.UserEvent("last", nil, false))
 			check(t, a.Shutdown())
-			if asked.late.Stop() {
+			if response.expiry.Stop() {
 				t.Error("a timer keeps the node in memory")
 			}
-			close(over)
+			close(done)
 		}
 	}
-	a = start(t, "a", "", withTap(reads))
-	close(made)
+	a = startNode(t, "a", "", withOnEvent(reads))
+	close(isMade)
 	must(t, a.UserEvent("first", nil, false))
-	soon(t, "what the reader does", func() { <-over })
+	promptly(t, "what the reader does", func() { <-done })
 }
 
-// noting notes what an agent hands out, in its order.
-type noting struct {
+// recordingAgent records what an agent hands out, in order.
+type recordingAgent struct {
 	Agent
-	told one
+	recorded testNode
 }
 
-func (n *noting) note(event *serfagent.Event, query *serfagent.Handed) {
+func (n *recordingAgent) record(event *serfagent.Event, query *serfagent.PendingQuery) {
 	if event != nil {
-		n.told.handed = append(n.told.handed, UserEvent{LTime: LamportTime(event.Time), Name: string(event.Name), Payload: event.Payload})
+		n.recorded.received = append(n.recorded.received, UserEvent{LTime: LamportTime(event.Time), Name: string(event.Name), Payload: event.Payload})
 	}
 	if query != nil {
-		n.told.handed = append(n.told.handed, &Query{LTime: LamportTime(query.Time), Name: string(query.Name)})
+		n.recorded.received = append(n.recorded.received, &Query{LTime: LamportTime(query.Time), Name: string(query.Name)})
 	}
 }
 
-func (n *noting) TakeAll(now uint64, packets []Packet, firings []Firing) ([]serfagent.Outcome, error) {
-	n.told.mu.Lock()
-	defer n.told.mu.Unlock()
+func (n *recordingAgent) TakeAll(now uint64, packets []Packet, firings []Firing) ([]serfagent.Outcome, error) {
+	n.recorded.mu.Lock()
+	defer n.recorded.mu.Unlock()
 	outcomes, err := n.Agent.TakeAll(now, packets, firings)
-	for _, one := range outcomes {
-		if one.Received != nil {
-			n.note(one.Received.Event, one.Received.Query)
-		} else if one.Fired != nil {
-			n.note(one.Fired.Event, nil)
+	for _, outcome := range outcomes {
+		if outcome.Received != nil {
+			n.record(outcome.Received.Event, outcome.Received.Query)
+		} else if outcome.Fired != nil {
+			n.record(outcome.Fired.Event, nil)
 		}
 	}
 	return outcomes, err
 }
 
-func (n *noting) Merge(state []byte, isJoin bool) ([]*serfagent.Event, error) {
-	n.told.mu.Lock()
-	defer n.told.mu.Unlock()
+func (n *recordingAgent) Merge(state []byte, isJoin bool) ([]*serfagent.Event, error) {
+	n.recorded.mu.Lock()
+	defer n.recorded.mu.Unlock()
 	events, err := n.Agent.Merge(state, isJoin)
 	for _, event := range events {
-		n.note(event, nil)
+		n.record(event, nil)
 	}
 	return events, err
 }
 
-func (n *noting) Query(now uint64, id uint32, name, payload []byte, params serfagent.QueryParams) (*serfagent.Asked, error) {
-	n.told.mu.Lock()
-	defer n.told.mu.Unlock()
-	asked, err := n.Agent.Query(now, id, name, payload, params)
-	if asked != nil {
-		n.note(nil, asked.Query)
+func (n *recordingAgent) Query(now uint64, id uint32, name, payload []byte, params serfagent.QueryParams) (*serfagent.FiredQuery, error) {
+	n.recorded.mu.Lock()
+	defer n.recorded.mu.Unlock()
+	fired, err := n.Agent.Query(now, id, name, payload, params)
+	if fired != nil {
+		n.record(nil, fired.Query)
 	}
-	return asked, err
+	return fired, err
 }
 
-// said are the events and queries that were handed out, in their order.
-func (o *one) said() (all []string) {
-	o.mu.Lock()
-	defer o.mu.Unlock()
-	for _, e := range o.handed {
+// handedOut returns the events and queries that were handed out, in order.
+func (n *testNode) handedOut() (all []string) {
+	n.mu.Lock()
+	defer n.mu.Unlock()
+	for _, e := range n.received {
 		switch e := e.(type) {
 		case UserEvent:
 			all = append(all, fmt.Sprintf("event %d %s %x", e.LTime, e.Name, e.Payload))
@@ -238,16 +238,17 @@ func (o *one) said() (all []string) {
 	return all
 }
 
-// Whoever fires and asks beside a flood of packets, whole and cut, and states: all comes in the agent's order, and once.
-func TestTheAgentsOrder(t *testing.T) {
-	agent := &noting{}
-	a := start(t, "a", t.TempDir(), func(m *made) {
-		m.Wrap = func(proved Agent, _ serfagent.Settings) (Agent, error) {
+// Goroutines fire events and queries during a flood of whole and truncated packets and of states: everything is delivered in the agent's
+// order, and once.
+func TestEventsKeepAgentsOrder(t *testing.T) {
+	agent := &recordingAgent{}
+	a := startNode(t, "a", t.TempDir(), func(o *nodeOptions) {
+		o.Wrap = func(proved Agent, _ serfagent.Settings) (Agent, error) {
 			agent.Agent = proved
 			return agent, nil
 		}
 	})
-	over := make(chan bool)
+	done := make(chan bool)
 	const callers, calls = 4, 100
 	for i := 0; i < callers; i++ {
 		go func() {
@@ -257,30 +258,30 @@ func TestTheAgentsOrder(t *testing.T) {
 					t.Error(err)
 				}
 			}
-			over <- true
+			done <- true
 		}()
 	}
 	for i := uint64(1); i <= 1000; i++ {
-		whole := strangersEvent(i, fmt.Sprint(i))
-		for _, packet := range [][]byte{whole[:1+int(i)%(len(whole)-1)], whole, []byte(noMessages[int(i)%len(noMessages)]), strangersQuery(i, uint32(i), 0)} {
-			a.own().NotifyMsg(packet)
+		whole := forgedEvent(i, fmt.Sprint(i))
+		for _, packet := range [][]byte{whole[:1+int(i)%(len(whole)-1)], whole, []byte(malformedPackets[int(i)%len(malformedPackets)]), forgedQuery(i, uint32(i), 0)} {
+			a.delegate().NotifyMsg(packet)
 		}
 		if i%256 == 0 {
-			a.marked(i)
+			a.waitForMark(i)
 		}
 		if i%50 == 0 {
-			a.own().MergeRemoteState(strangersState(i, 8, func(slot int) string { return fmt.Sprint(i, " ", slot) }), false)
+			a.delegate().MergeRemoteState(forgedState(i, 8, func(slot int) string { return fmt.Sprint(i, " ", slot) }), false)
 		}
 	}
 	for i := 0; i < callers; i++ {
-		<-over
+		<-done
 	}
-	a.marked(5000)
-	found, different := a.said(), map[string]bool{}
-	for _, one := range found {
-		different[one] = true
+	a.waitForMark(5000)
+	found, different := a.handedOut(), map[string]bool{}
+	for _, text := range found {
+		different[text] = true
 	}
-	if !reflect.DeepEqual(found, agent.told.said()) || len(different) != len(found) || len(found) < callers*calls+2000 {
-		t.Errorf("%d were handed out, of which %d are different, or they came in another order", len(found), len(different))
+	if !reflect.DeepEqual(found, agent.recorded.handedOut()) || len(different) != len(found) || len(found) < callers*calls+2000 {
+		t.Errorf("%d were delivered, of which %d are different, or the order is not the agent's", len(found), len(different))
 	}
 }

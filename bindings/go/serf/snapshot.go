@@ -11,16 +11,17 @@ import (
 	"kitchenrue.example/serfagent"
 )
 
-// snapshotLimit is how many bytes the file may have before it is worth a compaction: Serf's own number.
+// snapshotLimit is how many bytes the file may have before the node considers a compaction: Serf's own number.
 const snapshotLimit = 128 << 10
 
-// maxMembers is how many members of a file are taken, and maxBeside how long the file of members may be that waits beside it.
+// maxSnapshotMembers is how many members of a file are read, and maxMembersFile the maximum size of the file that keeps the member lines
+// during a compaction.
 const (
-	maxMembers = 1 << 16
-	maxBeside  = 256 << 20
+	maxSnapshotMembers = 1 << 16
+	maxMembersFile     = 256 << 20
 )
 
-// PreviousNode is a member that the file of the last life left alive, and where it was.
+// PreviousNode is a member that was alive at the end of the last life, according to the file, and its address.
 type PreviousNode struct {
 	Name string
 	Addr string
@@ -28,91 +29,92 @@ type PreviousNode struct {
 
 func (p PreviousNode) String() string { return p.Name + ": " + p.Addr }
 
-// snapshotFile keeps the lines of members in the file in which the proved library keeps its clocks, so that a stock agent and this one
-// can take over each other's file. The library holds the file's lock, and writes its own lines. The lines of members are written beside
-// them, whole, never while the library writes: who calls sees to that. They are brought to the disk with the library's next line.
+// snapshotFile writes the lines of members to the file in which the proved library keeps its clocks, so a stock agent and this one can
+// continue with each other's file. The library holds the file's lock and writes its own lines. The lines of members are appended whole, and
+// never while the library writes: the caller ensures that. They reach the disk with the library's next flush.
 type snapshotFile struct {
-	// name is the path as it was said, and path the same without links.
-	name, path string
-	file       *os.File
-	// seen is where the text ended when it was last looked at, and tail its last bytes there.
-	seen int64
-	tail []byte
-	// own is how many bytes the library's own lines had when it replaced the file last, or those of its clocks before that.
-	own int64
-	// knowsEvents: the text that was opened says of events which are old. A life before took some, or joined and ignored what was old.
-	knowsEvents bool
+	// configuredPath is the path as it was configured, and path the same without symbolic links.
+	configuredPath, path string
+	file                 *os.File
+	// checkedSize is the size of the file at the last check, and tail its last bytes then.
+	checkedSize int64
+	tail        []byte
+	// libraryBytes is how many bytes the library's lines had when it last replaced the file, or the maximum for its clocks before that.
+	libraryBytes int64
+	// marksOldEvents: the file says which events are old. An earlier life received some, or joined and ignored the old ones.
+	marksOldEvents bool
 }
 
-// clockLines is how many bytes the lines of the clocks have at most.
-const clockLines = 3 * 35
+// maxClockLines is the maximum number of bytes of the lines of the clocks.
+const maxClockLines = 3 * 35
 
-// Lines that say of events which are old: that of their clock, and that of a join which ignored what was old.
+// Lines that say which events are old: that of the event clock, and that of a join that ignored old events.
 const (
-	clockWord = "event-clock: "
-	leastWord = "#least event-clock: "
+	eventClockPrefix   = "event-clock: "
+	eventMinimumPrefix = "#least event-clock: "
 )
 
-// openSnapshot takes a file that the library has opened and locked, and gives the members that its text leaves alive. Where the last
-// life was in the middle of a compaction, it brings the members of that one back. A leave forgets all, unless isRejoining.
-func openSnapshot(path string, isRejoining bool) (*snapshotFile, []PreviousNode, error) {
-	real, err := filepath.EvalSymlinks(path)
+// openSnapshot opens a file that the library has opened and locked, and returns the members that are alive by its lines. If the last life
+// ended during a compaction, it restores the members of that compaction. A leave forgets the members before it, unless rejoinsAfterLeave is
+// set.
+func openSnapshot(path string, rejoinsAfterLeave bool) (*snapshotFile, []PreviousNode, error) {
+	resolved, err := filepath.EvalSymlinks(path)
 	if err != nil {
 		return nil, nil, err
 	}
-	f := &snapshotFile{name: path, path: real, own: clockLines}
-	alive := aliveOf{isRejoining: isRejoining, addrs: map[string]string{}}
-	if err := readLinesOf(real, func(line string) {
-		alive.line(line)
-		f.knowsEvents = f.knowsEvents || saysOfEvents(line)
+	f := &snapshotFile{configuredPath: path, path: resolved, libraryBytes: maxClockLines}
+	alive := aliveMembers{rejoinsAfterLeave: rejoinsAfterLeave, addrs: map[string]string{}}
+	if err := readFileLines(resolved, func(line string) {
+		alive.applyLine(line)
+		f.marksOldEvents = f.marksOldEvents || isOldEventMark(line)
 	}); err != nil {
 		return nil, nil, err
 	}
 	if err := f.reopen(); err != nil {
 		return nil, nil, err
 	}
-	beside, err := serfagent.ReadFile(f.beside(), maxBeside)
+	members, err := serfagent.ReadFile(f.membersPath(), maxMembersFile)
 	if err == nil {
-		_ = readLines(bytes.NewReader(beside), alive.line)
-		err = f.restore(beside)
+		_ = readLines(bytes.NewReader(members), alive.applyLine)
+		err = f.appendMembers(members)
 	}
 	if errors.Is(err, os.ErrNotExist) {
 		err = nil
 	}
 	if err == nil {
-		err = f.mark()
+		err = f.recordEnd()
 	}
 	if err != nil {
 		f.close()
 		return nil, nil, err
 	}
-	return f, alive.left(), nil
+	return f, alive.previousNodes(), nil
 }
 
-// aliveOf finds the members that a text leaves alive, line by line.
-type aliveOf struct {
-	isRejoining bool
-	order       []string
-	addrs       map[string]string
+// aliveMembers collects the members that are alive, line by line.
+type aliveMembers struct {
+	rejoinsAfterLeave bool
+	order             []string
+	addrs             map[string]string
 }
 
-func (a *aliveOf) line(line string) {
-	if name, is := cut(line, "not-alive: "); is {
+func (a *aliveMembers) applyLine(line string) {
+	if name, ok := stripPrefix(line, "not-alive: "); ok {
 		delete(a.addrs, name)
-	} else if words, is := cut(line, "alive: "); is {
-		// (a name may have spaces)
-		at := strings.LastIndexByte(words, ' ')
-		if at > 0 && (len(a.addrs) < maxMembers || a.addrs[words[:at]] != "") {
-			a.addrs[words[:at]] = words[at+1:]
-			a.order = append(a.order, words[:at])
+	} else if member, ok := stripPrefix(line, "alive: "); ok {
+		// (a name may contain spaces)
+		lastSpace := strings.LastIndexByte(member, ' ')
+		if lastSpace > 0 && (len(a.addrs) < maxSnapshotMembers || a.addrs[member[:lastSpace]] != "") {
+			a.addrs[member[:lastSpace]] = member[lastSpace+1:]
+			a.order = append(a.order, member[:lastSpace])
 		}
-	} else if line == "leave" && !a.isRejoining {
+	} else if line == "leave" && !a.rejoinsAfterLeave {
 		a.addrs, a.order = map[string]string{}, nil
 	}
 }
 
-// left are these members, in the order of their last lines.
-func (a *aliveOf) left() []PreviousNode {
+// previousNodes returns these members, the one with the latest line first.
+func (a *aliveMembers) previousNodes() []PreviousNode {
 	var found []PreviousNode
 	for i := len(a.order) - 1; i >= 0; i-- {
 		if addr := a.addrs[a.order[i]]; addr != "" {
@@ -123,31 +125,33 @@ func (a *aliveOf) left() []PreviousNode {
 	return found
 }
 
-// saysOfEvents says whether a line says of events which are old.
-func saysOfEvents(line string) bool {
-	return strings.HasPrefix(line, clockWord) || strings.HasPrefix(line, leastWord)
+// isOldEventMark reports whether a line says which events are old.
+func isOldEventMark(line string) bool {
+	return strings.HasPrefix(line, eventClockPrefix) || strings.HasPrefix(line, eventMinimumPrefix)
 }
 
-func cut(line, prefix string) (string, bool) {
+func stripPrefix(line, prefix string) (string, bool) {
 	if !strings.HasPrefix(line, prefix) {
 		return "", false
 	}
 	return line[len(prefix):], true
 }
 
-func (f *snapshotFile) beside() string { return f.path + ".members" }
+// membersPath is the path of the file that keeps the lines of members during a compaction.
+func (f *snapshotFile) membersPath() string { return f.path + ".members" }
 
-// restore writes the members that a compaction was about to keep.
-func (f *snapshotFile) restore(lines []byte) error {
+// appendMembers appends the lines that a compaction kept in a separate file, flushes them and removes that file.
+func (f *snapshotFile) appendMembers(lines []byte) error {
 	if err := f.write(lines); err != nil {
 		return err
 	}
 	if err := f.file.Sync(); err != nil {
 		return err
 	}
-	return os.Remove(f.beside())
+	return os.Remove(f.membersPath())
 }
 
+// reopen opens the file at the path, also again after the library replaced it.
 func (f *snapshotFile) reopen() error {
 	file, err := os.OpenFile(f.path, os.O_RDWR|os.O_APPEND, 0)
 	if err != nil {
@@ -160,8 +164,8 @@ func (f *snapshotFile) reopen() error {
 	return nil
 }
 
-// write appends whole lines. Where the disk takes a part of them only, a newline ends it, so that the library's next line
-// stands alone; where that can't be written either, the error says that nothing may be written any more.
+// write appends whole lines. If the disk accepts only a part of them, write ends it with a newline, so that the library's next line is
+// separate. If that fails as well, the error says that nothing may be written any more.
 func (f *snapshotFile) write(lines []byte) error {
 	count, err := f.file.Write(lines)
 	if err == nil || count == 0 {
@@ -173,12 +177,12 @@ func (f *snapshotFile) write(lines []byte) error {
 	return err
 }
 
-// errTorn: a line was written in part, and couldn't be ended. The library must not write behind it.
+// errTorn: a line was written in part and could not be ended. The library must not write after it.
 var errTorn = errors.New("a line of the snapshot is torn")
 
-// whole joins lines that are each one line. A member's name is what the network says: one with a newline in it would forge
-// other lines, clocks among them, so it is left out.
-func whole(lines []string) []byte {
+// joinLines joins the texts that are exactly one line each. A member's name comes from the network: one with a newline would forge other
+// lines, even clocks, so its line is left out.
+func joinLines(lines []string) []byte {
 	var text []byte
 	for _, line := range lines {
 		if strings.IndexAny(line, "\n\r\x00") == len(line)-1 && strings.HasSuffix(line, "\n") {
@@ -188,34 +192,34 @@ func whole(lines []string) []byte {
 	return text
 }
 
-// append appends lines, each with its newline. What is no line is left out.
+// append appends lines, each with its newline. A text that is not one line is left out.
 func (f *snapshotFile) append(lines ...string) error {
-	text := whole(lines)
+	text := joinLines(lines)
 	if len(text) == 0 {
 		return nil
 	}
 	return f.write(text)
 }
 
-// shouldCompact says whether the file has more bytes than the limit, and at least half of them would go, as far as is known: what
-// the library keeps of events is counted as it was at the last replacement.
+// shouldCompact reports whether the file exceeds the limit and a compaction would probably remove at least half of it. The library's part
+// is taken to be as large as at the last replacement.
 func (f *snapshotFile) shouldCompact(lines []string) bool {
-	about, err := f.file.Stat()
-	if err != nil || about.Size() <= snapshotLimit {
+	info, err := f.file.Stat()
+	if err != nil || info.Size() <= snapshotLimit {
 		return false
 	}
-	left := f.own
+	remaining := f.libraryBytes
 	for _, line := range lines {
-		left += int64(len(line))
+		remaining += int64(len(line))
 	}
-	return about.Size() >= 2*left
+	return info.Size() >= 2*remaining
 }
 
-// compact lets the library replace the file by its own lines, and writes these lines of members behind them. They wait in a
-// file beside it meanwhile, so that a crash loses neither.
+// compact makes the library replace the file by its own lines and appends these lines of members. Meanwhile a separate file has the lines
+// of members, so that a crash loses nothing.
 func (f *snapshotFile) compact(lines []string, library func() error) error {
-	text := whole(lines)
-	if err := serfagent.WriteFile(f.beside(), text, 0o600); err != nil {
+	text := joinLines(lines)
+	if err := serfagent.WriteFile(f.membersPath(), text, 0o600); err != nil {
 		return err
 	}
 	if err := library(); err != nil {
@@ -224,67 +228,67 @@ func (f *snapshotFile) compact(lines []string, library func() error) error {
 	if err := f.reopen(); err != nil {
 		return err
 	}
-	if about, err := f.file.Stat(); err == nil {
-		f.own = about.Size()
+	if info, err := f.file.Stat(); err == nil {
+		f.libraryBytes = info.Size()
 	}
-	if err := f.restore(text); err != nil {
+	if err := f.appendMembers(text); err != nil {
 		return err
 	}
-	return f.mark()
+	return f.recordEnd()
 }
 
-// ErrSnapshotChanged is in the Fault of a node whose file was taken away, replaced or cut off while it ran. A start without the old text
-// may take events again.
+// ErrSnapshotChanged is in the Fault of a node whose file was removed, replaced or truncated while it ran. A start without the old file may
+// hand out events again.
 var ErrSnapshotChanged = errors.New("the snapshot was changed from outside")
 
-// tailLength is how many bytes of the text's end are looked at again.
+// tailLength is how many bytes at the end of the file are compared.
 const tailLength = 256
 
-// look says whether the path still names the file, and whether the text still goes on from what was last seen.
-func (f *snapshotFile) look() error {
-	changed := func(how string) error { return fmt.Errorf("%w: %s %s", ErrSnapshotChanged, f.name, how) }
-	own, err := f.file.Stat()
+// checkUnchanged checks that the path still names the same file, and that the file has not changed up to the end that was last recorded.
+func (f *snapshotFile) checkUnchanged() error {
+	changed := func(what string) error { return fmt.Errorf("%w: %s %s", ErrSnapshotChanged, f.configuredPath, what) }
+	current, err := f.file.Stat()
 	if err != nil {
 		return err
 	}
-	named, err := os.Stat(f.name)
+	atPath, err := os.Stat(f.configuredPath)
 	switch {
 	case errors.Is(err, os.ErrNotExist):
 		return changed("isn't there any more")
 	case err != nil:
 		return err
-	case !os.SameFile(own, named):
-		return changed("is another file now")
-	case own.Size() < f.seen:
-		return changed(fmt.Sprintf("has %d bytes, and had %d", own.Size(), f.seen))
+	case !os.SameFile(current, atPath):
+		return changed("was replaced by another file")
+	case current.Size() < f.checkedSize:
+		return changed(fmt.Sprintf("has %d bytes, and had %d before", current.Size(), f.checkedSize))
 	}
 	tail := make([]byte, len(f.tail))
-	if _, err := f.file.ReadAt(tail, f.seen-int64(len(tail))); err != nil {
+	if _, err := f.file.ReadAt(tail, f.checkedSize-int64(len(tail))); err != nil {
 		return err
 	}
 	if !bytes.Equal(tail, f.tail) {
-		return changed("has another text now")
+		return changed("has other content now")
 	}
-	return f.mark()
+	return f.recordEnd()
 }
 
-// mark notes where the text ends, for the next look.
-func (f *snapshotFile) mark() error {
-	about, err := f.file.Stat()
+// recordEnd records the end of the file for the next check.
+func (f *snapshotFile) recordEnd() error {
+	info, err := f.file.Stat()
 	if err != nil {
 		return err
 	}
-	length := about.Size()
+	length := info.Size()
 	if length > tailLength {
 		length = tailLength
 	}
-	f.seen, f.tail = about.Size(), make([]byte, length)
-	_, err = f.file.ReadAt(f.tail, f.seen-length)
+	f.checkedSize, f.tail = info.Size(), make([]byte, length)
+	_, err = f.file.ReadAt(f.tail, f.checkedSize-length)
 	return err
 }
 
-// sync brings all lines to the disk.
+// sync flushes all lines to the disk.
 func (f *snapshotFile) sync() error { return f.file.Sync() }
 
-// close closes it. The library closes its own.
+// close closes this file. The library closes its own.
 func (f *snapshotFile) close() error { return f.file.Close() }

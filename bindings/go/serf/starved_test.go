@@ -12,12 +12,12 @@ import (
 	"kitchenrue.example/serfagent"
 )
 
-// A burst, and then a merge, of more than memory has: what entered is handed out, what didn't is told, and all that comes again then.
-// It is for the library whose first such calls run out of memory (tests/library/embed/starved.py), so many requests after they began as
-// the environment says.
+// A burst, and then a merge, that need more memory than there is: what entered is handed out, what did not is logged, and all of it arrives
+// when it is sent again. The test is for a library whose first calls run out of memory (tests/library/embed/starved.py), after as many
+// requests as the environment says.
 func TestABurstOfMoreThanMemoryHas(t *testing.T) {
 	if os.Getenv("SERF_AGENT_GRANTED") == "" {
-		t.Skip("the library has memory")
+		t.Skip("needs a library that runs out of memory")
 	}
 	other, err := serfagent.OpenInMemory("other", serfagent.DefaultSettings())
 	must(t, err)
@@ -28,42 +28,42 @@ func TestABurstOfMoreThanMemoryHas(t *testing.T) {
 		must(t, err)
 		packets = append(packets, packet)
 	}
-	asked, err := other.Query(1, 7, []byte("q"), nil, serfagent.QueryParams{Timeout: time.Hour})
+	fired, err := other.Query(1, 7, []byte("q"), nil, serfagent.QueryParams{Timeout: time.Hour})
 	must(t, err)
-	packets[2], want = asked.Packet, append(want, "q")
+	packets[2], want = fired.Packet, append(want, "q")
 	state, err := other.LocalState(nil, nil)
 	must(t, err)
-	said := &logged{}
-	a := start(t, "a", t.TempDir(), withLog(said))
+	logs := &logBuffer{}
+	a := startNode(t, "a", t.TempDir(), withLog(logs))
 	for i := 0; i < 2; i++ {
-		if err := a.takeBurst(packets[:6]); err != nil && err != serfagent.OutOfMemory {
+		if err := a.processBurst(packets[:6]); err != nil && err != serfagent.OutOfMemory {
 			t.Fatal(err)
 		}
 	}
 	for i := 0; i < 2; i++ {
-		err := a.inOrder(func() error { return a.merge(piece{data: state}) })
+		err := a.inOrder(func() error { return a.mergeState(queuedMessage{data: state}) })
 		if err != nil && err != serfagent.OutOfMemory {
 			t.Fatal(err)
 		}
 	}
 	names := func() (names []string) {
-		for _, one := range a.said() {
-			names = append(names, strings.Fields(one)[2])
+		for _, text := range a.handedOut() {
+			names = append(names, strings.Fields(text)[2])
 		}
 		sort.Strings(names)
 		return names
 	}
-	eventually(t, "all comes", func() bool { return len(names()) >= len(want) })
+	eventually(t, "all is delivered", func() bool { return len(names()) >= len(want) })
 	_ = a.Shutdown()
 	if found := names(); !reflect.DeepEqual(found, want) || a.Fault() != nil {
-		t.Errorf("%v was handed out: %v", found, a.Fault())
+		t.Errorf("%v was delivered: %v", found, a.Fault())
 	}
-	// (where memory was wanting but to read what was taken, nothing is lost, and nothing told)
-	told := strings.Count(said.String(), " taken: "+serfagent.OutOfMemory.Error())
-	if told > 2 {
-		t.Error(said.String())
+	// (if memory ran out only while outcomes were read, nothing is lost and nothing logged)
+	warnings := strings.Count(logs.String(), " processed: "+serfagent.OutOfMemory.Error())
+	if warnings > 2 {
+		t.Error(logs.String())
 	}
-	if told == 0 {
+	if warnings == 0 {
 		fmt.Println("nothing is wanting")
 	}
 }

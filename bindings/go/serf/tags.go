@@ -2,40 +2,42 @@ package serf
 
 import "fmt"
 
-// maxTags is how many bytes a node's tags may have.
-const maxTags = 512
+// maxTagsLength is the maximum number of bytes of a node's encoded tags.
+const maxTagsLength = 512
 
-// errTags: tags have more bytes than memberlist carries. It would panic.
-var errTags = fmt.Errorf("Encoded length of tags exceeds limit of %d bytes", maxTags)
+// errTagsTooLong is returned for tags that memberlist can't send: it would panic.
+//
+//lint:ignore ST1005 Serf's own message
+var errTagsTooLong = fmt.Errorf("Encoded length of tags exceeds limit of %d bytes", maxTagsLength)
 
-// tagsMark begins tags. Nodes of old say their role alone, without it.
-const tagsMark = 0xff
+// tagsMagic is the first byte of encoded tags. Old nodes send only their role, without it.
+const tagsMagic = 0xff
 
-// writeTags makes the data of a node.
-func writeTags(tags map[string]string) ([]byte, error) {
+// encodeTags encodes a node's tags.
+func encodeTags(tags map[string]string) ([]byte, error) {
 	if tags == nil {
 		tags = map[string]string{}
 	}
-	data := written(tags, tagsMark)
-	if len(data) > maxTags {
-		return nil, errTags
+	data := encode(tags, tagsMagic)
+	if len(data) > maxTagsLength {
+		return nil, errTagsTooLong
 	}
 	return data, nil
 }
 
-// ValidateTags says whether tags are too long for SetTags. Serf has no such function.
+// ValidateTags returns an error if tags are too long for SetTags. Serf has no such function.
 func ValidateTags(tags map[string]string) error {
-	_, err := writeTags(tags)
+	_, err := encodeTags(tags)
 	return err
 }
 
-// readTags reads a node's data.
-func readTags(data []byte) (map[string]string, error) {
-	if len(data) == 0 || data[0] != tagsMark {
+// decodeTags decodes a node's tags.
+func decodeTags(data []byte) (map[string]string, error) {
+	if len(data) == 0 || data[0] != tagsMagic {
 		return map[string]string{"role": string(data)}, nil
 	}
 	tags := map[string]string{}
-	if err := readWhole(data, tagsMark, &tags); err != nil {
+	if err := decodeWhole(data, tagsMagic, &tags); err != nil {
 		return map[string]string{}, fmt.Errorf("tags: %w", err)
 	}
 	return tags, nil

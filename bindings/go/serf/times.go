@@ -2,79 +2,79 @@ package serf
 
 import "kitchenrue.example/guard/msgpack"
 
-// times are the greatest times that a packet or a state says of each clock; 0 where it says none.
-type times struct{ member, event, query uint64 }
+// clockTimes are the largest times of each clock in a packet or a state; 0 for a clock without times.
+type clockTimes struct{ member, event, query uint64 }
 
-// latest is the greatest of them.
-func (t times) latest() uint64 {
-	latest := t.member
-	for _, one := range []uint64{t.event, t.query} {
-		if one > latest {
-			latest = one
+// max returns the largest of them.
+func (t clockTimes) max() uint64 {
+	max := t.member
+	for _, time := range []uint64{t.event, t.query} {
+		if time > max {
+			max = time
 		}
 	}
-	return latest
+	return max
 }
 
-// readTimes reads the times of an intent, an event, a query or a state. Of other messages it reads nothing, since none of them moves
-// a clock. What the library reads it reads too, and finds the same times. An error means that the library refuses the packet.
-func readTimes(packet []byte) (times, error) {
-	var found times
+// readTimes reads the times of an intent, an event, a query or a state. It reads nothing from other messages, since they move no clock. It
+// reads every packet that the library reads, with the same times. An error means that the library refuses the packet.
+func readTimes(packet []byte) (clockTimes, error) {
+	var found clockTimes
 	if len(packet) == 0 {
 		return found, msgpack.ErrLong
 	}
-	d := decode(packet[1:])
+	d := newDecoder(packet[1:])
 	switch packet[0] {
 	case leaveType, joinType:
-		d.timeInto(&found.member)
+		d.readTimeInto(&found.member)
 	case eventType:
-		d.timeInto(&found.event)
+		d.readTimeInto(&found.event)
 	case queryType:
-		d.timeInto(&found.query)
+		d.readTimeInto(&found.query)
 	case stateType:
-		d.state(&found)
+		d.readStateTimes(&found)
 	default:
 		return found, nil
 	}
-	return found, d.end()
+	return found, d.finish()
 }
 
-// timeInto reads a message's map, whose time goes here.
-func (d *decoder) timeInto(latest *uint64) {
-	d.fields(func(key string) bool {
+// readTimeInto reads the time of a message's map, and raises max to it.
+func (d *decoder) readTimeInto(max *uint64) {
+	d.eachField(func(key string) bool {
 		if key == "LTime" {
-			d.latest(latest)
+			d.readLaterTime(max)
 		}
 		return key == "LTime"
 	})
 }
 
-// latest reads a time, which goes here where it is later than what is there.
-func (d *decoder) latest(latest *uint64) {
-	if is := d.unsigned(); is > *latest {
-		*latest = is
+// readLaterTime reads a time, and raises max to it.
+func (d *decoder) readLaterTime(max *uint64) {
+	if time := d.unsigned(); time > *max {
+		*max = time
 	}
 }
 
-// state reads the map of a state.
-func (d *decoder) state(found *times) {
-	d.fields(func(key string) bool {
+// readStateTimes reads the times of a state's map.
+func (d *decoder) readStateTimes(found *clockTimes) {
+	d.eachField(func(key string) bool {
 		switch key {
 		case "LTime":
-			d.latest(&found.member)
+			d.readLaterTime(&found.member)
 		case "StatusLTimes":
-			for pairs := d.mapping(); pairs > 0 && d.Err == nil; pairs-- {
+			for pairs := d.mapHeader(); pairs > 0 && d.Err == nil; pairs-- {
 				d.raw()
-				d.latest(&found.member)
+				d.readLaterTime(&found.member)
 			}
 		case "EventLTime":
-			d.latest(&found.event)
+			d.readLaterTime(&found.event)
 		case "Events":
-			for slots := d.array(); slots > 0 && d.Err == nil; slots-- {
-				d.timeInto(&found.event)
+			for slots := d.arrayHeader(); slots > 0 && d.Err == nil; slots-- {
+				d.readTimeInto(&found.event)
 			}
 		case "QueryLTime":
-			d.latest(&found.query)
+			d.readLaterTime(&found.query)
 		default:
 			return false
 		}

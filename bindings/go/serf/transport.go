@@ -10,23 +10,25 @@ import (
 	"kitchenrue.example/guard"
 )
 
-// mostMembers is how many members are known at most, where Config.Guard says nothing of it.
-const mostMembers = 4096
+// DefaultMaxMembers is the maximum number of known members if Config.Guard doesn't set it. (A program that uses the guard without this
+// package has the lower default of guard.Defaults.)
+const DefaultMaxMembers = 4096
 
-// guardIt gives memberlist a transport that looks at each packet and stream first, unless the program brought one of its own.
-func (s *Serf) guardIt(conf *memberlist.Config) error {
+// installGuard gives memberlist a transport that checks each packet and stream before memberlist reads it, unless the configuration has its
+// own transport.
+func (s *Serf) installGuard(conf *memberlist.Config) error {
 	if conf.Transport != nil {
 		return nil
 	}
 	settings := s.config.Guard
 	if settings.Members == 0 {
-		settings.Members = mostMembers
+		settings.Members = DefaultMaxMembers
 	}
 	settings.Known = func(name string) (int, bool) {
-		_, is := s.members.get(name)
-		return s.members.size(), is
+		_, ok := s.members.get(name)
+		return s.members.size(), ok
 	}
-	settings.Delegates = guard.VersionRange{Least: ProtocolVersionMin, Greatest: ProtocolVersionMax}
+	settings.Delegates = guard.VersionRange{Min: ProtocolVersionMin, Max: ProtocolVersionMax}
 	var err error
 	if s.guard, err = guard.New(conf, settings); err != nil {
 		return err
@@ -35,16 +37,16 @@ func (s *Serf) guardIt(conf *memberlist.Config) error {
 	return err
 }
 
-// refused is how much the guard dropped, and of what.
-func (s *Serf) refused() (count uint64, reasons string) {
+// guardRefusals returns how many packets, streams and parts of them the guard refused, and the counts by reason as a text.
+func (s *Serf) guardRefusals() (count uint64, reasons string) {
 	if s.guard == nil {
 		return 0, ""
 	}
-	var all []string
-	for reason, of := range s.guard.Drops() {
-		count += of
-		all = append(all, fmt.Sprintf("%s %d", reason, of))
+	var texts []string
+	for reason, dropped := range s.guard.Drops() {
+		count += dropped
+		texts = append(texts, fmt.Sprintf("%s %d", reason, dropped))
 	}
-	sort.Strings(all)
-	return count, strings.Join(all, ", ")
+	sort.Strings(texts)
+	return count, strings.Join(texts, ", ")
 }

@@ -3,8 +3,8 @@ package serfagent
 /*
 #include "serf_agent.h"
 
-// An event of many that are fired: how long its texts are, which stand behind those of the one before it. And what came of it: its
-// texts, as it is handed out, and its packet stand behind those of the one before it.
+// A firing: the lengths of its texts, which follow those of the firing before it in one buffer. After it was read: its time,
+// and the length of its packet. Its texts, as they are handed out, and its packet then follow those of the firing before it.
 struct firing {
     uint64_t time;
     size_t name_len, payload_len, packet_len;
@@ -12,67 +12,72 @@ struct firing {
     bool coalesce;
 };
 
-// How many were done, and what the call answered behind which no other was made.
-struct done {
+// How many firings were made or read, and the code of the call at which it stopped.
+struct progress {
     size_t count;
     uint32_t code;
 };
 
-static struct done fire_all(struct serf_agent *handle, struct firing *all, size_t count, const uint8_t *texts) {
+static struct progress fire_all(struct serf_agent *handle, struct firing *firings, size_t count, const uint8_t *texts) {
     for (size_t i = 0; i < count; i++) {
-        struct firing *one = &all[i];
-        uint32_t code = serf_agent_burst_fire(handle, texts, one->name_len, texts + one->name_len, one->payload_len, one->coalesce);
+        struct firing *firing = &firings[i];
+        const uint8_t *payload = texts + firing->name_len;
+        uint32_t code = serf_agent_burst_fire(handle, texts, firing->name_len, payload, firing->payload_len, firing->coalesce);
         if (code == SERF_AGENT_OUT_OF_MEMORY || code == SERF_AGENT_EMPTY)
-            return (struct done){i, code};
-        texts += one->name_len + one->payload_len;
+            return (struct progress){i, code};
+        texts += firing->name_len + firing->payload_len;
     }
-    return (struct done){count, SERF_AGENT_OK};
+    return (struct progress){count, SERF_AGENT_OK};
 }
 
-static struct done read_all(struct serf_agent *handle, struct firing *all, size_t count, uint8_t *to, size_t packet_room) {
+static struct progress read_all(struct serf_agent *handle, struct firing *firings, size_t count, uint8_t *texts,
+                                size_t packet_overhead) {
     for (size_t i = 0; i < count; i++) {
-        struct firing *one = &all[i];
-        struct serf_agent_event about;
-        uint32_t code = serf_agent_next(handle, &one->answered);
-        if (code == SERF_AGENT_OK && one->answered == SERF_AGENT_OK) {
-            uint8_t *payload = to + one->name_len, *packet = payload + one->payload_len;
-            code = serf_agent_event(handle, 0, &about, to, one->name_len, payload, one->payload_len);
+        struct firing *firing = &firings[i];
+        struct serf_agent_event info;
+        uint32_t code = serf_agent_next(handle, &firing->answered);
+        if (code == SERF_AGENT_OK && firing->answered == SERF_AGENT_OK) {
+            uint8_t *payload = texts + firing->name_len, *packet = payload + firing->payload_len;
+            code = serf_agent_event(handle, 0, &info, texts, firing->name_len, payload, firing->payload_len);
             if (code == SERF_AGENT_OK)
-                code = serf_agent_packet(handle, &one->packet_len, packet, one->name_len + one->payload_len + packet_room);
-            one->time = about.time;
-            one->coalesce = about.coalesce;
-            to = packet + one->packet_len;
+                code = serf_agent_packet(handle, &firing->packet_len, packet,
+                                         firing->name_len + firing->payload_len + packet_overhead);
+            firing->time = info.time;
+            firing->coalesce = info.coalesce;
+            texts = packet + firing->packet_len;
         }
         if (code != SERF_AGENT_OK)
-            return (struct done){i, code};
+            return (struct progress){i, code};
     }
-    return (struct done){count, SERF_AGENT_OK};
+    return (struct progress){count, SERF_AGENT_OK};
 }
 */
 import "C"
 
 import "errors"
 
-// ErrUnread says that outcomes of an earlier burst wait, which Outcomes reads: it had no memory for them.
-var ErrUnread = errors.New("outcomes of an earlier burst wait")
+// ErrUnread says that outcomes of an earlier burst are still unread, because memory ran out while they were read.
+// Outcomes reads them.
+var ErrUnread = errors.New("outcomes of an earlier burst are unread")
 
-// Burst is a list of calls that Agent.Burst makes one after another, and whose lines it brings to the disk at once. The zero
-// value is an empty one. What the calls are given is kept, and may not be changed before Agent.Burst has returned.
+// Burst is a list of calls that Agent.Burst makes one after another, with a single flush for all of them. The zero
+// value is empty. A burst keeps the slices that its calls are given: don't change them before Agent.Burst has returned.
 type Burst struct {
 	calls []burstCall
 }
 
-// Outcome is what came of a call of a burst: one of the last four is set. Err is why the call was refused, such as NoMessage.
+// Outcome is the result of a call of a burst. One of Received, Fired, FiredQuery and Err is set. Err is why the call was
+// refused, for example NoMessage.
 type Outcome struct {
-	// Call is the call's place in its burst, from 0 on.
-	Call     int
-	Received *Received
-	Fired    *Fired
-	Asked    *Asked
-	Err      error
+	// Call is the call's index in its burst.
+	Call       int
+	Received   *Received
+	Fired      *Fired
+	FiredQuery *FiredQuery
+	Err        error
 }
 
-// Fired is an event as it is handed out here, and the packet to send.
+// Fired is an event as it is handed out on this node, and the packet to send.
 type Fired struct {
 	Event  *Event
 	Packet []byte
@@ -93,31 +98,30 @@ type burstCall struct {
 type burstKind int
 
 const (
-	receives burstKind = iota
-	fires
-	asks
+	receiveCall burstKind = iota
+	fireCall
+	queryCall
 )
 
-// Receive adds a packet of the network, which comes at a moment, with what the host says of tag filters, as Agent.Receive has
-// it.
+// Receive adds a received packet. now and tagsPass are those of Agent.Receive.
 func (b *Burst) Receive(now uint64, packet []byte, tagsPass bool) {
-	b.calls = append(b.calls, burstCall{kind: receives, now: now, packet: packet, tagsPass: tagsPass})
+	b.calls = append(b.calls, burstCall{kind: receiveCall, now: now, packet: packet, tagsPass: tagsPass})
 }
 
 // Fire adds an event to fire.
 func (b *Burst) Fire(name, payload []byte, coalesce bool) {
-	b.calls = append(b.calls, burstCall{kind: fires, name: name, payload: payload, coalesce: coalesce})
+	b.calls = append(b.calls, burstCall{kind: fireCall, name: name, payload: payload, coalesce: coalesce})
 }
 
-// Query adds a query to fire; id is a random number.
+// Query adds a query to fire. Choose id at random.
 func (b *Burst) Query(now uint64, id uint32, name, payload []byte, params QueryParams) {
-	b.calls = append(b.calls, burstCall{kind: asks, now: now, id: id, name: name, payload: payload, params: params})
+	b.calls = append(b.calls, burstCall{kind: queryCall, now: now, id: id, name: name, payload: payload, params: params})
 }
 
-// Len is how many calls the burst has.
+// Len returns the number of calls in the burst.
 func (b *Burst) Len() int { return len(b.calls) }
 
-// Reset takes all calls out, so that the burst can be filled anew.
+// Reset removes all calls, so that the burst can be filled again.
 func (b *Burst) Reset() {
 	for i := range b.calls {
 		b.calls[i] = burstCall{}
@@ -125,12 +129,12 @@ func (b *Burst) Reset() {
 	b.calls = b.calls[:0]
 }
 
-// Burst makes the calls of a burst one after another, brings the lines of all of them to the disk at once, and gives what
-// came of each, in order. A call that is refused has its outcome among the others, and so has a packet that is no message.
+// Burst makes the calls of a burst one after another, flushes the lines of all of them together, and returns their
+// outcomes in order. A refused call, for example a packet that is no message, has an outcome like the others.
 //
-// Where memory is wanting (OutOfMemory), no further call is made: the outcomes beside that error are those of the calls
-// before, which count. Where these are fewer than were made, Outcomes gives the others; until then each burst is refused as
-// ErrUnread. Where the file fails the agent is closed, and there is no outcome.
+// If memory runs out (OutOfMemory), no further call is made. The outcomes that are returned with this error are valid.
+// If they are fewer than the calls that were made, Outcomes returns the others, and every burst before that is refused
+// with ErrUnread. If the file fails, the agent is closed, and there are no outcomes.
 func (a *Agent) Burst(burst *Burst) ([]Outcome, error) {
 	a.mu.Lock()
 	defer a.mu.Unlock()
@@ -140,148 +144,152 @@ func (a *Agent) Burst(burst *Burst) ([]Outcome, error) {
 	if err := a.forgetFilters(); err != nil {
 		return nil, err
 	}
-	a.place = 0
-	fault := a.makeAll(burst.calls)
-	if err := a.settled(C.SERF_AGENT_OK); err != nil {
+	a.unreadPlace = 0
+	callErr := a.makeCalls(burst.calls)
+	if err := a.complete(C.SERF_AGENT_OK); err != nil {
 		return nil, err
 	}
 	outcomes, err := a.outcomes()
-	// (what nobody has read is kept beyond this call, when the burst may be another)
+	// The caller may fill its burst with other calls before the unread outcomes are read.
 	a.unread = append([]burstCall(nil), a.unread...)
 	if err != nil {
 		return outcomes, err
 	}
-	return outcomes, fault
+	return outcomes, callErr
 }
 
-// Outcomes gives what came of the calls of a burst that had no memory to give it.
+// Outcomes returns the outcomes that a burst could not return because memory ran out.
 func (a *Agent) Outcomes() ([]Outcome, error) {
 	a.mu.Lock()
 	defer a.mu.Unlock()
 	return a.outcomes()
 }
 
-// UnreadOutcomes is how many outcomes of bursts nobody has read yet.
+// UnreadOutcomes returns how many outcomes of bursts are unread.
 func (a *Agent) UnreadOutcomes() (int, error) {
 	a.mu.Lock()
 	defer a.mu.Unlock()
 	var total C.size_t
-	err := refused(C.serf_agent_outcomes(a.handle, &total))
+	err := errorOf(C.serf_agent_outcomes(a.handle, &total))
 	return int(total), err
 }
 
-// makeAll makes calls up to the first that has no memory. Those that it makes wait to be read.
-func (a *Agent) makeAll(calls []burstCall) error {
+// makeCalls makes the calls up to the first one for which memory runs out. Their outcomes are then unread.
+func (a *Agent) makeCalls(calls []burstCall) error {
 	a.staleFilters = false
-	for at := 0; at < len(calls); {
+	for next := 0; next < len(calls); {
 		var code C.uint32_t
-		if firings := firstFirings(calls[at:]); len(firings) > 0 {
-			done := a.fireAll(firings)
-			at, code = at+int(done.count), done.code
-		} else if code = a.makeOne(&calls[at]); code != C.SERF_AGENT_OUT_OF_MEMORY && code != C.SERF_AGENT_EMPTY {
-			at, code = at+1, C.SERF_AGENT_OK
+		if firings := leadingFirings(calls[next:]); len(firings) > 0 {
+			done := a.fireEvents(firings)
+			next, code = next+int(done.count), done.code
+		} else if code = a.makeCall(&calls[next]); code != C.SERF_AGENT_OUT_OF_MEMORY && code != C.SERF_AGENT_EMPTY {
+			next, code = next+1, C.SERF_AGENT_OK
 		}
-		if a.unread = calls[:at]; code != C.SERF_AGENT_OK {
+		if a.unread = calls[:next]; code != C.SERF_AGENT_OK {
 			return Code(code)
 		}
 	}
 	return nil
 }
 
-// firstFirings are the calls that stand first and are events to fire.
-func firstFirings(calls []burstCall) []burstCall {
+// leadingFirings returns the calls before the first one that is not a firing.
+func leadingFirings(calls []burstCall) []burstCall {
 	for i := range calls {
-		if calls[i].kind != fires {
+		if calls[i].kind != fireCall {
 			return calls[:i]
 		}
 	}
 	return calls
 }
 
-// manyFirings are events that are fired, and read, by one call of C: to go there takes longer than to fire.
-type manyFirings struct {
-	all   []C.struct_firing
-	texts []byte
+// firingBatch holds firings that C makes, and reads, in one call. A call from Go to C takes longer than firing an
+// event.
+type firingBatch struct {
+	firings []C.struct_firing
+	texts   []byte
 }
 
-// packetRoom is how much longer than its texts the packet of an event is at most.
-const packetRoom = 64
+// packetOverhead is the maximum number of bytes by which an event's packet is longer than its texts.
+const packetOverhead = 64
 
-// of takes events, and gives how long their texts are together.
-func (m *manyFirings) of(calls []burstCall) (length int) {
-	m.all = m.all[:0]
+// prepare sets the batch's firings, and returns the total length of their texts in bytes.
+func (b *firingBatch) prepare(calls []burstCall) (length int) {
+	b.firings = b.firings[:0]
 	for i := range calls {
 		call := &calls[i]
-		m.all = append(m.all, C.struct_firing{name_len: size(call.name), payload_len: size(call.payload), coalesce: C.bool(call.coalesce)})
+		b.firings = append(b.firings, C.struct_firing{
+			name_len: size(call.name), payload_len: size(call.payload), coalesce: C.bool(call.coalesce),
+		})
 		length += len(call.name) + len(call.payload)
 	}
 	return length
 }
 
-// fireAll fires events: how many, and why no more.
-func (a *Agent) fireAll(calls []burstCall) C.struct_done {
-	many := &a.many
-	many.of(calls)
-	many.texts = many.texts[:0]
+// fireEvents fires events. It returns how many were fired, and the code of the call at which it stopped.
+func (a *Agent) fireEvents(calls []burstCall) C.struct_progress {
+	batch := &a.batch
+	batch.prepare(calls)
+	batch.texts = batch.texts[:0]
 	for i := range calls {
-		many.texts = append(append(many.texts, calls[i].name...), calls[i].payload...)
+		batch.texts = append(append(batch.texts, calls[i].name...), calls[i].payload...)
 	}
-	return C.fire_all(a.handle, &many.all[0], C.size_t(len(calls)), ptr(many.texts))
+	return C.fire_all(a.handle, &batch.firings[0], C.size_t(len(calls)), ptr(batch.texts))
 }
 
-// sharedRoom is how many bytes of texts and packets share a piece of memory at most: who keeps one event keeps as much.
-const sharedRoom = 1 << 10
+// chunkBytes is how much memory in bytes short events share at most. Whoever keeps one of them keeps the whole chunk.
+const chunkBytes = 1 << 10
 
-// readAll reads what came of events that were fired.
-func (a *Agent) readAll(calls []burstCall, found []Outcome) ([]Outcome, error) {
-	many := &a.many
-	room := 2*many.of(calls) + packetRoom*len(calls)
-	if room > cap(many.texts) {
-		many.texts = make([]byte, room)
+// readFirings appends the outcomes of firings to outcomes.
+func (a *Agent) readFirings(calls []burstCall, outcomes []Outcome) ([]Outcome, error) {
+	batch := &a.batch
+	room := 2*batch.prepare(calls) + packetOverhead*len(calls)
+	if room > cap(batch.texts) {
+		batch.texts = make([]byte, room)
 	}
-	many.texts = many.texts[:room]
-	done := C.read_all(a.handle, &many.all[0], C.size_t(len(calls)), ptr(many.texts), packetRoom)
-	a.unread, a.place = a.unread[done.count:], a.place+int(done.count)
-	rest, shared := many.texts, []byte(nil)
-	all := make([]struct {
+	batch.texts = batch.texts[:room]
+	done := C.read_all(a.handle, &batch.firings[0], C.size_t(len(calls)), ptr(batch.texts), packetOverhead)
+	a.unread, a.unreadPlace = a.unread[done.count:], a.unreadPlace+int(done.count)
+	unread, chunk := batch.texts, []byte(nil)
+	events := make([]struct {
 		Fired
 		Event
 	}, done.count)
-	for i := range all {
-		about, one, place := &many.all[i], &all[i], a.place-len(all)+i
-		if about.answered != C.SERF_AGENT_OK {
-			found = append(found, Outcome{Call: place, Err: Code(about.answered)})
+	for i := range events {
+		info, event, place := &batch.firings[i], &events[i], a.unreadPlace-len(events)+i
+		if info.answered != C.SERF_AGENT_OK {
+			outcomes = append(outcomes, Outcome{Call: place, Err: Code(info.answered)})
 			continue
 		}
-		name, payload, whole := int(about.name_len), int(about.name_len+about.payload_len), int(about.name_len+about.payload_len+about.packet_len)
-		if cap(shared)-len(shared) < whole {
-			shared = make([]byte, 0, roomFor(whole, len(all)-i))
+		nameEnd, payloadEnd := int(info.name_len), int(info.name_len+info.payload_len)
+		length := payloadEnd + int(info.packet_len)
+		if cap(chunk)-len(chunk) < length {
+			chunk = make([]byte, 0, chunkSize(length, len(events)-i))
 		}
-		from := len(shared)
-		shared = append(shared, rest[:whole]...)
-		own := shared[from:]
-		rest = rest[whole:]
-		one.Event = Event{uint64(about.time), own[:name:name], own[name:payload:payload], bool(about.coalesce)}
-		one.Fired = Fired{&one.Event, own[payload:whole:whole]}
-		found = append(found, Outcome{Call: place, Fired: &one.Fired})
+		from := len(chunk)
+		chunk = append(chunk, unread[:length]...)
+		texts := chunk[from:]
+		unread = unread[length:]
+		event.Event = Event{uint64(info.time), texts[:nameEnd:nameEnd], texts[nameEnd:payloadEnd:payloadEnd], bool(info.coalesce)}
+		event.Fired = Fired{&event.Event, texts[payloadEnd:length:length]}
+		outcomes = append(outcomes, Outcome{Call: place, Fired: &event.Fired})
 	}
-	return found, refused(done.code)
+	return outcomes, errorOf(done.code)
 }
 
-// roomFor is how much memory is taken for so many events, of which the first is so long.
-func roomFor(length, events int) int {
-	if length*events < sharedRoom {
+// chunkSize returns how many bytes to allocate for this many events, of which the first has this length.
+func chunkSize(length, events int) int {
+	if length*events < chunkBytes {
 		return length * events
 	}
-	if length < sharedRoom {
-		return sharedRoom
+	if length < chunkBytes {
+		return chunkBytes
 	}
 	return length
 }
 
-// makeOne makes a call of a burst that is no firing.
-func (a *Agent) makeOne(call *burstCall) C.uint32_t {
-	if call.kind == receives {
+// makeCall makes a call of a burst that is not a firing.
+func (a *Agent) makeCall(call *burstCall) C.uint32_t {
+	if call.kind == receiveCall {
 		return C.serf_agent_burst_receive(a.handle, C.uint64_t(call.now), ptr(call.packet), size(call.packet), C.bool(call.tagsPass))
 	}
 	for _, filter := range call.params.Filters {
@@ -290,45 +298,45 @@ func (a *Agent) makeOne(call *burstCall) C.uint32_t {
 			return code
 		}
 	}
-	how := call.params.inC()
+	cParams := call.params.toC()
 	code := C.serf_agent_burst_query(a.handle, C.uint64_t(call.now), C.uint32_t(call.id), ptr(call.name), size(call.name),
-		ptr(call.payload), size(call.payload), ptr(call.params.Addr), size(call.params.Addr), &how)
+		ptr(call.payload), size(call.payload), ptr(call.params.Addr), size(call.params.Addr), &cParams)
 	a.staleFilters = a.staleFilters && code == C.SERF_AGENT_OUT_OF_MEMORY
 	return code
 }
 
-// outcomes reads the outcomes that wait.
-func (a *Agent) outcomes() (found []Outcome, err error) {
-	found = make([]Outcome, 0, len(a.unread))
+// outcomes reads the unread outcomes.
+func (a *Agent) outcomes() (outcomes []Outcome, err error) {
+	outcomes = make([]Outcome, 0, len(a.unread))
 	for len(a.unread) > 0 && err == nil {
-		if firings := firstFirings(a.unread); len(firings) > 0 {
-			found, err = a.readAll(firings, found)
+		if firings := leadingFirings(a.unread); len(firings) > 0 {
+			outcomes, err = a.readFirings(firings, outcomes)
 		} else {
-			found, err = a.readOne(&a.unread[0], found)
+			outcomes, err = a.readOutcome(&a.unread[0], outcomes)
 		}
 	}
 	if err == nil {
 		a.unread = nil
 	}
-	return found, err
+	return outcomes, err
 }
 
-// readOne reads what came of a call that is no firing.
-func (a *Agent) readOne(call *burstCall, found []Outcome) ([]Outcome, error) {
+// readOutcome appends the outcome of a call that is not a firing.
+func (a *Agent) readOutcome(call *burstCall, outcomes []Outcome) ([]Outcome, error) {
 	var answered C.uint32_t
-	if err := refused(C.serf_agent_next(a.handle, &answered)); err != nil {
-		return found, err
+	if err := errorOf(C.serf_agent_next(a.handle, &answered)); err != nil {
+		return outcomes, err
 	}
-	outcome := Outcome{Call: a.place, Err: refused(answered)}
-	a.unread, a.place = a.unread[1:], a.place+1
+	outcome := Outcome{Call: a.unreadPlace, Err: errorOf(answered)}
+	a.unread, a.unreadPlace = a.unread[1:], a.unreadPlace+1
 	var err error
-	if outcome.Err == nil && call.kind == receives {
-		outcome.Received, err = a.received(call.packet)
+	if outcome.Err == nil && call.kind == receiveCall {
+		outcome.Received, err = a.receivedResult(call.packet)
 	} else if outcome.Err == nil {
-		outcome.Asked, err = a.asked()
+		outcome.FiredQuery, err = a.firedQuery()
 	}
 	if err != nil {
-		return found, err
+		return outcomes, err
 	}
-	return append(found, outcome), nil
+	return append(outcomes, outcome), nil
 }

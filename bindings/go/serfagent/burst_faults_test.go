@@ -5,18 +5,18 @@ import (
 	"testing"
 )
 
-// failing keeps what it is given, until it fails.
-type failing struct {
-	forgetful
-	fault error
+// failingStore returns err from Append.
+type failingStore struct {
+	memoryStore
+	err error
 }
 
-func (f *failing) Append([]byte) error { return f.fault }
+func (f *failingStore) Append([]byte) error { return f.err }
 
-// Of a burst whose lines aren't on the disk nothing comes out, and the agent is closed.
-func TestABurstWhoseFileFails(t *testing.T) {
-	file := &failing{}
-	agent, err := open("one", file, nil, DefaultSettings())
+// If the file fails, a burst has no outcomes, and the agent is closed.
+func TestBurstWithFailingFile(t *testing.T) {
+	store := &failingStore{}
+	agent, err := open("one", store, nil, DefaultSettings())
 	must(t, err)
 	defer agent.Close()
 	var burst Burst
@@ -24,7 +24,7 @@ func TestABurstWhoseFileFails(t *testing.T) {
 	if outcomes, err := agent.Burst(&burst); err != nil || len(outcomes) != 1 || outcomes[0].Fired == nil {
 		t.Fatal(outcomes, err)
 	}
-	file.fault = ErrFull
+	store.err = ErrFull
 	if outcomes, err := agent.Burst(&burst); !errors.Is(err, ErrFull) || len(outcomes) != 0 {
 		t.Error(outcomes, err)
 	}
@@ -33,22 +33,22 @@ func TestABurstWhoseFileFails(t *testing.T) {
 	}
 }
 
-// No burst is made while outcomes of another one wait to be read.
-func TestABurstBehindOneThatNobodyRead(t *testing.T) {
+// A burst is refused while outcomes of another one are unread.
+func TestBurstWhileOutcomesAreUnread(t *testing.T) {
 	agent, err := OpenInMemory("one", DefaultSettings())
 	must(t, err)
 	defer agent.Close()
 	var burst Burst
 	burst.Fire([]byte("x"), nil, false)
 	burst.Receive(1, nil, false)
-	if fault := agent.makeAll(burst.calls); fault != nil || agent.settled(0) != nil {
-		t.Fatal(fault)
+	if err := agent.makeCalls(burst.calls); err != nil || agent.complete(0) != nil {
+		t.Fatal(err)
 	}
 	if outcomes, err := agent.Burst(&burst); err != ErrUnread || len(outcomes) != 0 {
 		t.Error(outcomes, err)
 	}
-	// (as if memory had been wanting behind the first)
-	first, err := agent.readAll(agent.unread[:1], nil)
+	// As if memory had run out after the first outcome.
+	first, err := agent.readFirings(agent.unread[:1], nil)
 	if err != nil || len(first) != 1 || first[0].Call != 0 || first[0].Fired.Event.Time != 1 {
 		t.Error(first, err)
 	}

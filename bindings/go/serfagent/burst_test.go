@@ -7,7 +7,7 @@ import (
 	"testing"
 )
 
-// must ends a test at a fault, and check goes on behind it.
+// must ends the test if err is an error, and check lets it continue.
 func must(t *testing.T, err error) {
 	t.Helper()
 	if err != nil {
@@ -36,10 +36,10 @@ func textOf(t *testing.T, path string) string {
 	return string(text)
 }
 
-func TestABurstIsItsCallsInOrder(t *testing.T) {
-	one, _ := opened(t, "one")
-	other, path := opened(t, "other")
-	_, packet, err := one.Fire([]byte("deploy"), nil, false)
+func TestBurstOutcomesInOrder(t *testing.T) {
+	sender, _ := opened(t, "one")
+	receiver, path := opened(t, "other")
+	_, packet, err := sender.Fire([]byte("deploy"), nil, false)
 	must(t, err)
 	var burst Burst
 	burst.Receive(1, packet, false)
@@ -52,7 +52,7 @@ func TestABurstIsItsCallsInOrder(t *testing.T) {
 	if text := textOf(t, path); text != "" {
 		t.Errorf("a burst that isn't made writes %q", text)
 	}
-	outcomes, err := other.Burst(&burst)
+	outcomes, err := receiver.Burst(&burst)
 	if err != nil || len(outcomes) != 4 {
 		t.Fatal(outcomes, err)
 	}
@@ -68,9 +68,9 @@ func TestABurstIsItsCallsInOrder(t *testing.T) {
 	if received := outcomes[3].Received; received.Kind != Ignored || received.Reason != Seen {
 		t.Error(received)
 	}
-	for i, one := range outcomes {
-		if one.Call != i {
-			t.Error(i, one.Call)
+	for i, sender := range outcomes {
+		if sender.Call != i {
+			t.Error(i, sender.Call)
 		}
 	}
 	if text := textOf(t, path); text != "event-clock: 1\nevent-clock: 2\n" {
@@ -78,7 +78,7 @@ func TestABurstIsItsCallsInOrder(t *testing.T) {
 	}
 }
 
-// Texts that fit into the room to which they are read, that just don't, and that are as long as may be.
+// Texts that just fit into the buffer, that just don't, and that have the maximum length.
 func TestTextsOfEveryLength(t *testing.T) {
 	settings := DefaultSettings()
 	settings.EventLimit = 9216
@@ -87,7 +87,7 @@ func TestTextsOfEveryLength(t *testing.T) {
 	defer agent.Close()
 	other, _ := opened(t, "other")
 	for _, lengths := range [][2]int{
-		{0, 0}, {1, 0}, {nameRoom - 1, 1}, {nameRoom, allRoom - nameRoom}, {nameRoom + 1, 0}, {3, allRoom - nameRoom + 1}, {400, 8700}, {9100, 0}, {0, 9100},
+		{0, 0}, {1, 0}, {nameBytes - 1, 1}, {nameBytes, bufferBytes - nameBytes}, {nameBytes + 1, 0}, {3, bufferBytes - nameBytes + 1}, {400, 8700}, {9100, 0}, {0, 9100},
 	} {
 		name, payload := bytes.Repeat([]byte("n"), lengths[0]), bytes.Repeat([]byte("p"), lengths[1])
 		event, packet, err := agent.Fire(name, payload, false)
@@ -104,7 +104,7 @@ func TestTextsOfEveryLength(t *testing.T) {
 	}
 }
 
-func TestBurstsOfNothingAndOfAClosedAgent(t *testing.T) {
+func TestEmptyBurstAndClosedAgent(t *testing.T) {
 	agent, _ := opened(t, "one")
 	var burst Burst
 	if outcomes, err := agent.Burst(&burst); err != nil || len(outcomes) != 0 {

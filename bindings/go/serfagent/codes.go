@@ -5,10 +5,10 @@ import "C"
 
 import "fmt"
 
-// Code says why the library refused a call.
+// Code is why the library refused a call.
 type Code uint32
 
-// What include/serf_agent.h says of each stands there. Of a packet with NoMessage, PacketFaultOf says why.
+// include/serf_agent.h describes each code. If a packet is refused with NoMessage, PacketFaultOf returns the reason.
 const (
 	Empty          Code = C.SERF_AGENT_EMPTY
 	InUse          Code = C.SERF_AGENT_IN_USE
@@ -29,22 +29,22 @@ const (
 	NotHanded      Code = C.SERF_AGENT_NOT_HANDED
 )
 
-var words = []string{
-	"ok", "the agent is closed", "the handle has an agent", "bytes for the file aren't written", "there is no such thing",
+var codeTexts = []string{
+	"ok", "the agent is closed", "the handle already has an agent", "bytes for the file are pending", "there is no such item",
 	"out of memory", "the settings are out of bounds", "the sink failed", "the agent is stopped",
-	"the event, query or response is too large", "the clock is exhausted", "the packet is no message",
-	"the query has as many answers as it takes", "the packet is no push/pull", "a text or a list is too long",
-	"the query has no time", "the query takes no more answers", "no query of this number waits for an answer",
+	"the event, query or response is too large", "the clock is exhausted", "the packet is not a Serf message",
+	"the query has as many answers as it accepts", "the packet is not a push/pull", "a text or a list is too long",
+	"the query has no timeout", "the deadline of the query has passed", "no query with this number is waiting for an answer",
 }
 
 func (c Code) Error() string {
-	if int(c) < len(words) {
-		return words[c]
+	if int(c) < len(codeTexts) {
+		return codeTexts[c]
 	}
 	return fmt.Sprintf("code %d", uint32(c))
 }
 
-func refused(code C.uint32_t) error {
+func errorOf(code C.uint32_t) error {
 	if code == C.SERF_AGENT_OK {
 		return nil
 	}

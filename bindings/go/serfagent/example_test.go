@@ -7,7 +7,7 @@ import (
 	"path/filepath"
 )
 
-// inFolder makes a folder for snapshots, and takes it away.
+// inFolder runs a function with a temporary folder for snapshots.
 func inFolder(run func(folder string)) {
 	folder, err := os.MkdirTemp("", "serfagent")
 	if err != nil {
@@ -25,7 +25,8 @@ func mustOpen(name, path string) *Agent {
 	return agent
 }
 
-// An event is fired, comes to another agent twice, and is handed out once: also where that agent ended in between.
+// An event is fired, arrives at another agent twice, and is handed out once, although that agent was restarted in
+// between.
 func Example() {
 	inFolder(func(folder string) {
 		alpha := mustOpen("alpha", filepath.Join(folder, "alpha.snapshot"))
@@ -43,17 +44,17 @@ func Example() {
 			if received.Event != nil {
 				fmt.Printf("life %d handles %s %s\n", life, received.Event.Name, received.Event.Payload)
 			} else {
-				fmt.Printf("life %d ignores it, as below the least time: %t\n", life, received.Reason == BelowMinimum)
+				fmt.Printf("life %d ignores it, as it is below the minimum time: %t\n", life, received.Reason == BelowMinimum)
 			}
 			beta.Close()
 		}
 	})
 	// Output:
 	// life 1 handles deploy v1
-	// life 2 ignores it, as below the least time: true
+	// life 2 ignores it, as it is below the minimum time: true
 }
 
-// A state that an agent sends brings another one what it missed.
+// An agent's state contains the events that another agent missed.
 func ExampleAgent_Merge() {
 	inFolder(func(folder string) {
 		alpha, beta := mustOpen("alpha", filepath.Join(folder, "alpha.snapshot")), mustOpen("beta", filepath.Join(folder, "beta.snapshot"))
@@ -68,7 +69,7 @@ func ExampleAgent_Merge() {
 		if err != nil {
 			log.Fatal(err)
 		}
-		// after OutOfMemory the events that entered before stand beside the error: handle them too
+		// After OutOfMemory, the events that were accepted before are returned with the error: handle them too.
 		events, err := beta.Merge(state, true)
 		for _, event := range events {
 			fmt.Printf("%s %s at %d\n", event.Name, event.Payload, event.Time)
@@ -82,17 +83,17 @@ func ExampleAgent_Merge() {
 	// deploy v2 at 2
 }
 
-// A query is asked, acked, answered, and closed when its time is over.
+// A query is fired, answered, and closed after its deadline.
 func ExampleAgent_Query() {
 	inFolder(func(folder string) {
 		alpha, beta := mustOpen("alpha", filepath.Join(folder, "alpha.snapshot")), mustOpen("beta", filepath.Join(folder, "beta.snapshot"))
 		defer alpha.Close()
 		defer beta.Close()
-		asked, err := alpha.Query(1, 7, []byte("load"), nil, QueryParams{Timeout: 1000})
+		query, err := alpha.Query(1, 7, []byte("load"), nil, QueryParams{Timeout: 1000})
 		if err != nil {
 			log.Fatal(err)
 		}
-		received, err := beta.Receive(1, asked.Packet, false)
+		received, err := beta.Receive(1, query.Packet, false)
 		if err != nil {
 			log.Fatal(err)
 		}
@@ -116,9 +117,9 @@ func ExampleAgent_Query() {
 	// Output: beta answered 0.12
 }
 
-// A packet that is no message has a fault with a text for a log.
+// A packet that is no message has a fault, whose text can be logged.
 func ExamplePacketFaultOf() {
-	fault, isOne := PacketFaultOf([]byte{3, 0x81})
-	fmt.Println(isOne, fault)
+	fault, isFaulty := PacketFaultOf([]byte{3, 0x81})
+	fmt.Println(isFaulty, fault)
 	// Output: true the packet ends inside the value at 2
 }

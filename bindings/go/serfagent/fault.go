@@ -5,10 +5,10 @@ import "C"
 
 import "fmt"
 
-// FaultKind says what is wrong with a packet that is no message.
+// FaultKind is what is wrong with a packet that is no message.
 type FaultKind uint32
 
-// What include/serf_agent.h says of each stands there.
+// include/serf_agent.h describes each kind.
 const (
 	FaultEmpty        FaultKind = C.SERF_AGENT_FAULT_EMPTY
 	FaultUnknownType  FaultKind = C.SERF_AGENT_FAULT_UNKNOWN_TYPE
@@ -24,35 +24,36 @@ const (
 	FaultGreatestTime FaultKind = C.SERF_AGENT_FAULT_GREATEST_TIME
 )
 
-var faults = []string{
+var faultWords = []string{
 	"None", "Empty", "UnknownType", "Truncated", "Unsupported", "TooDeep", "Trailing", "NotAMap", "BadKey", "Twice", "WrongKind", "OutOfRange", "GreatestTime",
 }
 
-// String is the fault's word in a trace (docs/SPEC.md).
-func (f FaultKind) String() string { return word(faults, "Fault", uint32(f)) }
+// String returns the word that a trace has for the fault (docs/SPEC.md).
+func (f FaultKind) String() string { return wordOf(faultWords, "Fault", uint32(f)) }
 
-// PacketFault is why a packet is no message: its first fault.
+// PacketFault is the first fault of a packet that is no message.
 type PacketFault struct {
 	Kind FaultKind
-	// Where it is, in bytes from the packet's first byte, its type; 0 where the fault names no place.
+	// The offset of the fault in bytes from the packet's first byte, which is its type; 0 if the fault has no place.
 	Offset int
-	// The byte that it is of (FaultUnknownType, FaultUnsupported), else 0.
+	// The byte in question (FaultUnknownType, FaultUnsupported), else 0.
 	Byte uint8
 }
 
-// PacketFaultOf says why a packet is no message, and false where it is one. It needs no agent.
+// PacketFaultOf returns why a packet is no message. The second result is false if it is one. No agent is needed.
 func PacketFaultOf(packet []byte) (PacketFault, bool) {
 	var found C.struct_serf_agent_packet_fault
-	return faultOf(C.serf_agent_packet_fault(ptr(packet), size(packet), &found), &found)
+	return packetFault(C.serf_agent_packet_fault(ptr(packet), size(packet), &found), &found)
 }
 
-// IntentFaultOf says why IntentOf refuses a packet as NoMessage, and false where it doesn't. It needs no agent.
+// IntentFaultOf returns why IntentOf refuses a packet with NoMessage. The second result is false if it doesn't. No
+// agent is needed.
 func IntentFaultOf(packet []byte) (PacketFault, bool) {
 	var found C.struct_serf_agent_packet_fault
-	return faultOf(C.serf_agent_intent_fault(ptr(packet), size(packet), &found), &found)
+	return packetFault(C.serf_agent_intent_fault(ptr(packet), size(packet), &found), &found)
 }
 
-func faultOf(code C.uint32_t, found *C.struct_serf_agent_packet_fault) (PacketFault, bool) {
+func packetFault(code C.uint32_t, found *C.struct_serf_agent_packet_fault) (PacketFault, bool) {
 	if code != C.SERF_AGENT_OK {
 		return PacketFault{}, false
 	}
@@ -68,19 +69,19 @@ func (f PacketFault) Error() string {
 	case FaultTruncated:
 		return fmt.Sprintf("the packet ends inside the value at %d", f.Offset)
 	case FaultUnsupported:
-		return fmt.Sprintf("the byte %#x at %d begins no value that is read", f.Byte, f.Offset)
+		return fmt.Sprintf("the byte %#x at %d doesn't begin a supported value", f.Byte, f.Offset)
 	case FaultTooDeep:
-		return fmt.Sprintf("the array or map at %d stands inside eight others", f.Offset)
+		return fmt.Sprintf("the array or map at %d is inside eight others", f.Offset)
 	case FaultTrailing:
 		return fmt.Sprintf("the value ends before %d, and more bytes follow", f.Offset)
 	case FaultNotAMap:
-		return "the value is no map"
+		return "the value is not a map"
 	case FaultBadKey:
 		return fmt.Sprintf("the key at %d is not raw", f.Offset)
 	case FaultTwice:
-		return fmt.Sprintf("the key at %d stands for the second time", f.Offset)
+		return fmt.Sprintf("the key at %d appears for the second time", f.Offset)
 	case FaultWrongKind:
-		return fmt.Sprintf("the value at %d is of another kind", f.Offset)
+		return fmt.Sprintf("the value at %d has the wrong type", f.Offset)
 	case FaultOutOfRange:
 		return fmt.Sprintf("the integer at %d is out of range", f.Offset)
 	case FaultGreatestTime:

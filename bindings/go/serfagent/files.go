@@ -7,12 +7,13 @@ import (
 	"syscall"
 )
 
-// A host has files beside the snapshot, such as keys: these are written as that is, and read as a file that anybody may have put there.
+// A host has files next to the snapshot, for example its keys. WriteFile writes them as durably as the snapshot, and
+// OpenPlain and ReadFile read them safely even if somebody put something else there.
 
-// WriteFile replaces a file by these bytes, on the disk: a crash leaves the old ones or the new ones.
+// WriteFile replaces a file's content durably: after a crash it has the old bytes or the new ones.
 func WriteFile(path string, data []byte, mode os.FileMode) error {
-	beside := path + ".new"
-	file, err := os.OpenFile(beside, os.O_WRONLY|os.O_CREATE|os.O_TRUNC, mode)
+	temporary := path + ".new"
+	file, err := os.OpenFile(temporary, os.O_WRONLY|os.O_CREATE|os.O_TRUNC, mode)
 	if err != nil {
 		return err
 	}
@@ -20,42 +21,42 @@ func WriteFile(path string, data []byte, mode os.FileMode) error {
 	if err == nil {
 		err = file.Sync()
 	}
-	if closed := file.Close(); err == nil {
-		err = closed
+	if closeErr := file.Close(); err == nil {
+		err = closeErr
 	}
 	if err == nil {
-		err = os.Rename(beside, path)
+		err = os.Rename(temporary, path)
 	}
 	if err != nil {
-		os.Remove(beside)
+		os.Remove(temporary)
 		return err
 	}
 	return syncFolder(path)
 }
 
-// OpenPlain opens a plain file to read. It waits for nobody, as the opening of a pipe would.
+// OpenPlain opens a regular file for reading. It doesn't block, as opening a pipe would.
 func OpenPlain(path string) (*os.File, error) {
 	file, err := os.OpenFile(path, os.O_RDONLY|syscall.O_NONBLOCK, 0)
 	if err != nil {
 		return nil, err
 	}
-	if about, err := file.Stat(); err != nil || !about.Mode().IsRegular() {
+	if info, err := file.Stat(); err != nil || !info.Mode().IsRegular() {
 		file.Close()
-		return nil, fmt.Errorf("%s is no plain file", path)
+		return nil, fmt.Errorf("%s is not a regular file", path)
 	}
 	return file, nil
 }
 
-// ReadFile reads a plain file of at most so many bytes.
-func ReadFile(path string, most int64) ([]byte, error) {
+// ReadFile reads a regular file. A file of more than max bytes is an error.
+func ReadFile(path string, max int64) ([]byte, error) {
 	file, err := OpenPlain(path)
 	if err != nil {
 		return nil, err
 	}
 	defer file.Close()
-	data, err := io.ReadAll(io.LimitReader(file, most+1))
-	if err == nil && int64(len(data)) > most {
-		err = fmt.Errorf("%s has more than %d bytes", path, most)
+	data, err := io.ReadAll(io.LimitReader(file, max+1))
+	if err == nil && int64(len(data)) > max {
+		err = fmt.Errorf("%s has more than %d bytes", path, max)
 	}
 	return data, err
 }

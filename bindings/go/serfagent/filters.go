@@ -5,49 +5,50 @@ import "C"
 
 import "encoding/binary"
 
-// TagFilter is the first byte of a filter that asks for a tag. The agent knows no tags: see Agent.Receive.
+// TagFilter is the first byte of a tag filter. The agent doesn't know its node's tags: see Agent.Receive.
 const TagFilter = 1
 
-// FilterByNames is a filter that the nodes of these names pass, for QueryParams.
+// FilterByNames returns a filter for QueryParams that the nodes with these names pass.
 func FilterByNames(names ...string) []byte {
-	filter := sized([]byte{0}, 0x90, 16, 0xdc, len(names))
+	filter := appendHead([]byte{0}, 0x90, 16, 0xdc, len(names))
 	for _, name := range names {
-		filter = append(sized(filter, 0xa0, 32, 0xda, len(name)), name...)
+		filter = append(appendHead(filter, 0xa0, 32, 0xda, len(name)), name...)
 	}
 	return filter
 }
 
-// FilterByTag is a filter that a node passes whose tag matches the expression somewhere, for QueryParams. Serf reads the
-// expression by the package regexp.
+// FilterByTag returns a filter for QueryParams that a node passes if the expression matches a part of its tag. Serf
+// reads the expression with the package regexp.
 func FilterByTag(tag, expression string) []byte {
 	filter := []byte{TagFilter, 0x82}
 	for _, text := range []string{"Expr", expression, "Tag", tag} {
-		filter = append(sized(filter, 0xa0, 32, 0xda, len(text)), text...)
+		filter = append(appendHead(filter, 0xa0, 32, 0xda, len(text)), text...)
 	}
 	return filter
 }
 
-// sized begins a value of MessagePack that has so many within, in its short form or a wide one.
-func sized(to []byte, short byte, shortest int, wide byte, count int) []byte {
+// appendHead appends the head of a MessagePack value with count bytes or elements: the short form, or one of the two
+// wide ones.
+func appendHead(data []byte, short byte, shortCount int, wide byte, count int) []byte {
 	switch {
-	case count < shortest:
-		return append(to, short|byte(count))
+	case count < shortCount:
+		return append(data, short|byte(count))
 	case count <= 0xffff:
-		return binary.BigEndian.AppendUint16(append(to, wide), uint16(count))
+		return binary.BigEndian.AppendUint16(append(data, wide), uint16(count))
 	}
-	return binary.BigEndian.AppendUint32(append(to, wide+1), uint32(count))
+	return binary.BigEndian.AppendUint32(append(data, wide+1), uint32(count))
 }
 
-// FiltersOf are the filters that a query's packet has, in its order; nil where the packet is no query. It needs no agent.
+// FiltersOf returns the filters of a query's packet, in order, or nil if the packet is no query. No agent is needed.
 func FiltersOf(packet []byte) ([][]byte, error) {
-	var all C.struct_serf_agent_filters
-	var lens []C.size_t
+	var sizes C.struct_serf_agent_filters
+	var lengths []C.size_t
 	var filters []byte
-	// first the sizes, and then the filters
+	// The first call returns the sizes, the second the filters.
 	for i := 0; i < 2; i++ {
-		// (one more, since C wants an address also where there is none)
-		lens, filters = make([]C.size_t, all.filters+1), make([]byte, all.filters_len)
-		err := refused(C.serf_agent_query_filters(ptr(packet), size(packet), &all, &lens[0], C.size_t(len(lens)-1), ptr(filters), size(filters)))
+		// One more, because C needs an address even if there are no filters.
+		lengths, filters = make([]C.size_t, sizes.filters+1), make([]byte, sizes.filters_len)
+		err := errorOf(C.serf_agent_query_filters(ptr(packet), size(packet), &sizes, &lengths[0], C.size_t(len(lengths)-1), ptr(filters), size(filters)))
 		if err == Nothing {
 			return nil, nil
 		}
@@ -55,10 +56,10 @@ func FiltersOf(packet []byte) ([][]byte, error) {
 			return nil, err
 		}
 	}
-	found := make([][]byte, 0, all.filters)
-	for _, length := range lens[:all.filters] {
-		found = append(found, filters[:length:length])
+	list := make([][]byte, 0, sizes.filters)
+	for _, length := range lengths[:sizes.filters] {
+		list = append(list, filters[:length:length])
 		filters = filters[length:]
 	}
-	return found, nil
+	return list, nil
 }

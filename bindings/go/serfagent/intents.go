@@ -3,28 +3,29 @@ package serfagent
 // #include "serf_agent.h"
 import "C"
 
-// Intent is a node's word that it joins, or the word that a node leaves.
+// Intent is a join intent of a node, or a leave intent.
 type Intent struct {
-	// Time is of the member clock of the node that said it. 2^64 - 1 is none.
+	// Time is the Lamport time, by the member clock of the node that sent the intent. 2^64 - 1 is not a time.
 	Time uint64
-	// Node is the name of the node that comes or goes.
+	// Node is the name of the node that joins or leaves.
 	Node []byte
-	// Leave says that it leaves; else it joins.
+	// Leave is true for a leave intent.
 	Leave bool
-	// Prune says of a leave that the members are to forget the node at once. A join has none.
+	// Prune is true if the members are to forget the node at once. Only leave intents can have it.
 	Prune bool
 }
 
-// IntentOf is the intent that a packet is; nil where it is another message, at which nobody looks. It needs no agent.
+// IntentOf returns the intent of a packet, or nil if the packet is another message, whose content is not checked. No
+// agent is needed.
 //
-// The error is NoMessage where the packet is no message, or a faulty intent: IntentFaultOf says why.
+// The error is NoMessage if the packet is no message, or a faulty intent. IntentFaultOf returns the reason.
 func IntentOf(packet []byte) (*Intent, error) {
-	var about C.struct_serf_agent_intent
+	var info C.struct_serf_agent_intent
 	var node []byte
-	// first the length, and then the name
+	// The first call returns the length, the second the name.
 	for i := 0; i < 2; i++ {
-		node = make([]byte, about.node_len)
-		err := refused(C.serf_agent_intent(ptr(packet), size(packet), &about, ptr(node), size(node)))
+		node = make([]byte, info.node_len)
+		err := errorOf(C.serf_agent_intent(ptr(packet), size(packet), &info, ptr(node), size(node)))
 		if err == Nothing {
 			return nil, nil
 		}
@@ -32,10 +33,10 @@ func IntentOf(packet []byte) (*Intent, error) {
 			return nil, err
 		}
 	}
-	return &Intent{uint64(about.time), node, bool(about.leave), bool(about.prune)}, nil
+	return &Intent{uint64(info.time), node, bool(info.leave), bool(info.prune)}, nil
 }
 
-// Packet is the intent's, to send. It needs no agent. The error is Exhausted where the time is 2^64 - 1.
+// Packet returns the intent's packet, to send. No agent is needed. The error is Exhausted if the time is 2^64 - 1.
 func (i Intent) Packet() ([]byte, error) {
 	var length C.size_t
 	var packet []byte
@@ -47,7 +48,7 @@ func (i Intent) Packet() ([]byte, error) {
 		} else {
 			code = C.serf_agent_join_packet(C.uint64_t(i.Time), ptr(i.Node), size(i.Node), &length, ptr(packet), size(packet))
 		}
-		if err := refused(code); err != nil {
+		if err := errorOf(code); err != nil {
 			return nil, err
 		}
 	}

@@ -7,7 +7,7 @@ import (
 	"testing"
 )
 
-// Intents off the wire between agents of Serf.
+// Intents as Serf's agents send them.
 var intents = []struct {
 	packet string
 	intent Intent
@@ -18,14 +18,14 @@ var intents = []struct {
 }
 
 func TestIntents(t *testing.T) {
-	for _, one := range intents {
-		found, err := IntentOf([]byte(one.packet))
-		if err != nil || !reflect.DeepEqual(*found, one.intent) {
-			t.Errorf("%x: %v %v", one.packet, found, err)
+	for _, test := range intents {
+		found, err := IntentOf([]byte(test.packet))
+		if err != nil || !reflect.DeepEqual(*found, test.intent) {
+			t.Errorf("%x: %v %v", test.packet, found, err)
 		}
-		packet, err := one.intent.Packet()
-		if err != nil || !bytes.Equal(packet, []byte(one.packet)) {
-			t.Errorf("%v: %x %v", one.intent, packet, err)
+		packet, err := test.intent.Packet()
+		if err != nil || !bytes.Equal(packet, []byte(test.packet)) {
+			t.Errorf("%v: %x %v", test.intent, packet, err)
 		}
 	}
 }
@@ -36,7 +36,7 @@ func TestNoIntents(t *testing.T) {
 		if found != nil || err != nil {
 			t.Errorf("%x: %v %v", packet, found, err)
 		}
-		if fault, has := IntentFaultOf([]byte(packet)); has {
+		if fault, ok := IntentFaultOf([]byte(packet)); ok {
 			t.Errorf("%x: %v", packet, fault)
 		}
 	}
@@ -51,8 +51,8 @@ func TestNoIntents(t *testing.T) {
 		if _, err := IntentOf([]byte(packet)); err != NoMessage {
 			t.Errorf("%x: %v", packet, err)
 		}
-		if found, has := IntentFaultOf([]byte(packet)); !has || found != fault {
-			t.Errorf("%x: %v %v", packet, has, found)
+		if found, ok := IntentFaultOf([]byte(packet)); !ok || found != fault {
+			t.Errorf("%x: %v %v", packet, ok, found)
 		}
 	}
 	if _, err := (Intent{Time: ^uint64(0)}).Packet(); err != Exhausted {
@@ -67,8 +67,8 @@ func TestMembers(t *testing.T) {
 	statuses, left := []Status{{"b", 7}, {"", 0}, {"b", 9}}, []string{"gone", ""}
 	packet, err := agent.LocalState(statuses, left)
 	must(t, err)
-	wanted := &Members{1, statuses, left}
-	if found, err := MembersOf(packet); err != nil || !reflect.DeepEqual(found, wanted) {
+	want := &Members{1, statuses, left}
+	if found, err := MembersOf(packet); err != nil || !reflect.DeepEqual(found, want) {
 		t.Errorf("%v %v", found, err)
 	}
 	for _, other := range []string{"", "\x03\x80", "\x02", intents[0].packet} {
@@ -81,28 +81,28 @@ func TestMembers(t *testing.T) {
 	}
 }
 
-func TestTimeOfAQuery(t *testing.T) {
+func TestQueryTime(t *testing.T) {
 	agent, err := Open("a", t.TempDir()+"/snapshot", DefaultSettings())
 	must(t, err)
 	defer agent.Close()
 	for time := uint64(1); time < 4; time++ {
-		asked, err := agent.Query(0, 7, []byte("load"), nil, QueryParams{Timeout: 1000})
-		if err != nil || asked.Time != time || asked.Query.Time != time {
-			t.Errorf("%v %v", asked, err)
+		query, err := agent.Query(0, 7, []byte("load"), nil, QueryParams{Timeout: 1000})
+		if err != nil || query.Time != time || query.Query.Time != time {
+			t.Errorf("%v %v", query, err)
 		}
 	}
 }
 
 func TestMemberTimes(t *testing.T) {
 	path := t.TempDir() + "/snapshot"
-	for life, wanted := range []uint64{1, 9} {
+	for life, want := range []uint64{1, 9} {
 		agent, err := Open("a", path, DefaultSettings())
 		must(t, err)
-		for _, time := range []uint64{wanted, wanted + 7} {
+		for _, time := range []uint64{want, want + 7} {
 			if found, err := agent.NextMemberTime(); err != nil || found != time {
 				t.Errorf("life %d: %d %v", life, found, err)
 			}
-			check(t, agent.ObserveMember(wanted+6))
+			check(t, agent.ObserveMember(want+6))
 		}
 		if err := agent.ObserveMember(^uint64(0)); err != Exhausted {
 			t.Error(err)

@@ -7,8 +7,8 @@ import (
 	"testing"
 )
 
-// eventsOfAnother are another agent's events of the times 1 and on, e1 and so on, by their times.
-func eventsOfAnother(t *testing.T) [10][]byte {
+// otherEvents returns the packets of another agent's events e1, e2 and so on. The index is their Lamport time.
+func otherEvents(t *testing.T) [10][]byte {
 	var packets [10][]byte
 	other, _ := opened(t, "other")
 	for time := 1; time < len(packets); time++ {
@@ -28,37 +28,39 @@ func openKeeping(t *testing.T, path string, keeps bool) *Agent {
 	return agent
 }
 
-// life is a life on a file that ends as by a kill. It says what comes of the events of these times, as "3 new, 1 seen, 2 below".
-func life(t *testing.T, path string, keeps bool, packets [10][]byte, times ...int) (found string) {
+// runLife opens the agent on a file, hands it the events with these times, and ends as by a kill. It returns what the
+// agent did with each event, for example "3 new, 1 seen, 2 below".
+func runLife(t *testing.T, path string, keeps bool, packets [10][]byte, times ...int) (result string) {
 	t.Helper()
 	agent := openKeeping(t, path, keeps)
 	defer agent.Close()
 	for i, time := range times {
 		received, err := agent.Receive(1, packets[time], false)
 		must(t, err)
-		what := map[Reason]string{0: "new", Seen: "seen", BelowMinimum: "below"}[received.Reason]
-		if what == "new" && (received.Event == nil || received.Event.Time != uint64(time)) {
+		verdict := map[Reason]string{0: "new", Seen: "seen", BelowMinimum: "below"}[received.Reason]
+		if verdict == "new" && (received.Event == nil || received.Event.Time != uint64(time)) {
 			t.Error(time, received)
 		}
 		if i > 0 {
-			found += ", "
+			result += ", "
 		}
-		found += fmt.Sprint(time, " ", what)
+		result += fmt.Sprint(time, " ", verdict)
 	}
-	return found
+	return result
 }
 
-// Behind a kill what was handed out is known, and what wasn't is handed out, below the last clock line too.
-func TestARestartGoesOn(t *testing.T) {
-	packets, path := eventsOfAnother(t), filepath.Join(t.TempDir(), "file")
-	if found := life(t, path, true, packets, 3, 1, 3); found != "3 new, 1 new, 3 seen" {
+// After a kill the events that were handed out are known, and the others are handed out, even below the last clock
+// line.
+func TestRestartResumes(t *testing.T) {
+	packets, path := otherEvents(t), filepath.Join(t.TempDir(), "file")
+	if found := runLife(t, path, true, packets, 3, 1, 3); found != "3 new, 1 new, 3 seen" {
 		t.Error(found)
 	}
 	lines := "event-clock: 03\n#event 3 6533 \n#event 1 6531 \n"
 	if text := textOf(t, path); text != lines {
 		t.Errorf("%q", text)
 	}
-	if found := life(t, path, true, packets, 3, 1, 2, 2); found != "3 seen, 1 seen, 2 new, 2 seen" {
+	if found := runLife(t, path, true, packets, 3, 1, 2, 2); found != "3 seen, 1 seen, 2 new, 2 seen" {
 		t.Error(found)
 	}
 	if text := textOf(t, path); text != lines+"#event 2 6532 \n" {
@@ -66,15 +68,15 @@ func TestARestartGoesOn(t *testing.T) {
 	}
 }
 
-func TestARestartWithoutTheSetting(t *testing.T) {
-	packets, path := eventsOfAnother(t), filepath.Join(t.TempDir(), "file")
+func TestRestartWithoutKeepEvents(t *testing.T) {
+	packets, path := otherEvents(t), filepath.Join(t.TempDir(), "file")
 	if DefaultSettings().KeepEvents {
 		t.Error("it is off where nothing is said")
 	}
-	if found := life(t, path, false, packets, 3, 1); found != "3 new, 1 new" {
+	if found := runLife(t, path, false, packets, 3, 1); found != "3 new, 1 new" {
 		t.Error(found)
 	}
-	if found := life(t, path, false, packets, 3, 2); found != "3 below, 2 below" {
+	if found := runLife(t, path, false, packets, 3, 2); found != "3 below, 2 below" {
 		t.Error(found)
 	}
 	if text := textOf(t, path); text != "event-clock: 3\n" {
@@ -82,12 +84,12 @@ func TestARestartWithoutTheSetting(t *testing.T) {
 	}
 }
 
-// The line of an event that isn't whole says nothing, so the event is handed out.
-func TestATornLine(t *testing.T) {
-	packets, path := eventsOfAnother(t), filepath.Join(t.TempDir(), "file")
+// An event's line that is incomplete doesn't count, so the event is handed out.
+func TestTornLine(t *testing.T) {
+	packets, path := otherEvents(t), filepath.Join(t.TempDir(), "file")
 	text := "event-clock: 03\n#event 3 6533 \nevent-clock: 05\n#event 5 65"
 	must(t, os.WriteFile(path, []byte(text), 0600))
-	if found := life(t, path, true, packets, 3, 5, 4); found != "3 seen, 5 new, 4 new" {
+	if found := runLife(t, path, true, packets, 3, 5, 4); found != "3 seen, 5 new, 4 new" {
 		t.Error(found)
 	}
 	if found := textOf(t, path); found != text+"#\n#event 5 6535 \n#event 4 6534 \n" {
@@ -95,9 +97,9 @@ func TestATornLine(t *testing.T) {
 	}
 }
 
-func TestLivesWithTheSettingAndWithout(t *testing.T) {
-	packets, path := eventsOfAnother(t), filepath.Join(t.TempDir(), "file")
-	for _, one := range []struct {
+func TestKeepEventsTurnedOnAndOff(t *testing.T) {
+	packets, path := otherEvents(t), filepath.Join(t.TempDir(), "file")
+	for _, test := range []struct {
 		keeps bool
 		times []int
 		want  string
@@ -105,30 +107,30 @@ func TestLivesWithTheSettingAndWithout(t *testing.T) {
 		{false, []int{3}, "3 new"}, {true, []int{2, 5}, "2 below, 5 new"}, {false, []int{4, 7}, "4 below, 7 new"},
 		{true, []int{6, 8, 9}, "6 below, 8 new, 9 new"}, {true, []int{8, 9}, "8 seen, 9 seen"},
 	} {
-		if found := life(t, path, one.keeps, packets, one.times...); found != one.want {
-			t.Errorf("%s, and %s was wanted", found, one.want)
+		if found := runLife(t, path, test.keeps, packets, test.times...); found != test.want {
+			t.Errorf("%s, and %s was wanted", found, test.want)
 		}
 	}
 }
 
-// A compaction keeps what the buffers hold.
-func TestACompactionKeepsEvents(t *testing.T) {
-	packets, path := eventsOfAnother(t), filepath.Join(t.TempDir(), "file")
-	life(t, path, true, packets, 3, 1)
+// A compaction keeps the events that the buffers hold.
+func TestCompactionKeepsEvents(t *testing.T) {
+	packets, path := otherEvents(t), filepath.Join(t.TempDir(), "file")
+	runLife(t, path, true, packets, 3, 1)
 	agent := openKeeping(t, path, true)
 	must(t, agent.Compact())
 	agent.Close()
 	if text := textOf(t, path); text != "#least event-clock: 1\n#event 1 6531 \n#event 3 6533 \n#least query-clock: 1\nevent-clock: 03\n" {
 		t.Errorf("%q", text)
 	}
-	if found := life(t, path, true, packets, 1, 3, 2); found != "1 seen, 3 seen, 2 new" {
+	if found := runLife(t, path, true, packets, 1, 3, 2); found != "1 seen, 3 seen, 2 new" {
 		t.Error(found)
 	}
 }
 
-// A burst's lines are one append, behind one flush.
-func TestABurstIsKept(t *testing.T) {
-	packets, path := eventsOfAnother(t), filepath.Join(t.TempDir(), "file")
+// A burst's lines are appended together, with one flush.
+func TestBurstKeepsEvents(t *testing.T) {
+	packets, path := otherEvents(t), filepath.Join(t.TempDir(), "file")
 	agent := openKeeping(t, path, true)
 	var burst Burst
 	for _, time := range []int{3, 2, 3} {
@@ -141,7 +143,7 @@ func TestABurstIsKept(t *testing.T) {
 	if text := textOf(t, path); text != "event-clock: 03\n#event 3 6533 \n#event 2 6532 \n" {
 		t.Errorf("%q", text)
 	}
-	if found := life(t, path, true, packets, 3, 2, 1); found != "3 seen, 2 seen, 1 new" {
+	if found := runLife(t, path, true, packets, 3, 2, 1); found != "3 seen, 2 seen, 1 new" {
 		t.Error(found)
 	}
 }

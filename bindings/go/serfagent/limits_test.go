@@ -10,7 +10,7 @@ import (
 	"time"
 )
 
-// openLimited opens an agent with these limits of queries and responses.
+// openLimited opens an agent with these limits for the packets of queries and of responses.
 func openLimited(t *testing.T, query, response uint64) (*Agent, error) {
 	t.Helper()
 	settings := Settings{EventBuffer: 512, QueryBuffer: 512, EventLimit: 512, Responders: 1024, PerTime: 1024}
@@ -22,8 +22,9 @@ func openLimited(t *testing.T, query, response uint64) (*Agent, error) {
 	return agent, err
 }
 
-// longest is the packet of the longest payload that is taken, and how many were refused as too large: each that is longer.
-func longest(t *testing.T, from uint64, call func(payload []byte) ([]byte, error)) uint64 {
+// longestPacket returns the length of the longest packet that call accepts. Every longer payload has to be refused as
+// TooLarge.
+func longestPacket(t *testing.T, from uint64, call func(payload []byte) ([]byte, error)) uint64 {
 	t.Helper()
 	for length := from; length > 0; length-- {
 		packet, err := call(make([]byte, length))
@@ -37,27 +38,27 @@ func longest(t *testing.T, from uint64, call func(payload []byte) ([]byte, error
 	return 0
 }
 
-// The longest packet of a query, and of a response, has just as many bytes as its limit says. What is left out, or 0, is 1,024.
+// The longest packets of queries and of responses are exactly as long as their limits. The default, and 0, is 1,024.
 func TestLimitsOfQueriesAndResponses(t *testing.T) {
-	for _, one := range []struct{ query, response, wantQuery, wantResponse uint64 }{
+	for _, test := range []struct{ query, response, wantQuery, wantResponse uint64 }{
 		{0, 0, 1024, 1024}, {1024, 1024, 1024, 1024}, {300, 0, 300, 1024}, {0, 300, 1024, 300}, {200, 9216, 200, 9216}, {9216, 200, 9216, 200},
 	} {
-		agent, err := openLimited(t, one.query, one.response)
+		agent, err := openLimited(t, test.query, test.response)
 		if err != nil {
-			t.Fatal(one, err)
+			t.Fatal(test, err)
 		}
-		var asked *Asked
-		query := longest(t, one.wantQuery+1, func(payload []byte) (packet []byte, err error) {
-			if asked, err = agent.Query(1, 7, []byte("q"), payload, QueryParams{Timeout: time.Hour}); err == nil {
-				packet = asked.Packet
+		var fired *FiredQuery
+		query := longestPacket(t, test.wantQuery+1, func(payload []byte) (packet []byte, err error) {
+			if fired, err = agent.Query(1, 7, []byte("q"), payload, QueryParams{Timeout: time.Hour}); err == nil {
+				packet = fired.Packet
 			}
 			return packet, err
 		})
-		response := longest(t, one.wantResponse+1, func(payload []byte) ([]byte, error) {
-			return agent.Respond(2, asked.Query.Number, payload)
+		response := longestPacket(t, test.wantResponse+1, func(payload []byte) ([]byte, error) {
+			return agent.Respond(2, fired.Query.Number, payload)
 		})
-		if query != one.wantQuery || response != one.wantResponse {
-			t.Errorf("%v: a query of %d bytes, and a response of %d", one, query, response)
+		if query != test.wantQuery || response != test.wantResponse {
+			t.Errorf("%v: a query of %d bytes, and a response of %d", test, query, response)
 		}
 	}
 	if found := DefaultSettings(); found.QueryLimit != 1024 || found.ResponseLimit != 1024 {
@@ -65,40 +66,40 @@ func TestLimitsOfQueriesAndResponses(t *testing.T) {
 	}
 }
 
-// A setting that is out of its bounds is named, the first one where there are more; each bound itself is taken.
+// The error names the first setting that is out of its bounds. Each bound itself is accepted.
 func TestSettingsOutOfBounds(t *testing.T) {
-	set := func(of string, to uint64) (name string, settings Settings) {
+	with := func(field string, to uint64) (name string, settings Settings) {
 		settings = DefaultSettings()
-		if of == "name" {
+		if field == "name" {
 			return strings.Repeat("n", int(to)), settings
 		}
-		reflect.ValueOf(&settings).Elem().FieldByName(of).SetUint(to)
+		reflect.ValueOf(&settings).Elem().FieldByName(field).SetUint(to)
 		return "one", settings
 	}
-	for _, one := range []SettingError{
+	for _, bound := range []SettingError{
 		{"name", 0, 1, 128}, {"EventBuffer", 0, 1, 65536}, {"QueryBuffer", 0, 1, 65536}, {"EventLimit", 9217, 0, 9216}, {"QueryLimit", 9217, 0, 9216},
 		{"ResponseLimit", math.MaxUint64, 0, 9216}, {"Responders", 0, 1, 65536}, {"PerTime", 0, 1, 65536},
 	} {
-		for _, is := range []uint64{one.Is, one.Greatest + 1} {
-			wanted, found := SettingError{one.Field, is, one.Least, one.Greatest}, &SettingError{}
-			name, settings := set(one.Field, is)
-			if _, err := OpenInMemory(name, settings); !errors.Is(err, BadConfig) || !errors.As(err, &found) || *found != wanted {
-				t.Error(wanted, err)
+		for _, value := range []uint64{bound.Value, bound.Max + 1} {
+			want, found := SettingError{bound.Field, value, bound.Min, bound.Max}, &SettingError{}
+			name, settings := with(bound.Field, value)
+			if _, err := OpenInMemory(name, settings); !errors.Is(err, BadConfig) || !errors.As(err, &found) || *found != want {
+				t.Error(want, err)
 			}
 		}
-		for _, is := range []uint64{one.Least, one.Greatest} {
-			name, settings := set(one.Field, is)
+		for _, value := range []uint64{bound.Min, bound.Max} {
+			name, settings := with(bound.Field, value)
 			agent, err := OpenInMemory(name, settings)
 			if err != nil {
-				t.Fatal(one.Field, is, err)
+				t.Fatal(bound.Field, value, err)
 			}
 			agent.Close()
 		}
 	}
-	if _, err := OpenInMemory("one", Settings{KeepEvents: true}); err == nil || err.Error() != "EventBuffer is 0, and has to be from 1 to 65536" {
+	if _, err := OpenInMemory("one", Settings{KeepEvents: true}); err == nil || err.Error() != "EventBuffer is 0, and must be between 1 and 65536" {
 		t.Error(err)
 	}
-	if _, err := OpenInMemory("", Settings{}); err == nil || err.Error() != "the name has 0 bytes, and has to have 1 to 128" {
+	if _, err := OpenInMemory("", Settings{}); err == nil || err.Error() != "the name has 0 bytes, and must have 1 to 128" {
 		t.Error(err)
 	}
 }

@@ -3,27 +3,27 @@ package serfagent
 // #include "serf_agent.h"
 import "C"
 
-// Members is what another agent's whole state says of members.
+// Members is what another agent's whole state says about members.
 type Members struct {
-	// MemberClock is the sender's.
+	// MemberClock is the sender's member clock.
 	MemberClock uint64
 	// Statuses are the members' names, each with the time of its status.
 	Statuses []Status
-	// Left are the names of those that left.
+	// Left are the names of the members that left.
 	Left []string
 }
 
-// MembersOf is what a push/pull's packet says of members; nil where the packet is none. It needs no agent. Merge takes the
-// same packet, whose events are its own.
+// MembersOf returns what a push/pull's packet says about members, or nil if the packet is not a push/pull. No agent is
+// needed. Merge handles the events of the same packet.
 func MembersOf(packet []byte) (*Members, error) {
-	var all C.struct_serf_agent_members
+	var sizes C.struct_serf_agent_members
 	var members []C.struct_serf_agent_member
 	var names []byte
-	// first the sizes, and then the members
+	// The first call returns the sizes, the second the members.
 	for i := 0; i < 2; i++ {
-		// (one more, since C wants an address also where there is none)
-		members, names = make([]C.struct_serf_agent_member, all.members+1), make([]byte, all.names_len)
-		err := refused(C.serf_agent_state_members(ptr(packet), size(packet), &all, &members[0], C.size_t(len(members)-1),
+		// One more, because C needs an address even if there are no members.
+		members, names = make([]C.struct_serf_agent_member, sizes.members+1), make([]byte, sizes.names_len)
+		err := errorOf(C.serf_agent_state_members(ptr(packet), size(packet), &sizes, &members[0], C.size_t(len(members)-1),
 			ptr(names), size(names)))
 		if err == Nothing {
 			return nil, nil
@@ -32,15 +32,87 @@ func MembersOf(packet []byte) (*Members, error) {
 			return nil, err
 		}
 	}
-	found := &Members{MemberClock: uint64(all.member_clock)}
-	for _, one := range members[:all.members] {
-		name := string(names[:one.name_len])
-		names = names[one.name_len:]
-		if one.left {
-			found.Left = append(found.Left, name)
+	result := &Members{MemberClock: uint64(sizes.member_clock)}
+	for _, member := range members[:sizes.members] {
+		name := string(names[:member.name_len])
+		names = names[member.name_len:]
+		if member.left {
+			result.Left = append(result.Left, name)
 		} else {
-			found.Statuses = append(found.Statuses, Status{name, uint64(one.status_time)})
+			result.Statuses = append(result.Statuses, Status{name, uint64(member.status_time)})
 		}
 	}
-	return found, nil
+	return result, nil
+}
+
+// Status is a member's name and the Lamport time of its status.
+type Status struct {
+	Name string
+	Time uint64
+}
+
+// forgetMembers discards the members of a state that failed, by making a state that is not read.
+func (a *Agent) forgetMembers() error {
+	if !a.staleMembers {
+		return nil
+	}
+	return checkForgotten(C.serf_agent_local_state(a.handle))
+}
+
+// LocalState returns the packet with this agent's whole state, with the members' status times and the names of the
+// members that left.
+func (a *Agent) LocalState(statuses []Status, left []string) ([]byte, error) {
+	a.mu.Lock()
+	defer a.mu.Unlock()
+	if err := a.forgetMembers(); err != nil {
+		return nil, err
+	}
+	a.staleMembers = len(statuses)+len(left) > 0
+	for _, status := range statuses {
+		name := []byte(status.Name)
+		if err := errorOf(C.serf_agent_add_status(a.handle, ptr(name), size(name), C.uint64_t(status.Time))); err != nil {
+			return nil, err
+		}
+	}
+	for _, member := range left {
+		name := []byte(member)
+		if err := errorOf(C.serf_agent_add_left(a.handle, ptr(name), size(name))); err != nil {
+			return nil, err
+		}
+	}
+	if err := a.complete(C.serf_agent_local_state(a.handle)); err != nil {
+		return nil, err
+	}
+	a.staleMembers = false
+	return a.packet(false)
+}
+
+// ObserveMember observes the Lamport time of a member's intent or status. After that the member clock is later than
+// this time.
+func (a *Agent) ObserveMember(time uint64) error {
+	a.mu.Lock()
+	defer a.mu.Unlock()
+	return a.complete(C.serf_agent_observe_member(a.handle, C.uint64_t(time)))
+}
+
+// NextMemberTime returns the Lamport time for an intent of this node. The member clock is on the disk by then, so no
+// later life of the agent uses this time again.
+func (a *Agent) NextMemberTime() (uint64, error) {
+	a.mu.Lock()
+	defer a.mu.Unlock()
+	var clocks C.struct_serf_agent_clocks
+	if err := errorOf(C.serf_agent_clocks(a.handle, &clocks)); err != nil {
+		return 0, err
+	}
+	if err := errorOf(C.serf_agent_observe_member(a.handle, clocks.member)); err != nil {
+		return 0, err
+	}
+	return uint64(clocks.member), a.complete(C.serf_agent_save_member_clock(a.handle))
+}
+
+// SaveMemberClock appends the member clock to the file, so that the next life resumes from it.
+func (a *Agent) SaveMemberClock() error {
+	a.mu.Lock()
+	defer a.mu.Unlock()
+	return a.complete(C.serf_agent_save_member_clock(a.handle))
 }

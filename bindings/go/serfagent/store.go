@@ -9,42 +9,42 @@ import (
 	"syscall"
 )
 
-// Why a snapshot's file isn't opened, read or written: one of these is in each error of a Store, for errors.Is.
+// Why a snapshot's file can't be opened, read or written. Each error of a Store wraps one of these, for errors.Is.
 var (
-	// ErrLocked: another store, here or in another process, has the file.
+	// ErrLocked: another store, in this process or another one, has locked the file.
 	ErrLocked = errors.New("another agent has the file")
-	// ErrMissingFolder: the folder in which the file is to stand isn't there.
-	ErrMissingFolder = errors.New("the folder of the file isn't there")
-	// ErrNotAFile: the path names a folder, a device or anything else that is no plain file.
-	ErrNotAFile = errors.New("the path names no plain file")
-	// ErrReadOnly: the file, its folder or its disk may not be written.
-	ErrReadOnly = errors.New("the file or its folder may not be written")
-	// ErrFull: the disk, or the share of it that this user may take, is full.
+	// ErrMissingFolder: the folder that should contain the file doesn't exist.
+	ErrMissingFolder = errors.New("the folder of the file doesn't exist")
+	// ErrNotAFile: the path is a folder, a device or anything else that is not a regular file.
+	ErrNotAFile = errors.New("the path is not a regular file")
+	// ErrReadOnly: the file, its folder or its file system is not writable.
+	ErrReadOnly = errors.New("the file or its folder is not writable")
+	// ErrFull: the disk, or this user's quota, is full.
 	ErrFull = errors.New("the disk is full")
 	// ErrBroken: an earlier call failed, or the store is closed.
 	ErrBroken = errors.New("an earlier call failed, or the store is closed")
-	// ErrFailed: any other fault of the system.
-	ErrFailed = errors.New("the system failed")
+	// ErrFailed: any other error of the system.
+	ErrFailed = errors.New("the system call failed")
 )
 
-// tries is how often an opening begins anew, because the file was replaced between its opening and its lock.
-const tries = 100
+// maxOpenTries is how often opening starts again because the file was replaced between its opening and its lock.
+const maxOpenTries = 100
 
-// Store is the file of an agent's snapshot, opened or made, and locked: one store at a time has it.
+// Store is the file of an agent's snapshot. It is locked, so only one store at a time has it open.
 //
-// The system gives the lock free where the process ends, however it ends. A replacement writes FILE.new beside the file,
-// brings it to the disk and renames it, so a crash leaves the old text or the new one; what a crash left of FILE.new is
-// removed by the next opening. After a fault in an append or a replacement the store is broken: it takes no more bytes
-// until it is opened again, and its agent with it.
+// The system releases the lock when the process ends, however it ends. A replacement writes FILE.new next to the file,
+// flushes it and renames it, so a crash leaves the old text or the new one. The next opening removes a FILE.new that a
+// crash left. After an error in an append or a replacement the store is broken: it accepts no more bytes until it, and
+// the agent with it, is opened again.
 //
-// No contract speaks of it: it is tested.
+// The Store is not proved. It is tested.
 type Store struct {
 	path     string
 	file     *os.File
 	isBroken bool
 }
 
-func named(path string, err error) error {
+func storeError(path string, err error) error {
 	if err == nil {
 		return nil
 	}
@@ -67,18 +67,18 @@ func named(path string, err error) error {
 	return fmt.Errorf("%s: %w (%v)", path, kind, err)
 }
 
-// realPath is the path without links; the file itself need not be there.
+// realPath returns the path without symbolic links. The file itself doesn't have to exist.
 func realPath(path string) (string, error) {
-	whole, err := filepath.Abs(path)
+	absolute, err := filepath.Abs(path)
 	if err != nil {
 		return "", err
 	}
-	real, err := filepath.EvalSymlinks(whole)
+	resolved, err := filepath.EvalSymlinks(absolute)
 	if !errors.Is(err, os.ErrNotExist) {
-		return real, err
+		return resolved, err
 	}
-	folder, err := filepath.EvalSymlinks(filepath.Dir(whole))
-	return filepath.Join(folder, filepath.Base(whole)), err
+	folder, err := filepath.EvalSymlinks(filepath.Dir(absolute))
+	return filepath.Join(folder, filepath.Base(absolute)), err
 }
 
 func syncFolder(path string) error {
@@ -94,14 +94,14 @@ func lock(file *os.File) error {
 	return syscall.Flock(int(file.Fd()), syscall.LOCK_EX|syscall.LOCK_NB)
 }
 
-// openOnce opens and locks the file; nil where another file has its name by then.
+// openOnce opens and locks the file. It returns nil if another file has its name by then.
 func openOnce(path string) (*os.File, error) {
 	file, err := os.OpenFile(path, os.O_RDWR|os.O_APPEND|os.O_CREATE|syscall.O_NOFOLLOW|syscall.O_NONBLOCK, 0600)
 	if err != nil {
 		return nil, err
 	}
-	own, err := file.Stat()
-	if err == nil && !own.Mode().IsRegular() {
+	info, err := file.Stat()
+	if err == nil && !info.Mode().IsRegular() {
 		err = syscall.EISDIR
 	}
 	if err == nil {
@@ -111,14 +111,14 @@ func openOnce(path string) (*os.File, error) {
 		file.Close()
 		return nil, err
 	}
-	if now, err := os.Lstat(path); err == nil && os.SameFile(own, now) {
+	if current, err := os.Lstat(path); err == nil && os.SameFile(info, current) {
 		return file, nil
 	}
 	return nil, file.Close()
 }
 
 func openLocked(path string) (*os.File, error) {
-	for i := 0; i < tries; i++ {
+	for i := 0; i < maxOpenTries; i++ {
 		if file, err := openOnce(path); file != nil || err != nil {
 			return file, err
 		}
@@ -126,57 +126,57 @@ func openLocked(path string) (*os.File, error) {
 	return nil, syscall.EWOULDBLOCK
 }
 
-// OpenStore opens the file, or makes it where it isn't there, and locks it. A symbolic link is followed to its file.
+// OpenStore opens or creates the file, and locks it. It follows a symbolic link to its file.
 func OpenStore(path string) (*Store, error) {
-	real, err := realPath(path)
+	resolved, err := realPath(path)
 	if err != nil {
-		return nil, named(path, err)
+		return nil, storeError(path, err)
 	}
-	file, err := openLocked(real)
+	file, err := openLocked(resolved)
 	if err != nil {
-		return nil, named(path, err)
+		return nil, storeError(path, err)
 	}
-	err = os.Remove(real + ".new")
+	err = os.Remove(resolved + ".new")
 	if err == nil || errors.Is(err, os.ErrNotExist) {
 		err = file.Sync()
 	}
 	if err == nil {
-		err = syncFolder(real)
+		err = syncFolder(resolved)
 	}
 	if err != nil {
 		file.Close()
-		return nil, named(path, err)
+		return nil, storeError(path, err)
 	}
-	return &Store{path: real, file: file}, nil
+	return &Store{path: resolved, file: file}, nil
 }
 
-// Read gives all of the file: the text on which an agent is opened.
+// Read returns the whole file, which is the text on which an agent is opened.
 func (s *Store) Read() ([]byte, error) {
 	if s.file == nil {
 		return nil, fmt.Errorf("%s: %w", s.path, ErrBroken)
 	}
-	about, err := s.file.Stat()
+	info, err := s.file.Stat()
 	if err != nil {
-		return nil, named(s.path, err)
+		return nil, storeError(s.path, err)
 	}
-	text := make([]byte, about.Size())
-	_, err = io.ReadFull(io.NewSectionReader(s.file, 0, about.Size()), text)
-	return text, named(s.path, err)
+	text := make([]byte, info.Size())
+	_, err = io.ReadFull(io.NewSectionReader(s.file, 0, info.Size()), text)
+	return text, storeError(s.path, err)
 }
 
-// breaking does this, and leaves the store broken where it fails.
-func (s *Store) breaking(done func() error) error {
+// attempt runs an operation. If it fails, the store is broken.
+func (s *Store) attempt(operation func() error) error {
 	if s.file == nil || s.isBroken {
 		return fmt.Errorf("%s: %w", s.path, ErrBroken)
 	}
-	err := done()
+	err := operation()
 	s.isBroken = err != nil
-	return named(s.path, err)
+	return storeError(s.path, err)
 }
 
-// Append appends these bytes and brings them to the disk. It does nothing where there are none.
+// Append appends data and flushes it to the disk. It does nothing if there is no data.
 func (s *Store) Append(data []byte) error {
-	return s.breaking(func() error {
+	return s.attempt(func() error {
 		if len(data) == 0 {
 			return nil
 		}
@@ -187,10 +187,10 @@ func (s *Store) Append(data []byte) error {
 	})
 }
 
-// Replace replaces all of the file by these bytes, on the disk.
+// Replace replaces the file's content durably.
 func (s *Store) Replace(data []byte) error {
-	return s.breaking(func() error {
-		file, err := s.writtenBeside(s.path+".new", data)
+	return s.attempt(func() error {
+		file, err := s.writeReplacement(s.path+".new", data)
 		if err != nil {
 			return err
 		}
@@ -200,33 +200,33 @@ func (s *Store) Replace(data []byte) error {
 	})
 }
 
-func (s *Store) writtenBeside(beside string, data []byte) (*os.File, error) {
-	about, err := s.file.Stat()
+func (s *Store) writeReplacement(temporary string, data []byte) (*os.File, error) {
+	info, err := s.file.Stat()
 	if err != nil {
 		return nil, err
 	}
-	file, err := os.OpenFile(beside, os.O_RDWR|os.O_APPEND|os.O_CREATE|os.O_EXCL, 0600)
+	file, err := os.OpenFile(temporary, os.O_RDWR|os.O_APPEND|os.O_CREATE|os.O_EXCL, 0600)
 	if err != nil {
 		return nil, err
 	}
 	steps := []func() error{
 		func() error { return lock(file) },
-		func() error { return file.Chmod(about.Mode().Perm()) },
+		func() error { return file.Chmod(info.Mode().Perm()) },
 		func() error { _, err := file.Write(data); return err },
 		file.Sync,
-		func() error { return os.Rename(beside, s.path) },
+		func() error { return os.Rename(temporary, s.path) },
 	}
 	for _, step := range steps {
 		if err := step(); err != nil {
 			file.Close()
-			os.Remove(beside)
+			os.Remove(temporary)
 			return nil, err
 		}
 	}
 	return file, nil
 }
 
-// Close gives the lock free. A store that is closed stays so.
+// Close releases the lock. A closed store can't be used again.
 func (s *Store) Close() error {
 	if s.file == nil {
 		return nil

@@ -8,84 +8,87 @@ import (
 	"time"
 )
 
-// Settings of an agent; DefaultSettings has Serf's.
+// Settings are an agent's settings. DefaultSettings returns Serf's.
 type Settings struct {
-	// How many times of events, and of queries, are kept: 1 to 65,536.
+	// How many Lamport times of events, and of queries, the buffers hold: 1 to 65,536.
 	EventBuffer, QueryBuffer uint64
-	// The greatest size of a fired event in bytes, 9,216 at most.
+	// The maximum size of a fired event in bytes, at most 9,216.
 	EventLimit uint64
-	// The greatest size in bytes of the packet of a query that is fired, and of a response's: 9,216 at most, and 1,024 where it is 0.
+	// The maximum size in bytes of a fired query's packet, and of a response's: at most 9,216; 0 stands for 1,024.
 	QueryLimit, ResponseLimit uint64
-	// How many names are counted of a query's acks, and of its responses, and how much is taken of one time: 1 to 65,536.
+	// How many names are counted among a query's acks, and among its responses; and how many events, or queries, are
+	// accepted with the same Lamport time: 1 to 65,536.
 	Responders, PerTime uint64
-	// Whether events from before a join are ignored.
+	// Whether a join ignores the events from before it.
 	IgnoreOld bool
-	// Whether the file keeps events and queries, and a restart goes on with those that the buffers held. What the node missed is
-	// then handed out after a restart, while the buffer reaches it. A join that ignores what is old loses it.
+	// Whether the file keeps events and queries, so that a restart resumes with those that the buffers held. Events
+	// that the node missed are then handed out after a restart, as long as the buffer reaches back to them. A join with
+	// IgnoreOld drops them.
 	KeepEvents bool
 }
 
-// DefaultSettings are Serf's.
+// DefaultSettings returns Serf's settings.
 func DefaultSettings() Settings {
 	return Settings{
 		EventBuffer: 512, QueryBuffer: 512, EventLimit: 512, QueryLimit: 1024, ResponseLimit: 1024, Responders: 1024, PerTime: 1024,
 	}
 }
 
-// SettingError says which setting was refused, by the name of its field, or that the node's name was. It is a BadConfig.
+// SettingError names the setting that was refused, by its field in Settings, or "name" for the node's name. It wraps
+// BadConfig.
 type SettingError struct {
-	Field               string
-	Is, Least, Greatest uint64
+	Field           string
+	Value, Min, Max uint64
 }
 
 func (e *SettingError) Error() string {
 	if e.Field == "name" {
-		return fmt.Sprintf("the name has %d bytes, and has to have %d to %d", e.Is, e.Least, e.Greatest)
+		return fmt.Sprintf("the name has %d bytes, and must have %d to %d", e.Value, e.Min, e.Max)
 	}
-	return fmt.Sprintf("%s is %d, and has to be from %d to %d", e.Field, e.Is, e.Least, e.Greatest)
+	return fmt.Sprintf("%s is %d, and must be between %d and %d", e.Field, e.Value, e.Min, e.Max)
 }
 
 func (e *SettingError) Unwrap() error { return BadConfig }
 
-// refusal says which setting the library has refused: the first one that is out of the bounds that the header has.
-func (s *Settings) refusal(name string) error {
-	const most, longest = 1 << 16, 9216
-	for _, one := range []SettingError{
-		{"name", uint64(len(name)), 1, 128}, {"EventBuffer", s.EventBuffer, 1, most}, {"QueryBuffer", s.QueryBuffer, 1, most},
-		{"EventLimit", s.EventLimit, 0, longest}, {"QueryLimit", s.QueryLimit, 0, longest}, {"ResponseLimit", s.ResponseLimit, 0, longest},
-		{"Responders", s.Responders, 1, most}, {"PerTime", s.PerTime, 1, most},
+// settingError returns the first setting that is out of the header's bounds, which is the one that the library refused.
+func (s *Settings) settingError(name string) error {
+	const maxCount, maxLength = 1 << 16, 9216
+	for _, setting := range []SettingError{
+		{"name", uint64(len(name)), 1, 128}, {"EventBuffer", s.EventBuffer, 1, maxCount}, {"QueryBuffer", s.QueryBuffer, 1, maxCount},
+		{"EventLimit", s.EventLimit, 0, maxLength}, {"QueryLimit", s.QueryLimit, 0, maxLength}, {"ResponseLimit", s.ResponseLimit, 0, maxLength},
+		{"Responders", s.Responders, 1, maxCount}, {"PerTime", s.PerTime, 1, maxCount},
 	} {
-		if one := one; one.Is < one.Least || one.Is > one.Greatest {
-			return &one
+		if setting := setting; setting.Value < setting.Min || setting.Value > setting.Max {
+			return &setting
 		}
 	}
 	return BadConfig
 }
 
-// Event is handed out: run its handler.
+// Event is an event that is handed out. Run its handler.
 type Event struct {
 	Time          uint64
 	Name, Payload []byte
 	Coalesce      bool
 }
 
-// Handed is a query that is handed out: run its handler, and answer by Respond with its number.
-type Handed struct {
+// PendingQuery is a query that is handed out. Run its handler, and answer by Respond with its number.
+type PendingQuery struct {
 	Number, Time  uint64
 	ID            uint32
 	Name, Payload []byte
-	// The node that asks, and where a response is to be sent.
+	// The name of the node that fired the query, and the address to which a response is sent.
 	Source, Addr []byte
 	Port         uint16
 	RelayFactor  uint8
-	// The last moment at which it can be answered.
+	// The last moment at which the query can be answered.
 	Deadline uint64
 }
 
-// Kind says what came of a packet.
+// Kind is what a received packet was.
 type Kind uint32
 
-// What a packet can bring.
+// What a received packet can be.
 const (
 	NewEvent Kind = C.SERF_AGENT_GAVE_EVENT
 	NewQuery Kind = C.SERF_AGENT_GAVE_QUERY
@@ -96,22 +99,22 @@ const (
 	PushPull Kind = C.SERF_AGENT_GAVE_PUSH_PULL
 )
 
-var kinds = []string{"Nothing", "NewEvent", "NewQuery", "Ack", "Response", "Ignored", "Foreign", "PushPull"}
+var kindWords = []string{"Nothing", "NewEvent", "NewQuery", "Ack", "Response", "Ignored", "Foreign", "PushPull"}
 
-func (k Kind) String() string { return word(kinds, "Kind", uint32(k)) }
+func (k Kind) String() string { return wordOf(kindWords, "Kind", uint32(k)) }
 
-// word is that of a number, or the number where there is none.
-func word(words []string, of string, number uint32) string {
+// wordOf returns the word for a number, or the kind and the number if there is no word.
+func wordOf(words []string, kind string, number uint32) string {
 	if int(number) < len(words) {
 		return words[number]
 	}
-	return fmt.Sprintf("%s %d", of, number)
+	return fmt.Sprintf("%s %d", kind, number)
 }
 
-// Reason says why a packet was ignored.
+// Reason is why a packet was ignored.
 type Reason uint32
 
-// Why a packet can be ignored. Of one that wasn't, the reason is 0.
+// Why a packet can be ignored. The reason of a packet that wasn't is 0.
 const (
 	Oversize      Reason = C.SERF_AGENT_OVERSIZE
 	BelowMinimum  Reason = C.SERF_AGENT_BELOW_MINIMUM
@@ -126,54 +129,57 @@ const (
 	ResponseTwice Reason = C.SERF_AGENT_RESPONSE_TWICE
 )
 
-var reasons = []string{
+var reasonWords = []string{
 	"None", "Oversize", "BelowMinimum", "TooOld", "Seen", "TimeFull", "NotOpen", "OtherId", "Closed", "AckNotAsked", "AckTwice", "ResponseTwice",
 }
 
-// String is the reason's word in a trace (docs/SPEC.md).
-func (r Reason) String() string { return word(reasons, "Reason", uint32(r)) }
+// String returns the word that a trace has for the reason (docs/SPEC.md).
+func (r Reason) String() string { return wordOf(reasonWords, "Reason", uint32(r)) }
 
-// Answer is an answer that was counted, of the query of this time and ID: who sent it, and what a response says.
+// Answer is an ack or a response that was counted: the Lamport time and ID of its query, the node that sent it, and a
+// response's payload.
 type Answer struct {
 	Time          uint64
 	ID            uint32
 	From, Payload []byte
 }
 
-// Received is what came of a packet. Where Rebroadcast says so, it is to be sent on unchanged.
+// Received is the result of a received packet. If Rebroadcast is true, send the packet on unchanged.
 type Received struct {
 	Kind        Kind
 	Reason      Reason
 	Event       *Event
-	Query       *Handed
+	Query       *PendingQuery
 	Ack         []byte
 	Answer      *Answer
 	Rebroadcast bool
 	Foreign     uint8
 }
 
-// QueryParams say how a query is fired. Timeout is how long answers are taken; Addr and Port are where they are to be sent.
+// QueryParams are how a query is fired. Timeout is how long answers are accepted. Addr and Port are where they are
+// sent.
 type QueryParams struct {
 	Timeout              time.Duration
 	Addr                 []byte
 	Port                 uint16
 	RelayFactor          uint8
 	WantAck, NoBroadcast bool
-	// TagsPass says that this node's tags pass each tag filter among the filters, so that it may be handed out here.
+	// TagsPass says that this node's tags pass every tag filter in Filters, so that the query may be handed out on this
+	// node.
 	TagsPass bool
 	Filters  [][]byte
 }
 
-// Asked is a query's packet to send, and what this node is handed out and sends as its own ack; and the query's time, which
-// stands in each Answer to it.
-type Asked struct {
+// FiredQuery is a query that was fired: the packet to send; if the query is handed out on this node, the query and this
+// node's own ack; and the query's Lamport time, which is in each Answer to it.
+type FiredQuery struct {
 	Packet []byte
-	Query  *Handed
+	Query  *PendingQuery
 	Ack    []byte
 	Time   uint64
 }
 
-// Clocks of an agent, and the least times that it takes.
+// Clocks are an agent's clocks, and the minimum times that it accepts.
 type Clocks struct {
 	Member, Event, Query, EventMinimum, QueryMinimum uint64
 }

@@ -1,4 +1,4 @@
-// Calls that may run out of memory, as tests/library/embed/starved_driver.c says.
+// Calls that may run out of memory. tests/library/embed/starved_driver.c describes the output.
 package main
 
 import (
@@ -24,19 +24,19 @@ func open(name string) *serfagent.Agent {
 
 func merge(agent *serfagent.Agent, state []byte) {
 	events, err := agent.Merge(state, false)
-	end := "ok"
+	result := "ok"
 	if err == serfagent.OutOfMemory {
-		end = "out of memory"
+		result = "out of memory"
 	} else {
 		check(err)
 	}
 	for _, event := range events {
 		fmt.Println(event.Time, string(event.Name))
 	}
-	fmt.Println(end)
+	fmt.Println(result)
 }
 
-func put(kind string, packet []byte, err error) {
+func printResult(kind string, packet []byte, err error) {
 	if err == serfagent.OutOfMemory {
 		fmt.Println(kind, "refused")
 		return
@@ -50,43 +50,43 @@ func query(agent *serfagent.Agent, letter string) {
 	for number := 1; number <= 2; number++ {
 		params.Filters = append(params.Filters, []byte(fmt.Sprintf("\x00\x91\xa7node-%s%d", letter, number)))
 	}
-	asked, err := agent.Query(1, 7, []byte("load"), nil, params)
+	query, err := agent.Query(1, 7, []byte("load"), nil, params)
 	if err != nil {
-		asked = &serfagent.Asked{}
+		query = &serfagent.FiredQuery{}
 	}
-	put("query", asked.Packet, err)
+	printResult("query", query.Packet, err)
 }
 
 func state(agent *serfagent.Agent, letter string) {
 	first, second := "node-"+letter+"1", "node-"+letter+"2"
 	packet, err := agent.LocalState([]serfagent.Status{{Name: first, Time: 3}, {Name: second, Time: 4}}, []string{second})
-	put("state", packet, err)
+	printResult("state", packet, err)
 }
 
 func main() {
 	if len(os.Args) != 2 {
 		log.Fatal("starved_driver FOLDER")
 	}
-	one := open("one")
+	sender := open("one")
 	for i := 0; i < 5; i++ {
-		_, _, err := one.Fire([]byte(fmt.Sprintf("e%d", i)), nil, false)
+		_, _, err := sender.Fire([]byte(fmt.Sprintf("e%d", i)), nil, false)
 		check(err)
 	}
-	whole, err := one.LocalState(nil, nil)
+	wholeState, err := sender.LocalState(nil, nil)
 	check(err)
-	load, err := one.Query(1, 8, []byte("load"), nil, serfagent.QueryParams{Timeout: 9})
+	load, err := sender.Query(1, 8, []byte("load"), nil, serfagent.QueryParams{Timeout: 9})
 	check(err)
-	other := open("other")
-	merge(other, whole)
-	merge(other, whole)
-	query(other, "a")
-	_, err = other.Receive(1, load.Packet, false)
+	receiver := open("other")
+	merge(receiver, wholeState)
+	merge(receiver, wholeState)
+	query(receiver, "a")
+	_, err = receiver.Receive(1, load.Packet, false)
 	check(err)
-	query(other, "b")
-	query(other, "c")
+	query(receiver, "b")
+	query(receiver, "c")
 	for _, letter := range []string{"a", "b", "c"} {
-		state(other, letter)
+		state(receiver, letter)
 	}
-	check(other.Close())
-	check(one.Close())
+	check(receiver.Close())
+	check(sender.Close())
 }

@@ -1,4 +1,4 @@
-// The store, driven by lines, as tests/library/embed/store_driver.c says.
+// Runs the commands for a store that it reads line by line. tests/library/embed/store_driver.c describes them.
 package main
 
 import (
@@ -14,7 +14,7 @@ import (
 	"kitchenrue.example/serfagent"
 )
 
-var names = map[error]string{
+var errorNames = map[error]string{
 	serfagent.ErrLocked:        "Locked",
 	serfagent.ErrMissingFolder: "MissingFolder",
 	serfagent.ErrNotAFile:      "NotAFile",
@@ -24,7 +24,7 @@ var names = map[error]string{
 }
 
 func nameOf(err error) string {
-	for kind, name := range names {
+	for kind, name := range errorNames {
 		if errors.Is(err, kind) {
 			return name
 		}
@@ -32,8 +32,8 @@ func nameOf(err error) string {
 	return "Failed"
 }
 
-func done(store **serfagent.Store, call, word string) (text string, err error) {
-	if call == "open" {
+func call(store **serfagent.Store, command, word string) (text string, err error) {
+	if command == "open" {
 		if *store != nil {
 			(*store).Close()
 		}
@@ -43,16 +43,16 @@ func done(store **serfagent.Store, call, word string) (text string, err error) {
 	if *store == nil {
 		return "", serfagent.ErrBroken
 	}
-	switch call {
+	switch command {
 	case "read":
-		found, err := (*store).Read()
-		return hex.EncodeToString(found) + " ", err
+		data, err := (*store).Read()
+		return hex.EncodeToString(data) + " ", err
 	case "append", "replace":
 		data, err := hex.DecodeString(word)
 		if err != nil {
 			return "", err
 		}
-		if call == "append" {
+		if command == "append" {
 			return "", (*store).Append(data)
 		}
 		return "", (*store).Replace(data)
@@ -63,7 +63,7 @@ func done(store **serfagent.Store, call, word string) (text string, err error) {
 }
 
 func main() {
-	// A file that may not grow is then an error of the write.
+	// Without the signal, a write beyond the limit for the file's size returns an error.
 	signal.Ignore(syscall.SIGXFSZ)
 	stores := [2]*serfagent.Store{}
 	lines := bufio.NewScanner(os.Stdin)
@@ -73,7 +73,7 @@ func main() {
 			number, line = 1, line[2:]
 		}
 		words := strings.SplitN(line+" ", " ", 2)
-		text, err := done(&stores[number], words[0], strings.TrimSuffix(words[1], " "))
+		text, err := call(&stores[number], words[0], strings.TrimSuffix(words[1], " "))
 		if err != nil {
 			text = nameOf(err)
 		} else {

@@ -1,11 +1,13 @@
-// How many events a second a node fires. Which package serf it is compiled with, Serf's or ours, GOPATH says.
+// Measures how many events a second a node fires. GOPATH decides with which package serf it is compiled, Serf's or
+// ours.
 //
 //	firing SNAPSHOT CALLERS EVENTS
 //	firing rpc:ADDRESS CALLERS EVENTS
 //
-// So many callers fire so many events together, at a node that is alone; - in place of SNAPSHOT keeps all in memory. The line has
-// the events a second until the last call returned, how many of the events came on EventCh, and the process's memory in KiB then.
-// With rpc: the callers are connections to an agent, and the line has the events a second alone.
+// CALLERS goroutines together fire EVENTS events at a single node. If SNAPSHOT is -, the node keeps everything in
+// memory. The program prints a line with the events a second until the last call returned, how many of the events
+// arrived on EventCh, and the memory of the process in KiB at that time. With rpc: the callers are connections to an
+// agent, and the line has only the events a second.
 package main
 
 import (
@@ -24,19 +26,19 @@ import (
 	"github.com/hashicorp/serf/serf"
 )
 
-func check(err error) {
+func must(err error) {
 	if err != nil {
 		log.Fatal(err)
 	}
 }
 
-// node is a node that is alone, and counts the events that come.
-func node(path string, came *atomic.Int64) *serf.Serf {
+// startNode starts a node without others, and counts the events that it hands out.
+func startNode(path string, received *atomic.Int64) *serf.Serf {
 	events := make(chan serf.Event, 1024)
 	go func() {
 		for e := range events {
 			if e.EventType() == serf.EventUser {
-				came.Add(1)
+				received.Add(1)
 			}
 		}
 	}()
@@ -48,61 +50,62 @@ func node(path string, came *atomic.Int64) *serf.Serf {
 	if path != "-" {
 		config.SnapshotPath = path
 	}
-	own, err := serf.Create(config)
-	check(err)
-	return own
+	created, err := serf.Create(config)
+	must(err)
+	return created
 }
 
-// memory is how many KiB of memory the process has.
-func memory() string {
+// memoryKiB returns the resident memory of the process in KiB.
+func memoryKiB() string {
 	status, err := os.ReadFile("/proc/self/status")
-	check(err)
+	must(err)
 	_, rest, _ := strings.Cut(string(status), "VmRSS:")
 	return strings.Fields(rest)[0]
 }
 
-// fire has so many callers fire so many events together: the events a second. Each caller's call is made once, before the clock begins.
-func fire(callers, count int, call func() func(payload []byte) error) float64 {
-	var all sync.WaitGroup
+// fireAll fires count events from several callers at once, and returns the events a second. newCaller is called once
+// for each caller, before the clock starts.
+func fireAll(callers, count int, newCaller func() func(payload []byte) error) float64 {
+	var running sync.WaitGroup
 	begin := make(chan struct{})
 	for caller := 0; caller < callers; caller++ {
-		all.Add(1)
-		own := call()
+		running.Add(1)
+		fireOne := newCaller()
 		go func(caller int) {
-			defer all.Done()
+			defer running.Done()
 			<-begin
 			for number := caller; number < count; number += callers {
-				check(own([]byte(fmt.Sprintf("version %d", number))))
+				must(fireOne([]byte(fmt.Sprintf("version %d", number))))
 			}
 		}(caller)
 	}
 	began := time.Now()
 	close(begin)
-	all.Wait()
+	running.Wait()
 	return float64(count) / time.Since(began).Seconds()
 }
 
 func main() {
 	callers, err := strconv.Atoi(os.Args[2])
-	check(err)
+	must(err)
 	count, err := strconv.Atoi(os.Args[3])
-	check(err)
+	must(err)
 	if address := strings.TrimPrefix(os.Args[1], "rpc:"); address != os.Args[1] {
-		fmt.Printf("%.0f\n", fire(callers, count, func() func([]byte) error {
+		fmt.Printf("%.0f\n", fireAll(callers, count, func() func([]byte) error {
 			connection, err := client.NewRPCClient(address)
-			check(err)
+			must(err)
 			return func(payload []byte) error { return connection.UserEvent("deploy", payload, false) }
 		}))
 		return
 	}
-	var came atomic.Int64
-	own := node(os.Args[1], &came)
-	speed := fire(callers, count, func() func([]byte) error {
-		return func(payload []byte) error { return own.UserEvent("deploy", payload, false) }
+	var received atomic.Int64
+	node := startNode(os.Args[1], &received)
+	speed := fireAll(callers, count, func() func([]byte) error {
+		return func(payload []byte) error { return node.UserEvent("deploy", payload, false) }
 	})
-	// (what was fired last has a moment to come)
-	for end := time.Now().Add(2 * time.Second); int(came.Load()) < count && time.Now().Before(end); {
+	// The last events may take a moment to arrive.
+	for end := time.Now().Add(2 * time.Second); int(received.Load()) < count && time.Now().Before(end); {
 		time.Sleep(10 * time.Millisecond)
 	}
-	fmt.Printf("%.0f %d %s\n", speed, came.Load(), memory())
+	fmt.Printf("%.0f %d %s\n", speed, received.Load(), memoryKiB())
 }

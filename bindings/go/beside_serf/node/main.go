@@ -1,19 +1,19 @@
-// A node of ours for a cluster with Serf's own agents: a program over the package serf that does what is said on standard input, a
-// line each, and answers each by a line that begins with "ok" or "error".
+// A node for a cluster with Serf's own agents. It is a program over the package serf that runs the commands it reads
+// from standard input, one on each line, and answers each with a line that begins with "ok" or "error".
 //
 //	node -name NAME -bind ADDRESS -snapshot FILE -log FILE [-tags K=V,..] [-keep] [-states DURATION]
 //
-//	join ADDRESS..    joins these
-//	fire NAME TEXT    fires an event: its time
-//	query NAME        asks all; who answers is noted
-//	answers           who acked and who answered since the last time, or "-" for nobody
+//	join ADDRESS..    joins these addresses
+//	fire NAME TEXT    fires an event, and prints its Lamport time
+//	query NAME        fires a query, and notes the nodes that answer
+//	answers           prints the nodes that acked and those that responded since the last time, or "-" for none
 //	tags K=V,..       changes the tags
-//	members           each member, as NAME=STATUS
-//	stats             counts
-//	leave             leaves
+//	members           prints each member as NAME=STATUS
+//	stats             prints the node's counts
+//	leave             leaves the cluster
 //
-// Its log has a line for each event and each query that came, as `serf-replay judge` reads it. What becomes of packets says the file of
-// KITCHENRUE_FAULTS (../../serf/faults.go).
+// Its log has a line for each event and each query that was handed out, in the format that `serf-replay judge` reads. A
+// file that KITCHENRUE_FAULTS names decides what happens to packets (../../serf/faults.go).
 package main
 
 import (
@@ -32,10 +32,10 @@ import (
 	"kitchenrue.example/serf"
 )
 
-// wait is how long a command may wait until it is sent, and asked how long a query is open.
+// broadcastTimeout is how long a command waits until its message is sent, and queryTimeout how long a query is open.
 const (
-	wait  = 20 * time.Second
-	asked = 3 * time.Second
+	broadcastTimeout = 20 * time.Second
+	queryTimeout     = 3 * time.Second
 )
 
 // node is the program's node.
@@ -43,16 +43,16 @@ type node struct {
 	*serf.Serf
 	name            string
 	handled         io.Writer
-	acks, responses names
+	acks, responses nameSet
 }
 
-// names are who sent something since the last time.
-type names struct {
+// nameSet are the names of the nodes that sent something since the last time.
+type nameSet struct {
 	mu  sync.Mutex
 	all map[string]bool
 }
 
-func (n *names) add(name string) {
+func (n *nameSet) add(name string) {
 	n.mu.Lock()
 	defer n.mu.Unlock()
 	if n.all == nil {
@@ -61,20 +61,20 @@ func (n *names) add(name string) {
 	n.all[name] = true
 }
 
-// take gives them in order, with commas between them, and forgets them.
-func (n *names) take() string {
+// take returns the names in order, separated by commas, and forgets them.
+func (n *nameSet) take() string {
 	n.mu.Lock()
 	defer n.mu.Unlock()
-	found := make([]string, 0, len(n.all))
+	names := make([]string, 0, len(n.all))
 	for name := range n.all {
-		found = append(found, name)
+		names = append(names, name)
 	}
 	n.all = nil
-	if len(found) == 0 {
+	if len(names) == 0 {
 		return "-"
 	}
-	sort.Strings(found)
-	return strings.Join(found, ",")
+	sort.Strings(names)
+	return strings.Join(names, ",")
 }
 
 func check(err error) {
@@ -83,18 +83,18 @@ func check(err error) {
 	}
 }
 
-// tags of "k=v,k=v".
+// tagsOf reads tags of the form "k=v,k=v".
 func tagsOf(text string) map[string]string {
 	tags := map[string]string{}
 	for _, pair := range strings.Split(text, ",") {
-		if name, value, has := strings.Cut(pair, "="); has {
+		if name, value, ok := strings.Cut(pair, "="); ok {
 			tags[name] = value
 		}
 	}
 	return tags
 }
 
-// escaped is a text as a log has it.
+// escaped returns a text as a log has it.
 func escaped(text string) string {
 	if text == "" {
 		return "-"
@@ -102,14 +102,14 @@ func escaped(text string) string {
 	return strings.NewReplacer("%", "%25", " ", "%20", "\n", "%0A").Replace(text)
 }
 
-// handle logs what comes, and answers queries by this node's name.
+// handle logs events and queries, and answers queries with this node's name.
 func (n *node) handle(events <-chan serf.Event) {
 	for event := range events {
 		switch event := event.(type) {
 		case serf.UserEvent:
 			fmt.Fprintf(n.handled, "event %s %d %s %s\n", n.name, event.LTime, escaped(event.Name), escaped(string(event.Payload)))
 		case *serf.Query:
-			// (the package shows nobody which of the queries of one time it is)
+			// The package doesn't export a query's ID, which distinguishes the queries of one Lamport time.
 			id := reflect.ValueOf(event).Elem().FieldByName("handed").Elem().FieldByName("ID").Uint()
 			fmt.Fprintf(n.handled, "query %s %d %d\n", n.name, event.LTime, id)
 			if err := event.Respond([]byte(n.name)); err != nil {
@@ -119,9 +119,9 @@ func (n *node) handle(events <-chan serf.Event) {
 	}
 }
 
-// ask asks all, and notes who answers.
-func (n *node) ask(name string) error {
-	answers, err := n.Query(name, nil, &serf.QueryParam{RequestAck: true, Timeout: asked})
+// query fires a query, and notes the nodes that answer.
+func (n *node) query(name string) error {
+	answers, err := n.Query(name, nil, &serf.QueryParam{RequestAck: true, Timeout: queryTimeout})
 	if err != nil {
 		return err
 	}
@@ -138,8 +138,8 @@ func (n *node) ask(name string) error {
 	return nil
 }
 
-// did does what a line says.
-func (n *node) did(line string) (string, error) {
+// run runs the command of a line, and returns what to print.
+func (n *node) run(line string) (string, error) {
 	words := strings.Fields(line)
 	switch {
 	case len(words) > 1 && words[0] == "join":
@@ -149,17 +149,17 @@ func (n *node) did(line string) (string, error) {
 		at, err := n.Fire(words[1], []byte(words[2]), false)
 		return fmt.Sprint(at), err
 	case len(words) == 2 && words[0] == "query":
-		return "", n.ask(words[1])
+		return "", n.query(words[1])
 	case line == "answers":
 		return n.acks.take() + " " + n.responses.take(), nil
 	case len(words) == 2 && words[0] == "tags":
 		return "", n.SetTags(tagsOf(words[1]))
 	case line == "members":
-		var all []string
-		for _, one := range n.Members() {
-			all = append(all, fmt.Sprintf("%s=%v", one.Name, one.Status))
+		var members []string
+		for _, member := range n.Members() {
+			members = append(members, fmt.Sprintf("%s=%v", member.Name, member.Status))
 		}
-		return strings.Join(all, " "), nil
+		return strings.Join(members, " "), nil
 	case line == "stats":
 		return fmt.Sprint(n.Stats()), nil
 	case line == "leave":
@@ -168,22 +168,22 @@ func (n *node) did(line string) (string, error) {
 	return "", fmt.Errorf("no such command: %q", line)
 }
 
-// made is the node that the flags say.
-func made() *node {
+// start starts the node that the flags describe.
+func start() *node {
 	config := serf.DefaultConfig()
 	list := config.MemberlistConfig
 	flag.StringVar(&config.NodeName, "name", "", "the node's name")
-	flag.StringVar(&list.BindAddr, "bind", "", "its address")
-	flag.StringVar(&config.SnapshotPath, "snapshot", "", "its file")
-	flag.BoolVar(&config.KeepEvents, "keep", false, "whether its file keeps events")
+	flag.StringVar(&list.BindAddr, "bind", "", "the address at which it listens")
+	flag.StringVar(&config.SnapshotPath, "snapshot", "", "its snapshot's file")
+	flag.BoolVar(&config.KeepEvents, "keep", false, "keep events in the snapshot")
 	flag.DurationVar(&list.PushPullInterval, "states", list.PushPullInterval, "how often it exchanges its state with another node")
-	handled, tags := flag.String("log", "", "the log of what came"), flag.String("tags", "", "its tags")
+	handled, tags := flag.String("log", "", "the log of events and queries"), flag.String("tags", "", "its tags, as K=V,..")
 	flag.Parse()
 	log.SetPrefix(config.NodeName + " ")
 	file, err := os.OpenFile(*handled, os.O_CREATE|os.O_APPEND|os.O_WRONLY, 0o600)
 	check(err)
 	events := make(chan serf.Event)
-	config.EventCh, config.Tags, config.BroadcastTimeout, config.Logger, config.LogOutput = events, tagsOf(*tags), wait, log.Default(), nil
+	config.EventCh, config.Tags, config.BroadcastTimeout, config.Logger, config.LogOutput = events, tagsOf(*tags), broadcastTimeout, log.Default(), nil
 	n := &node{name: config.NodeName, handled: file}
 	go n.handle(events)
 	n.Serf, err = serf.Create(config)
@@ -192,13 +192,13 @@ func made() *node {
 }
 
 func main() {
-	n := made()
+	n := start()
 	fmt.Println("ok")
 	for lines := bufio.NewScanner(os.Stdin); lines.Scan(); {
-		if said, err := n.did(lines.Text()); err != nil {
+		if result, err := n.run(lines.Text()); err != nil {
 			fmt.Println("error", err)
 		} else {
-			fmt.Println("ok", said)
+			fmt.Println("ok", result)
 		}
 	}
 	check(n.Shutdown())

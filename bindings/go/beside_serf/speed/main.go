@@ -1,18 +1,19 @@
-// How many events a second a node takes in through memberlist on the loopback address. It is compiled twice: over Serf's own package,
-// and over ours in its place (speed/run).
+// Measures how many events a second a node accepts through memberlist on the loopback address. speed/run compiles it
+// twice: with Serf's own package, and with ours in its place.
 //
 //	speed FOLDER [EVENTS]
 //
-// A node gets the packets of another node's events, as many in a datagram as memberlist's gossip puts into one. 768 packets are under
-// way at most, so that none is dropped (memberlist queues 1,024), and the node has room for all times, since memberlist takes what came
-// last first. It has its snapshot in FOLDER, and what comes on its channel is counted. It prints seconds, and events a second. Where
-// SPEED_PLAIN is set, the node has memberlist's own transport, and no guard.
+// The node receives the packets of another node's events, with as many in a datagram as memberlist's gossip puts into
+// one. At most 768 packets are in flight, so that none is dropped (memberlist queues 1,024), and the node's buffer has
+// room for all times, since memberlist handles the last packet first. The node's snapshot is in FOLDER. The program
+// counts the events on the node's channel, and prints the seconds it took and the events a second. If SPEED_PLAIN is
+// set, the node uses memberlist's own transport, without the guard.
 package main
 
 import (
 	"encoding/binary"
 	"fmt"
-	"io/ioutil"
+	"io"
 	"log"
 	"net"
 	"os"
@@ -25,10 +26,10 @@ import (
 	"github.com/hashicorp/serf/serf"
 )
 
-// How many packets are under way at most, and how many times of events a node keeps.
+// The maximum number of packets in flight, and the number of Lamport times in the node's event buffer.
 const (
-	underWay = 768
-	buffer   = 32768
+	maxInFlight = 768
+	eventBuffer = 32768
 )
 
 func check(err error) {
@@ -37,82 +38,83 @@ func check(err error) {
 	}
 }
 
-// packets are those of another node's events, whose times are these.
-func packets(count int) (all [][]byte) {
+// packets returns the packets of another node's events, with the Lamport times from 1 to count.
+func packets(count int) (list [][]byte) {
 	for time := 1; time <= count; time++ {
 		packet := binary.BigEndian.AppendUint32([]byte("\x03\x84\xa5LTime\xce"), uint32(time))
-		all = append(all, append(packet, "\xa4Name\xa6deploy\xa7Payload\xb9version 12 of the program\xa2CC\xc2"...))
+		list = append(list, append(packet, "\xa4Name\xa6deploy\xa7Payload\xb9version 12 of the program\xa2CC\xc2"...))
 	}
-	return all
+	return list
 }
 
-// datagrams are memberlist's compound messages of user messages, of 1,400 bytes at most.
-func datagrams(all [][]byte) (made [][]byte, counts []int) {
-	for len(all) > 0 {
+// datagrams packs the packets into memberlist's compound messages of at most 1,400 bytes. counts is how many packets
+// each one has.
+func datagrams(packets [][]byte) (datagrams [][]byte, counts []int) {
+	for len(packets) > 0 {
 		count, size := 0, 2
-		for count < len(all) && count < 255 && size+3+len(all[count]) <= 1400 {
-			size += 3 + len(all[count])
+		for count < len(packets) && count < 255 && size+3+len(packets[count]) <= 1400 {
+			size += 3 + len(packets[count])
 			count++
 		}
-		one := []byte{7, byte(count)}
-		for _, packet := range all[:count] {
-			one = binary.BigEndian.AppendUint16(one, uint16(1+len(packet)))
+		datagram := []byte{7, byte(count)}
+		for _, packet := range packets[:count] {
+			datagram = binary.BigEndian.AppendUint16(datagram, uint16(1+len(packet)))
 		}
-		for _, packet := range all[:count] {
-			one = append(append(one, 8), packet...)
+		for _, packet := range packets[:count] {
+			datagram = append(append(datagram, 8), packet...)
 		}
-		made, counts, all = append(made, one), append(counts, count), all[count:]
+		datagrams, counts, packets = append(datagrams, datagram), append(counts, count), packets[count:]
 	}
-	return made, counts
+	return datagrams, counts
 }
 
-// sent sends packets to a node that counts what comes, and gives the time that it took.
-func sent(all [][]byte, to string, handled *atomic.Int64) time.Duration {
-	made, counts := datagrams(all)
+// sendAll sends the packets to a node whose events are counted in handled, and returns how long that took.
+func sendAll(packets [][]byte, to string, handled *atomic.Int64) time.Duration {
+	all, counts := datagrams(packets)
 	socket, err := net.Dial("udp", to)
 	check(err)
 	defer socket.Close()
 	began := time.Now()
-	await := func(least int) {
-		for handled.Load() < int64(least) {
+	await := func(count int) {
+		for handled.Load() < int64(count) {
 			time.Sleep(20 * time.Microsecond)
 			if time.Since(began) > time.Minute {
-				log.Fatalf("only %d came, and not %d", handled.Load(), least)
+				log.Fatalf("only %d of %d events arrived", handled.Load(), count)
 			}
 		}
 	}
-	for i, under := 0, 0; i < len(made); i++ {
-		under += counts[i]
-		await(under - underWay)
-		_, err := socket.Write(made[i])
+	for i, sentCount := 0, 0; i < len(all); i++ {
+		sentCount += counts[i]
+		await(sentCount - maxInFlight)
+		_, err := socket.Write(all[i])
 		check(err)
 	}
-	await(len(all))
+	await(len(packets))
 	return time.Since(began)
 }
 
-// node is a node with a snapshot, and what it counts.
-func node(path string) (made *serf.Serf, handled *atomic.Int64) {
+// startNode starts a node with a snapshot. handled counts its user events.
+func startNode(path string) (created *serf.Serf, handled *atomic.Int64) {
 	events, handled := make(chan serf.Event, 64), &atomic.Int64{}
 	config := serf.DefaultConfig()
-	config.NodeName, config.EventCh, config.LogOutput, config.SnapshotPath, config.EventBuffer = "node", events, ioutil.Discard, path, buffer
+	config.NodeName, config.EventCh, config.LogOutput, config.SnapshotPath, config.EventBuffer = "node", events, io.Discard, path, eventBuffer
 	list := config.MemberlistConfig
-	list.BindAddr, list.BindPort, list.AdvertisePort, list.LogOutput = "127.0.0.1", 0, 0, ioutil.Discard
+	list.BindAddr, list.BindPort, list.AdvertisePort, list.LogOutput = "127.0.0.1", 0, 0, io.Discard
 	if os.Getenv("SPEED_PLAIN") != "" {
-		plain, err := memberlist.NewNetTransport(&memberlist.NetTransportConfig{BindAddrs: []string{list.BindAddr}, Logger: log.New(ioutil.Discard, "", 0)})
+		plain, err := memberlist.NewNetTransport(&memberlist.NetTransportConfig{BindAddrs: []string{list.BindAddr}, Logger: log.New(io.Discard, "", 0)})
 		check(err)
 		list.Transport, list.BindPort, list.AdvertisePort = plain, plain.GetAutoBindPort(), plain.GetAutoBindPort()
 	}
-	made, err := serf.Create(config)
+	created, err := serf.Create(config)
 	check(err)
 	go func() {
 		for event := range events {
-			if _, is := event.(serf.UserEvent); is {
+			if _, ok := event.(serf.UserEvent); ok {
 				handled.Add(1)
 			}
 		}
 	}()
-	return made, handled
+	return created, handled
 }
 
 func main() {
@@ -129,9 +131,9 @@ func main() {
 	path := filepath.Join(os.Args[1], "node.snapshot")
 	os.Remove(path)
 	defer os.Remove(path)
-	made, handled := node(path)
-	local := made.LocalMember()
-	took := sent(packets(count), fmt.Sprintf("%s:%d", local.Addr, local.Port), handled)
+	node, handled := startNode(path)
+	local := node.LocalMember()
+	took := sendAll(packets(count), fmt.Sprintf("%s:%d", local.Addr, local.Port), handled)
 	fmt.Printf("%.2f s, %.0f a second\n", took.Seconds(), float64(count)/took.Seconds())
-	check(made.Shutdown())
+	check(node.Shutdown())
 }

@@ -1,5 +1,5 @@
-// Package msgpack reads MessagePack value by value, of what is there and, of a stream, of what comes. No length is believed before the
-// bytes bear it out, whatever the network says, and no memory is taken for one.
+// Package msgpack reads MessagePack value by value, from bytes or from a stream. It never trusts a length before the
+// bytes are there, and allocates no memory for one.
 package msgpack
 
 import (
@@ -7,41 +7,42 @@ import (
 	"errors"
 )
 
-// Why nothing more is read.
+// Why a Reader stopped.
 var (
-	ErrLong = errors.New("a value is longer than what may come")
-	ErrKind = errors.New("a value is of another kind")
-	ErrDeep = errors.New("a value is nested too deep")
+	ErrLong = errors.New("a value is longer than the bytes that are available or allowed")
+	ErrKind = errors.New("a value has the wrong type")
+	ErrDeep = errors.New("a value is nested too deeply")
 )
 
-// MaxDepth is how many arrays and maps a value that is passed over may stand in.
+// MaxDepth is the maximum nesting of arrays and maps in a value that Skip passes over.
 const MaxDepth = 8
 
-// Reader reads values one after another. The first fault stays, and nothing is read behind it.
+// Reader reads one value after another. After the first error it reads nothing more, and keeps that error.
 type Reader struct {
-	// Data is what came, and At how many bytes of it were read.
+	// Data is what was received, and At the number of bytes that were read.
 	Data []byte
 	At   int
-	// More has at least so many bytes more come to Data, which then has Most at most. Where it is nil, nothing comes.
+	// More appends at least this many bytes to Data, which then has at most Max bytes. If More is nil, Data is all
+	// there is.
 	More func(least int) error
-	Most int
+	Max  int
 	// Err is why nothing more is read.
 	Err error
 }
 
-// Fail notes why nothing more is read.
-func (r *Reader) Fail(why error) {
+// Fail stops the reader with this error, unless it has stopped already.
+func (r *Reader) Fail(err error) {
 	if r.Err == nil {
-		r.Err = why
+		r.Err = err
 	}
 }
 
-// Take takes so many bytes; nil where they don't come.
+// Take reads a number of bytes. It returns nil if they are not available.
 func (r *Reader) Take(count int) []byte {
-	if missing := count - (len(r.Data) - r.At); missing > 0 && r.Err == nil {
+	if lacking := count - (len(r.Data) - r.At); lacking > 0 && r.Err == nil {
 		r.Err = ErrLong
 		if r.More != nil {
-			r.Err = r.More(missing)
+			r.Err = r.More(lacking)
 		}
 	}
 	if r.Err != nil {
@@ -51,19 +52,20 @@ func (r *Reader) Take(count int) []byte {
 	return r.Data[r.At-count : r.At : r.At]
 }
 
-// Uint takes a number of so many bytes; 0 where they don't come.
+// Uint reads a big-endian number of size bytes. It returns 0 if they are not available.
 func (r *Reader) Uint(size int) uint64 {
-	var whole [8]byte
-	copy(whole[8-size:], r.Take(size))
-	return binary.BigEndian.Uint64(whole[:])
+	var buf [8]byte
+	copy(buf[8-size:], r.Take(size))
+	return binary.BigEndian.Uint64(buf[:])
 }
 
-// Sort is of which sort a value is.
-type Sort uint8
+// Kind is the kind of a value.
+type Kind uint8
 
-// The sorts of values. A number is from 0 on. Text is a string, of bytes too, as go-msgpack writes both; Bytes are bin.
+// The kinds of values. A Number is not negative. A Text is a string or bytes, since go-msgpack writes both alike; Bytes
+// are MessagePack's bin.
 const (
-	Nil Sort = iota
+	Nil Kind = iota
 	Flag
 	Number
 	Negative
@@ -74,9 +76,9 @@ const (
 	Map
 )
 
-// Next takes a value that has none within, or begins another: its sort, and the number, the flag, or how many bytes, values or pairs
-// follow. It is Nil where there is a fault.
-func (r *Reader) Next() (Sort, uint64) {
+// Next reads a value, or the head of one that contains bytes or other values. It returns the kind, and the number, the
+// flag, or how many bytes, values or pairs follow. After an error it returns Nil.
+func (r *Reader) Next() (Kind, uint64) {
 	head := r.Take(1)
 	if head == nil {
 		return Nil, 0
@@ -102,8 +104,8 @@ func (r *Reader) Next() (Sort, uint64) {
 	case b >= 0xcc && b <= 0xcf:
 		return Number, r.Uint(1 << (b - 0xcc))
 	case b >= 0xd0 && b <= 0xd3:
-		if is := r.Uint(1 << (b - 0xd0)); is>>(8<<(b-0xd0)-1) == 0 {
-			return Number, is
+		if n := r.Uint(1 << (b - 0xd0)); n>>(8<<(b-0xd0)-1) == 0 {
+			return Number, n
 		}
 		return Negative, 0
 	case b >= 0xd9 && b <= 0xdb:
@@ -119,31 +121,32 @@ func (r *Reader) Next() (Sort, uint64) {
 	return Nil, 0
 }
 
-// Count is how many values, of so many bytes each at least, follow; none where there is no room for them.
-func (r *Reader) Count(is, each uint64) int {
+// Count returns n, the number of values that follow, each at least size bytes long. If the bytes that may still follow
+// can't hold them, it fails with ErrLong and returns 0.
+func (r *Reader) Count(n, size uint64) int {
 	left := len(r.Data) - r.At
 	if r.More != nil {
-		left = r.Most - r.At
+		left = r.Max - r.At
 	}
-	if r.Err != nil || is > uint64(left)/each {
+	if r.Err != nil || n > uint64(left)/size {
 		r.Fail(ErrLong)
 		return 0
 	}
-	return int(is)
+	return int(n)
 }
 
-// Skip passes over a value, with all that it has within.
+// Skip passes over a value and everything it contains.
 func (r *Reader) Skip() { r.skip(0) }
 
 func (r *Reader) skip(depth int) {
 	count := 0
-	switch found, is := r.Next(); found {
+	switch kind, n := r.Next(); kind {
 	case Map:
-		count = 2 * r.Count(is, 2)
+		count = 2 * r.Count(n, 2)
 	case Array:
-		count = r.Count(is, 1)
+		count = r.Count(n, 1)
 	case Text, Bytes:
-		r.Take(int(is))
+		r.Take(int(n))
 		return
 	default:
 		return

@@ -1,0 +1,84 @@
+package serf
+
+import (
+	"time"
+
+	"github.com/armon/go-metrics"
+)
+
+// snapshotWriteInterval is the minimum time between two writes of member lines, and snapshotCheckInterval is how often the node checks how
+// long the file is and whether it was changed from outside.
+const (
+	snapshotWriteInterval = 500 * time.Millisecond
+	snapshotCheckInterval = 10 * time.Second
+)
+
+// writeSnapshot writes the lines of members, and the member clock, to the snapshot.
+func (s *Serf) writeSnapshot() {
+	ticker := time.NewTicker(s.config.snapshotCheckInterval)
+	defer ticker.Stop()
+	for {
+		select {
+		case <-s.ctx.Done():
+			return
+		case <-s.memberLines.ready:
+		case <-ticker.C:
+		}
+		if err := s.inOrder(s.writeMemberLines); isFinal(err) {
+			return
+		} else if err != nil {
+			s.log.Printf("[WARN] serf: writing the members to the snapshot failed and is tried again: %v", err)
+			signal(s.memberLines.ready)
+		}
+		select {
+		case <-s.ctx.Done():
+			return
+		case <-time.After(snapshotWriteInterval):
+		}
+	}
+}
+
+// writeMemberLines saves the member clock, writes the lines that wait, and compacts the file if that is worthwhile. order is held.
+func (s *Serf) writeMemberLines() error {
+	s.grownBytes = 0
+	if s.snapshot != nil {
+		if err := s.snapshot.checkUnchanged(); err != nil {
+			return err
+		}
+	}
+	// (if memory runs out, the lines keep waiting)
+	if err := s.agent.SaveMemberClock(); err != nil {
+		return err
+	}
+	lines, isOverflowed := s.memberLines.take()
+	if s.snapshot == nil {
+		return nil
+	}
+	if err := s.snapshot.append(lines...); err != nil {
+		// (after a line that was written in part, nothing may follow: the library's next line would continue it)
+		return err
+	}
+	alive := s.members.aliveLines()
+	if !isOverflowed && !s.snapshot.shouldCompact(alive) {
+		return nil
+	}
+	defer metrics.MeasureSince(compactKey, time.Now())
+	err := s.snapshot.compact(alive, s.agent.Compact)
+	if err != nil && isOverflowed {
+		s.memberLines.rewriteAll()
+	}
+	return err
+}
+
+// finishSnapshot writes what waits when the node ends.
+func (s *Serf) finishSnapshot() error {
+	s.order.Lock()
+	defer s.order.Unlock()
+	if err := s.writeMemberLines(); err != nil {
+		return err
+	}
+	if s.snapshot == nil {
+		return nil
+	}
+	return s.snapshot.sync()
+}
