@@ -1,12 +1,13 @@
 #!/usr/bin/env python3
-"""coverage.py [--every NANOSECONDS | --events] [SCHEDULE [PROGRAM]]: how far the run of a schedule has come at each mark, as
-CSV; or how far each event came.
+"""coverage.py [--every NANOSECONDS | --events] [SCHEDULE [PROGRAM]]: prints, as CSV, the progress of a schedule's run at each mark.
+With --events it prints how far each event spread.
 
-The schedule is read from standard input where it is left out, or is `-`. A mark is a comment of it, a line `# mark TEXT`, so `serf-replay` passes over it. With --every there is a mark too
-before the first `deliver` of each span of so many nanoseconds: 200000000 is a round of `serf-replay random --kind rounds`.
+Without SCHEDULE, or if it is `-`, the schedule is read from standard input. A mark is a comment in it, a line `# mark TEXT`, which
+`serf-replay` ignores. With --every there is also a mark before the first `deliver` of each interval of this length: 200000000 is a
+round of `serf-replay random --kind rounds`.
 
-A row has what was done before its mark: actions, hand-outs, the events that some agent was handed, how many of these each
-agent was handed, and how many packets were ignored for each reason. The last row, `end`, has the whole run.
+A row has the numbers before its mark: the actions, the events handed out, the different events among these, those that every
+agent was handed, and the packets that were ignored for each reason. The last row, `end`, is for the whole run.
 """
 
 import argparse
@@ -24,7 +25,7 @@ OF_EVENTS = ["time", "name", "payload", "agents", "first", "half", "nine_tenths"
 
 
 def marks_of(schedule, every):
-    """How many agents a schedule has; its marks: before how many actions each stands, and its text; and each action's moment."""
+    """The number of agents in a schedule; its marks, each with the number of actions before it and its text; and the actions' moments."""
     agents, actions, span, marks, moments = 0, 0, -1, [], [0]
     for line in schedule.decode(errors="replace").split("\n"):
         words = line.split()
@@ -53,7 +54,7 @@ def read(path):
 
 
 class Run:
-    """What a trace has shown so far."""
+    """The state of a run, from the lines of its trace so far."""
 
     def __init__(self, agents):
         self.agents = agents
@@ -92,7 +93,7 @@ def main():
     out, run = csv.writer(sys.stdout, lineterminator="\n"), Run(agents)
     out.writerow(OF_EVENTS if asked.events else ["mark", "actions", "handed_out", "events", "everywhere", *REASONS])
     with tempfile.TemporaryFile() as given:
-        # (a file, so that nobody waits for somebody else)
+        # The program reads a file, not a pipe, so that the two processes can't wait for each other.
         given.write(schedule)
         given.seek(0)
         with subprocess.Popen([asked.program, "replay", "--stream"], stdin=given, stdout=subprocess.PIPE, text=True) as replay:

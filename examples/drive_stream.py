@@ -1,9 +1,9 @@
 #!/usr/bin/env python3
-"""drive_stream.py [PROGRAM]: drives `serf-replay replay --stream` from a program, and reads what came of each line.
+"""drive_stream.py [PROGRAM]: drives `serf-replay replay --stream` from a program, and reads the result of each line.
 
-Nothing marks the end of a turn in a trace. So each action is followed by one that is refused, since it names an agent that
-isn't there: what is written before its `refused NoAgent` belongs to the action. It counts as an action too, so those that
-are asked for have the odd numbers.
+A trace doesn't mark the end of a turn. So the program sends, after each action, another one that is refused because it names an
+agent that doesn't exist. The lines before its `refused NoAgent` belong to the action. The refused one counts as an action too, so
+the program's own actions have the odd numbers.
 """
 
 import subprocess
@@ -19,14 +19,14 @@ class Stream:
         self.actions = 0
 
     def turn(self, line):
-        """The lines that the trace has for the action of a line."""
+        """Sends the line of an action, and returns the trace's lines for it."""
         self.run.stdin.write(line + b"\n" + ASK)
         self.run.stdin.flush()
         self.actions += 2
         came = []
         while (said := self.run.stdout.readline()) != b"%d refused NoAgent\n" % self.actions:
             if not said:
-                raise EOFError("the stream ended: a line was bad, which standard error tells")
+                raise EOFError("the stream ended because a line was bad; see standard error")
             came.append(said)
         return came
 

@@ -1,17 +1,18 @@
 #!/usr/bin/env python3
-"""schedule_of_records.py [--taken] RECORD..: a schedule of what agents recorded (`kitchenrue-agent -record`).
+"""schedule_of_records.py [--taken] RECORD..: makes a schedule from what agents recorded (`kitchenrue-agent -record`).
 
-Each RECORD is the record of a node; the files beside it that turned over (RECORD.1 and so on) are read before it. The
-schedule goes to standard output, for `serf-replay write`:
+Each RECORD is the record of a node. The script first reads the older files next to it (RECORD.1 and so on). It writes the
+schedule to standard output, for `serf-replay write`:
 
     schedule_of_records.py web1.record web2.record | serf-replay write | serf-replay explain
 
-A packet that one of these nodes sent and another got is one packet; what came from others is injected. The calls of a node
-stay in their order, a packet is sent before it is given, and beside that the earlier moment comes first. Behind each action a
-comment says when it was, in UTC, and what the agent answered: the trace has to say the same. States that nobody merged are left
-out, and so is what the agents said of members alone. --taken leaves out the packets that were ignored, too.
-Standard error says what isn't known: a record that begins in the middle of a life, and calls that were cut off.
-Status 1 where a record can't be read.
+If one of these nodes sent a packet and another one received it, it is one packet of the schedule. Packets from other nodes are
+injected. The calls of a node stay in their order, and a packet is sent before it is received. Otherwise the earlier moment is
+first. After each action, a comment has its time, in UTC, and the agent's answer, which the trace has to repeat. The schedule has no
+states that nobody merged, and no calls that are only about members. With --taken it doesn't have the ignored packets either.
+
+The script prints on standard error what is unknown: a record that begins in the middle of a life, and calls that were cut off. The
+status is 1 if a record can't be read.
 """
 
 import argparse
@@ -19,7 +20,7 @@ import datetime
 import os
 import sys
 
-# What the agent writes for a word of a member: a state with a member clock, and nothing else.
+# If the member clock was advanced above a time, the record has a merge of a state with only a member clock. The state begins so.
 CLOCK = "0281a54c54696d65cf"
 
 
@@ -28,7 +29,7 @@ class Fault(Exception):
 
 
 class Call:
-    """A call of a record: when it was made, its words, and the words of each line of its reply."""
+    """A call in a record: its moment, its words, and the words of each line of its reply."""
 
     def __init__(self, moment, words, reply):
         self.moment, self.words, self.reply = moment, words, reply
@@ -36,7 +37,7 @@ class Call:
         self.goes_on = False
 
     def lines(self, word):
-        """The lines of the reply that begin with a word, without it."""
+        """The lines of the reply that begin with a word, without this word."""
         return [line[1:] for line in self.reply if line[0] == word]
 
     def sent(self):
@@ -44,12 +45,12 @@ class Call:
         return [line[0] for line in self.lines("sent")]
 
     def is_of_members(self):
-        """Whether it says something of members alone, so that no event rests on it."""
+        """Whether the call is only about members, so that no event depends on it."""
         return self.kind == "save" or (self.kind == "merge" and self.words[1].startswith(CLOCK) and len(self.words[1]) == 34)
 
 
 def calls_of(path, told):
-    """The calls of a file. One that was cut off is left out."""
+    """The calls in a file, without those that were cut off."""
     calls, block, moment, goes_on = [], [], 0, False
     with open(path, encoding="ascii", errors="replace") as file:
         for line in file:
@@ -71,7 +72,7 @@ def calls_of(path, told):
 
 
 def files_of(path):
-    """The files of a record, the oldest first."""
+    """The files of a record, beginning with the oldest."""
     numbers = []
     while os.path.exists(f"{path}.{len(numbers) + 1}"):
         numbers.append(len(numbers) + 1)
@@ -79,22 +80,22 @@ def files_of(path):
 
 
 class Node:
-    """A node: its calls, in their order, and how far they are written."""
+    """A node: its calls, in order, and how many of them are written."""
 
     def __init__(self, path, told):
         self.calls, self.at = [], 0
         for name in files_of(path):
             for call in calls_of(name, told):
-                # a file that turned over begins with the clocks of the one before
+                # A file that continues another one begins by opening the agent again, with the clocks of that moment.
                 if not (call.goes_on and self.calls):
                     self.calls.append(call)
         if not self.calls or self.calls[0].kind != "open":
-            raise Fault(f"{path}: no record of an agent")
+            raise Fault(f"{path}: this is not the record of an agent")
         self.name = bytes.fromhex(self.calls[0].words[1])
         self.begins_late = self.calls[0].goes_on
         if self.begins_late:
-            told(f"{path}: it begins in the middle of a life: what was taken before counts as below the least time")
-        # the queries that it was handed in this life: the number that the record has, and the one that the schedule has
+            told(f"{path}: it begins in the middle of a life: everything that was accepted before counts as below the minimum")
+        # The queries that were handed out in this life: the number in the record, and the number in the schedule.
         self.handed = {}
         self.agents, self.clocks = [], [1, 1, 1]
 
@@ -102,7 +103,7 @@ class Node:
         return self.calls[self.at] if self.at < len(self.calls) else None
 
     def note(self, call):
-        """Notes how far the clocks are, and what was handed out."""
+        """Updates the clocks and the queries that were handed out, by a call's reply."""
         for time, *_ in call.lines("event"):
             self.clocks[1] = max(self.clocks[1], int(time) + 1)
         for number, time, *_ in call.lines("handed"):
@@ -111,32 +112,32 @@ class Node:
 
 
 def text(data):
-    """Bytes in hex as `serf-replay write` reads them: a text in quotes."""
+    """Converts bytes in hex to the text in quotes that `serf-replay write` reads."""
     raw = b"" if data == "-" else bytes.fromhex(data)
     return '"' + "".join(chr(b) if 32 <= b < 127 and b not in b'"\\' else f"\\x{b:02x}" for b in raw) + '"'
 
 
 class Schedule:
-    """The schedule, as it is written."""
+    """The schedule, while it is written."""
 
     def __init__(self, nodes, taken):
         self.nodes, self.taken = nodes, taken
         self.heads, self.lines = [], []
-        # of each packet, where it stands: a label, or a label and a number
+        # The name of each packet in the schedule: a label, or a label and a number.
         self.packets = {}
-        # the packets that these nodes made, and the states that somebody merged
+        # The packets that these nodes made, and the states that one of them merged.
         self.made = {packet for node in nodes for call in node.calls for _, packet in self.made_by(node, call)}
         self.merged = {call.words[1] for node in nodes for call in node.calls if call.kind == "merge"}
 
     def made_by(self, node, call):
-        """The packets that a call made, each with its number among those that it sent. What a life that begins late answers
-        isn't known here, so its answers are no packets of its own."""
+        """The packets that a call made, each with its number among those that it sent. If a record begins in the middle of a life, the
+        schedule's agent may answer otherwise than the recorded one, so its acks and responses are injected."""
         if node.begins_late and call.kind not in ("fire", "query", "state"):
             return []
         return [(number, packet) for number, packet in enumerate(call.sent()) if packet not in call.words]
 
     def is_ready(self, call):
-        """Whether what it is given was sent above, or by nobody here."""
+        """Whether the packet that the call receives was already sent, or was not sent by any of these nodes."""
         if call.kind not in ("deliver", "merge"):
             return True
         return call.words[1] in self.packets or call.words[1] not in self.made
@@ -147,7 +148,7 @@ class Schedule:
             waiting = [node for node in self.nodes if node.next()]
             if not waiting:
                 return "\n".join(self.heads + self.lines) + "\n"
-            # (where each waits for another, lines are missing: the earliest goes on)
+            # If all nodes wait for each other, lines are missing. Then the earliest call is next.
             ready = [node for node in waiting if self.is_ready(node.next())] or waiting
             node = min(ready, key=lambda node: node.next().moment)
             call = node.next()
@@ -159,7 +160,7 @@ class Schedule:
             node.note(call)
 
     def opened(self, node, call):
-        """A life: the first makes the agent. One whose clocks are below those before is another agent: its file was lost."""
+        """Begins a life. The first one makes the agent. If the clocks are below those before, the file was lost: it is a new agent."""
         clocks = [int(word) for word in call.reply[0][1:]]
         if not node.agents or any(now < before for now, before in zip(clocks[1:], node.clocks[1:])):
             more = f" ({len(node.agents) + 1})" if node.agents else ""
@@ -176,14 +177,14 @@ class Schedule:
             self.lines.append(f"restart {node.agents[-1]} tail {text(call.words[-1])}")
 
     def packet(self, data):
-        """Where a packet stands; what nobody here sent is injected."""
+        """The name of a packet in the schedule. A packet that none of these nodes sent is injected."""
         if data not in self.packets:
             self.packets[data] = f"p{len(self.lines)}"
             self.lines.append(f"{self.packets[data]}: inject {data}")
         return self.packets[data]
 
     def action(self, node, call):
-        """Writes an action, and notes the packets that it sends first."""
+        """Writes an action, and names the packets that it is the first to send."""
         written = getattr(self, call.kind)(node.agents[-1], node, call)
         if written is None:
             return
@@ -239,7 +240,7 @@ def main():
         nodes = [Node(path, lambda what: print(what, file=sys.stderr)) for path in asked.records]
         names = [node.name for node in nodes]
         if len(set(names)) < len(names):
-            raise Fault("two records are of one node")
+            raise Fault("two records are from the same node")
         written = Schedule(nodes, asked.taken).write()
     except (OSError, ValueError, Fault) as fault:
         print(f"schedule_of_records: {fault}", file=sys.stderr)

@@ -1,17 +1,18 @@
 #!/bin/sh
-# Writes a line for `serf-replay judge` of each user event and each query that an agent hands to its handlers:
+# Appends a line for `serf-replay judge` for each user event and each query that an agent passes to its handlers:
 #     serf agent -event-handler user=./serf_log_handler.sh -event-handler query=./serf_log_handler.sh
-# The date and the time of day stand before it, in UTC: `judge` tells them with the line.
-# SERF_LOG says to which file. Standard output stays empty, so a query gets no answer from here.
+# The line begins with the date and the time of day, in UTC, which `judge` prints with it.
+# SERF_LOG names the file. Standard output stays empty, so this script never answers a query.
 #
-# Each text is one word: a space is %20, a newline %0A, a carriage return %0D and a percent sign %25. An empty text is -, and the text - is %2D.
-# Serf ends a payload by a newline where it has none, so one newline at its end is left out.
-# Serf gives a handler no ID of a query: a checksum of its name and payload stands in its place.
+# Each text is one word: a space is %20, a newline %0A, a carriage return %0D and a percent sign %25. An empty text is -, and the
+# text - is %2D.
+# Serf adds a newline to a payload that doesn't end with one, so the script leaves out one newline at its end.
+# Serf passes no query ID to a handler, so the line has a checksum of the query's name and payload instead.
 LC_ALL=C
 export LC_ALL
 return=$(printf '\r')
 
-# The text on standard input, as one word.
+# Prints the text on standard input as one word.
 word() {
 	text=$(sed "s/%/%25/g; s/ /%20/g; s/$return/%0D/g; s/\$/%0A/" | tr -d '\n' | sed 's/%0A$//')
 	case $text in

@@ -1,9 +1,9 @@
-/* Two agents in one process, joined by hand: an event is fired, comes twice, its agent crashes and comes back, and nothing is
- * handed out twice. A query is answered, and closed.
+/* Two agents in one process, which the program joins by hand. An event is fired and arrives twice. Its receiver crashes and
+ * restarts, and nothing is handed out twice. Then a query is answered and closed.
  *
  *     example FOLDER
  *
- * FOLDER gets the two snapshots. Where they are there already, the agents go on from them. */
+ * The two snapshots are in FOLDER. If they exist already, the agents resume from them. */
 #include "serf_agent.h"
 #include "serf_agent_store.h"
 
@@ -37,7 +37,7 @@ static void stop_at(const struct node *node, const char *call, const char *why) 
     exit(1);
 }
 
-/* A call's code; what it left for the file is on the disk when this returns. */
+/* Writes what a call left for the file, and flushes it. Returns the call's code. */
 static uint32_t settled(struct node *node, uint32_t code) {
     enum serf_agent_store_fault fault = serf_agent_store_settle(&node->store, &node->agent);
     if (fault != SERF_AGENT_STORE_OK) {
@@ -72,7 +72,7 @@ static void open_node(struct node *node) {
     free(text);
 }
 
-/* What is left behind by a process that ends at once: nothing but the file. */
+/* Ends the node as a crash of its process would: only the file is left. */
 static void crash(struct node *node) {
     serf_agent_close(&node->agent);
     serf_agent_store_close(&node->store);
@@ -101,15 +101,15 @@ static void join(struct node *one, struct node *other) {
     done(other, "local_state", serf_agent_local_state(&other->agent));
     size_t len = packet_of(other, state);
     uint32_t code = settled(one, serf_agent_merge(&one->agent, state, len, true));
-    /* a merge that ran out of memory gives what entered before, and no later one gives it again: so first the events */
+    /* Handle the events before checking the code: a merge that ran out of memory returns those that it accepted before, and no later
+     * merge returns them again. */
     handle_events(one);
     demand_ok(one, "merge", code);
     printf("%s joined %s\n", one->name, other->name);
 }
 
 static size_t fire(struct node *node, const char *name, const char *payload, uint8_t packet[ROOM]) {
-    done(node, "fire", serf_agent_fire(&node->agent, (const uint8_t *)name, strlen(name), (const uint8_t *)payload,
-                                       strlen(payload), false));
+    done(node, "fire", serf_agent_fire(&node->agent, (const uint8_t *)name, strlen(name), (const uint8_t *)payload, strlen(payload), false));
     handle_events(node);
     return packet_of(node, packet);
 }
@@ -124,7 +124,7 @@ static void deliver(struct node *node, uint64_t now, const uint8_t *packet, size
     }
 }
 
-/* One asks, the other acks and answers. */
+/* One node fires a query, and the other acks and answers it. */
 static void ask(struct node *one, struct node *other, uint64_t now, const char *name, const char *answer) {
     static uint8_t packet[ROOM];
     struct serf_agent_params params = {.timeout = 1000, .want_ack = true};
@@ -141,7 +141,7 @@ static void ask(struct node *one, struct node *other, uint64_t now, const char *
     deliver(one, now, packet, len);
 }
 
-/* Closes what is due, and prints the answers. */
+/* Closes the queries that are due, and prints their answers. */
 static void close_due(struct node *node, uint64_t now) {
     struct serf_agent_closed closed;
     struct serf_agent_response response;

@@ -1,5 +1,5 @@
-/* What libserf_agent_c.a takes from outside beside the C library: three calls for memory. Rattle's toolchain has a library
- * with them; this file stands in its place, for a host that is built without that toolchain. */
+/* The three memory functions that libserf_agent_c.a needs besides the C library. Rattle's toolchain has a library with them. This
+ * file replaces it for a host that is built without that toolchain. */
 #include <stdbool.h>
 #include <stddef.h>
 #include <stdlib.h>

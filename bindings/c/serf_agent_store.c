@@ -12,7 +12,7 @@
 #include <sys/stat.h>
 #include <unistd.h>
 
-/* How often an opening begins anew, because the file was replaced between its opening and its lock. */
+/* How often opening starts again because the file was replaced between its opening and its lock. */
 enum { TRIES = 100 };
 
 static enum serf_agent_store_fault fault_of(int error) {
@@ -44,15 +44,15 @@ static enum serf_agent_store_fault fault_of(int error) {
 const char *serf_agent_store_words(enum serf_agent_store_fault fault) {
     switch (fault) {
     case SERF_AGENT_STORE_OK:
-        return "no fault";
+        return "no error";
     case SERF_AGENT_STORE_LOCKED:
         return "another agent has the file";
     case SERF_AGENT_STORE_MISSING:
-        return "the folder of the file isn't there";
+        return "the folder of the file doesn't exist";
     case SERF_AGENT_STORE_NOT_A_FILE:
-        return "the path names no plain file";
+        return "the path is not a regular file";
     case SERF_AGENT_STORE_READ_ONLY:
-        return "the file or its folder may not be written";
+        return "the file or its folder is not writable";
     case SERF_AGENT_STORE_FULL:
         return "the disk is full";
     case SERF_AGENT_STORE_NO_MEMORY:
@@ -60,17 +60,17 @@ const char *serf_agent_store_words(enum serf_agent_store_fault fault) {
     case SERF_AGENT_STORE_BROKEN:
         return "an earlier call failed, or the store isn't open";
     case SERF_AGENT_STORE_FAILED:
-        return "the system failed";
+        return "the system call failed";
     }
-    return "no code of the store";
+    return "an unknown code";
 }
 
-/* The name of the file that a replacement writes first. */
+/* Sets the name of the file that a replacement writes first. Returns false if it is too long. */
 static bool name_beside(const struct serf_agent_store *store, char beside[NAME_MAX + 1]) {
     return snprintf(beside, NAME_MAX + 1, "%s.new", store->name) <= NAME_MAX;
 }
 
-/* Opens the folder of a path and keeps the file's name. */
+/* Opens the folder of a path, and stores the file's name. */
 static bool open_folder(struct serf_agent_store *store, const char *path) {
     char *whole = realpath(path, NULL);
     if (whole == NULL && errno == ENOENT) {
@@ -90,7 +90,7 @@ static bool open_folder(struct serf_agent_store *store, const char *path) {
     return store->name != NULL;
 }
 
-/* Whether the file that is open is still the one that its name names. */
+/* Whether the open file still has its name. */
 static bool is_current(const struct serf_agent_store *store) {
     struct stat own, named;
     return fstat(store->file, &own) == 0 && fstatat(store->folder, store->name, &named, AT_SYMLINK_NOFOLLOW) == 0 &&
@@ -109,7 +109,7 @@ static bool is_plain(int file) {
     return true;
 }
 
-/* Opens and locks the file that the name names now. */
+/* Opens and locks the file that has the name now. */
 static bool open_file(struct serf_agent_store *store) {
     const int how = O_RDWR | O_APPEND | O_CREAT | O_CLOEXEC | O_NOFOLLOW | O_NONBLOCK;
     for (int tried = 0; tried < TRIES; tried++) {
@@ -127,7 +127,7 @@ static bool open_file(struct serf_agent_store *store) {
     return false;
 }
 
-/* Removes what a crash left of a replacement, and brings what is there to the disk. */
+/* Removes what a crash left of a replacement, and flushes the file and its folder. */
 static bool settle(struct serf_agent_store *store) {
     char beside[NAME_MAX + 1];
     if (!name_beside(store, beside)) {
@@ -140,7 +140,7 @@ static bool settle(struct serf_agent_store *store) {
     return fsync(store->file) == 0 && fsync(store->folder) == 0;
 }
 
-/* Gives back all that the store has. */
+/* Closes and frees everything that the store has. */
 static void let_go(struct serf_agent_store *store) {
     if (store->file >= 0) {
         close(store->file);
@@ -213,7 +213,7 @@ static bool write_all(int file, const uint8_t *bytes, size_t len) {
     return true;
 }
 
-/* The store is broken from now on. */
+/* Marks the store as broken, by this error. */
 static enum serf_agent_store_fault broken_by(struct serf_agent_store *store, int error) {
     store->is_broken = true;
     errno = error;
@@ -233,7 +233,8 @@ enum serf_agent_store_fault serf_agent_store_append(struct serf_agent_store *sto
     return SERF_AGENT_STORE_OK;
 }
 
-/* A new file of this name, locked, with the rights of the old one and these bytes on the disk; -1 where it failed. */
+/* Creates a file with this name next to the old one, locked, with the old one's permissions and these bytes, flushed. Returns its
+ * descriptor, or -1 after an error. */
 static int written_beside(struct serf_agent_store *store, const char *beside, const uint8_t *bytes, size_t len) {
     struct stat about;
     if (fstat(store->file, &about) != 0) {
@@ -280,7 +281,7 @@ enum serf_agent_store_fault serf_agent_store_replace(struct serf_agent_store *st
     return SERF_AGENT_STORE_OK;
 }
 
-/* Brings these bytes to the file as the agent said. */
+/* Writes the pending bytes, which have this length, to the file. */
 static enum serf_agent_store_fault take(struct serf_agent_store *store, struct serf_agent *agent, size_t len) {
     struct serf_agent_bytes about = {0};
     uint8_t *bytes = malloc(len == 0 ? 1 : len);

@@ -1,12 +1,12 @@
-"""Builds the package's wheel, with the shared library in it: what pyproject.toml names for pip. It needs nothing but Python,
+"""Builds the package's wheel, which contains the shared library. pyproject.toml names this script for pip. It needs only Python,
 and no network.
 
-    pip wheel .                       pip calls it
-    python3 build_wheel.py FOLDER     by hand
+    pip wheel .                       pip calls the script
+    python3 build_wheel.py FOLDER     you call it
 
-The shared library is the one that SERF_AGENT_LIBRARY names, that of a release's archive, or that of a clone's
-bindings/c/out. The wheel says which C library it wants, so that pip refuses it on an older system. The same files give the
-same bytes.
+The shared library is the one that SERF_AGENT_LIBRARY names, that of a release's archive, or the one in a clone's
+bindings/c/out. The wheel names the C library that it needs, so that pip refuses it on an older system. The same files always
+make the same bytes.
 """
 
 import base64
@@ -20,7 +20,7 @@ HERE = os.path.dirname(os.path.abspath(__file__))
 NAME = "serf_agent"
 PLACES = [os.path.join(HERE, "..", "..", "lib", "libserf_agent.so"), os.path.join(HERE, "..", "c", "out", "libserf_agent.so")]
 
-# The machine in the head of an ELF file: x86-64.
+# How an ELF file for x86-64 begins, and the number of its machine at byte 18.
 X86_64 = b"\x7fELF\x02\x01", b"\x3e\x00"
 
 
@@ -34,7 +34,7 @@ def library():
     named = os.environ.get("SERF_AGENT_LIBRARY")
     path = next((path for path in ([named] if named else PLACES) if os.path.isfile(path)), None)
     if path is None:
-        raise SystemExit(f"serf_agent: there is no shared library at {named or ' or '.join(map(os.path.normpath, PLACES))}: make -C bindings/c makes it, or SERF_AGENT_LIBRARY names one")
+        raise SystemExit(f"serf_agent: there is no shared library at {named or ' or '.join(map(os.path.normpath, PLACES))}: make it with make -C bindings/c, or set SERF_AGENT_LIBRARY to its path")
     data = read(path)
     if not data.startswith(X86_64[0]) or data[18:20] != X86_64[1]:
         raise SystemExit(f"serf_agent: {path} is no shared library for Linux on x86-64")
@@ -42,13 +42,13 @@ def library():
 
 
 def tag(shared):
-    """The wheel's tag: any Python 3, and the least glibc that has what the library takes."""
+    """The wheel's tag: any Python 3, and the oldest glibc that has everything the library uses."""
     least = max([17, *(int(minor) for minor in re.findall(rb"GLIBC_2\.(\d+)", shared))])
     return f"py3-none-manylinux_2_{least}_x86_64"
 
 
 def field(name):
-    """A text of pyproject.toml."""
+    """A string of pyproject.toml."""
     return re.search(rf'^{name} = "([^"]*)"$', read(os.path.join(HERE, "pyproject.toml")).decode(), re.M)[1]
 
 
@@ -67,7 +67,7 @@ def metadata():
 
 
 def files():
-    """The wheel's files, by their names, and its tag."""
+    """The wheel's files by their names, and its tag."""
     shared = library()
     folder, info = os.path.join(HERE, NAME), f"{NAME}-{field('version')}.dist-info"
     found = {f"{NAME}/{name}": read(os.path.join(folder, name)) for name in os.listdir(folder) if name.endswith(".py") or name == "py.typed"}
@@ -81,7 +81,7 @@ def files():
 
 
 def build_wheel(wheel_directory, config_settings=None, metadata_directory=None):
-    """Writes the wheel into a folder, and gives its name."""
+    """Writes the wheel into a folder, and returns its name."""
     found, own_tag = files()
     name = f"{NAME}-{field('version')}-{own_tag}.whl"
     with zipfile.ZipFile(os.path.join(wheel_directory, name), "w", zipfile.ZIP_DEFLATED) as wheel:
@@ -93,7 +93,7 @@ def build_wheel(wheel_directory, config_settings=None, metadata_directory=None):
 
 
 def build_sdist(sdist_directory, config_settings=None):
-    raise SystemExit("serf_agent: there is no source package: the shared library is built from a release or a clone")
+    raise SystemExit("serf_agent: there is no source package, because the shared library is built from a release or a clone")
 
 
 if __name__ == "__main__":

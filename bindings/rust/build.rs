@@ -1,11 +1,11 @@
-//! Links the static library: the one that `SERF_AGENT_LIBRARY` names, or that of the package, or of a clone of the repository.
+//! Links the static library: the one that `SERF_AGENT_LIBRARY` names, the package's, or the one in a clone of the repository.
 
 use std::path::{Path, PathBuf};
 
-/// Where a package and a clone have it.
+/// The paths of the library in a package, and in a clone.
 const PLACES: [&str; 2] = ["native/libserf_agent_c.a", "../../crates/serf_agent_c/out/libserf_agent_c.a"];
 
-/// Ends the build, with a sentence.
+/// Prints why the build can't continue, and ends it.
 fn refuse(why: &str) -> ! {
     eprintln!("serf_agent: {why}");
     std::process::exit(1)
@@ -20,11 +20,11 @@ fn library() -> PathBuf {
     if let Some(named) = std::env::var_os("SERF_AGENT_LIBRARY") {
         return PathBuf::from(named);
     }
-    // (asked as it runs: a target folder may keep this script of the same package in another place)
+    // Read when the script runs, not when it is compiled: a target folder may reuse this script for a copy of the package elsewhere.
     let package = std::env::var_os("CARGO_MANIFEST_DIR").unwrap_or_default();
     let places = PLACES.map(|place| Path::new(&package).join(place));
     places.into_iter().find(|place| place.exists()).unwrap_or_else(|| {
-        refuse("the static library isn't in this package: SERF_AGENT_LIBRARY has to name libserf_agent_c.a of a release's folder lib")
+        refuse("the static library isn't in this package: set SERF_AGENT_LIBRARY to libserf_agent_c.a in lib of a release's archive")
     })
 }
 

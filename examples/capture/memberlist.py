@@ -1,26 +1,26 @@
-"""memberlist's frames: what of a packet or a connection is Serf's, and which node has which address."""
+"""memberlist's frames: what a packet or a connection has of Serf's, and which node has which address."""
 
 import ipaddress
-import struct
 import zlib
 
 STATE, COMPOUND, USER, COMPRESSED, ENCRYPTED, CHECKSUM, LABEL = 6, 7, 8, 9, 10, 12, 244
 
-# A packet's own type of message in which a node is named with its address.
+# The type of message that names a node with its address, and the state in which a whole state lists a node that runs.
 ALIVE = 4
+RUNS = 0
 
-# How deep frames may stand in one another, and how many bytes one may unpack to.
-DEEPEST = 8
-LONGEST = 1 << 26
+# How deep frames may be nested, and how many bytes one may unpack to.
+MAX_DEPTH = 8
+MAX_BYTES = 1 << 26
 
 
-class Fault(Exception):
+class FrameError(Exception):
     """Bytes that are no frame."""
 
 
 def part(data, at, length):
     if length < 0 or at + length > len(data):
-        raise Fault("it ends too early")
+        raise FrameError("it ends too early")
     return data[at : at + length]
 
 
@@ -38,8 +38,8 @@ WHOLE = {0xC0: None, 0xC2: False, 0xC3: True}
 
 def value_at(data, at, depth=0):
     """A MessagePack value, and where it ends."""
-    if depth > DEEPEST:
-        raise Fault("a value is too deep")
+    if depth > MAX_DEPTH:
+        raise FrameError("a value is too deep")
     first = number(data, at, 1)
     at += 1
     if first < 0x80 or first >= 0xE0:
@@ -63,7 +63,7 @@ def value_at(data, at, depth=0):
         items, at = items_at(data, at + width, 2 * count, depth)
         keys = [key if isinstance(key, bytes) else b"" for key in items[::2]]
         return dict(zip(keys, items[1::2])), at
-    raise Fault("a value of MessagePack that isn't read here")
+    raise FrameError("a value of MessagePack has a type that is not read here")
 
 
 def items_at(data, at, count, depth):
@@ -77,13 +77,13 @@ def items_at(data, at, count, depth):
 def map_at(data, at):
     found, at = value_at(data, at)
     if not isinstance(found, dict):
-        raise Fault("a map is missing")
+        raise FrameError("a map is missing")
     return found, at
 
 
 def unpacked(data):
-    """Bytes that were packed by LZW, the least bit first, in codes of 9 to 12 bits."""
-    clear, end, most = 256, 257, 1 << 12
+    """The bytes that LZW packed, the lowest bit first, in codes of 9 to 12 bits."""
+    clear, end, max_codes = 256, 257, 1 << 12
     out, table, last = bytearray(), [bytes([b]) for b in range(256)] + [b"", b""], None
     width, bits, held = 9, 0, 0
     for byte in data:
@@ -104,31 +104,31 @@ def unpacked(data):
         elif code == len(table) and last is not None:
             text = last + last[:1]
         else:
-            raise Fault("a code of LZW that stands for nothing")
+            raise FrameError("a code of LZW has no meaning yet")
         out += text
-        if len(out) > LONGEST:
-            raise Fault("it unpacks to too much")
-        if last is not None and len(table) < most:
+        if len(out) > MAX_BYTES:
+            raise FrameError("it unpacks to too much")
+        if last is not None and len(table) < max_codes:
             table.append(last + text[:1])
         last = text
         if len(table) + 1 > 1 << width and width < 12:
             width += 1
-    raise Fault("a packed text has no end")
+    raise FrameError("LZW has no end")
 
 
 def opened(data, key, extra):
-    """What was encrypted by AES-GCM: a version, a nonce of 12 bytes, the text and its tag."""
+    """The text that AES-GCM encrypted: it has a version, a nonce of 12 bytes, the text and its tag."""
     if key is None:
-        raise Fault("it is encrypted, and no --key is given")
+        raise FrameError("it is encrypted, and no --key is given")
     try:
         from cryptography.exceptions import InvalidTag
         from cryptography.hazmat.primitives.ciphers.aead import AESGCM
     except ImportError:
-        raise Fault("it is encrypted, and Python has no package `cryptography`") from None
+        raise FrameError("it is encrypted, and Python has no package `cryptography`") from None
     try:
         text = AESGCM(key).decrypt(part(data, 1, 12), data[13:], extra)
     except (InvalidTag, ValueError):
-        raise Fault("the key opens nothing") from None
+        raise FrameError("the key doesn't decrypt it") from None
     if data[0] == 0 and text:
         return text[: -text[-1]]
     return text
@@ -143,17 +143,17 @@ def unlabelled(data):
 
 
 def messages_of(payload, key, depth=0):
-    """memberlist's messages in a UDP packet, out of their frames."""
+    """memberlist's messages in a UDP packet, without their frames."""
     if depth == 0:
         payload, label = unlabelled(payload)
         if key is not None:
             payload = opened(payload, key, label)
-    if depth > DEEPEST:
-        raise Fault("frames are too deep")
+    if depth > MAX_DEPTH:
+        raise FrameError("frames are too deep")
     kind = number(payload, 0, 1)
     if kind == CHECKSUM:
         if zlib.crc32(payload[5:]) != number(payload, 1, 4):
-            raise Fault("a checksum is another one")
+            raise FrameError("the checksum differs")
         yield from messages_of(payload[5:], key, depth + 1)
     elif kind == COMPRESSED:
         packed, _ = map_at(payload, 1)
@@ -170,7 +170,7 @@ def messages_of(payload, key, depth=0):
 
 
 def stream_of(payload, key):
-    """What a side of a connection sent, out of its frames."""
+    """What one side of a connection sent, without its frames."""
     payload, label = unlabelled(payload)
     if payload[:1] == bytes([ENCRYPTED]):
         length = number(payload, 1, 4)
@@ -192,7 +192,7 @@ def nodes_of_state(payload):
 
 
 def state_of(payload, key):
-    """What a side of a connection sent that is Serf's: its kind, whether it is of a join, and the bytes; None of others."""
+    """What one side of a connection sent to Serf: its kind, whether it is of a join, and the bytes; None if it is anything else."""
     payload = stream_of(payload, key)
     if payload[:1] == bytes([STATE]):
         header, _, at = nodes_of_state(payload)
@@ -203,8 +203,15 @@ def state_of(payload, key):
     return None
 
 
+def listed_nodes(payload, key):
+    """The names in a whole state, each with whether that node runs; none if it is no state."""
+    payload = stream_of(payload, key)
+    nodes = nodes_of_state(payload)[1] if payload[:1] == bytes([STATE]) else []
+    return {name: node.get(b"State", RUNS) == RUNS for node in nodes for name in address_of(node).values()}
+
+
 def address_of(node):
-    """A node's name and its address, where a map has both."""
+    """The name of a node by its address, if a map has both."""
     name, host, port = node.get(b"Node") or node.get(b"Name"), node.get(b"Addr"), node.get(b"Port")
     if not isinstance(name, bytes) or not isinstance(host, bytes) or len(host) not in (4, 16) or not isinstance(port, int):
         return {}
@@ -213,15 +220,8 @@ def address_of(node):
     return {(str(host), port): name.decode("utf-8", "replace")}
 
 
-def lone_node(payload, key):
-    """The name and the address of the one node that a whole state knows: the sender itself, before its first join."""
-    payload = stream_of(payload, key)
-    nodes = nodes_of_state(payload)[1] if payload[:1] == bytes([STATE]) else []
-    return address_of(nodes[0]) if len(nodes) == 1 else {}
-
-
 def nodes_in(payload, key):
-    """The names of addresses that a packet, or a side of a connection, tells."""
+    """The names of addresses, by a packet or one side of a connection."""
     found = {}
     is_state = False
     try:
@@ -229,7 +229,7 @@ def nodes_in(payload, key):
         is_state = stream[:1] == bytes([STATE])
         for node in nodes_of_state(stream)[1] if is_state else []:
             found.update(address_of(node))
-    except Fault:
+    except FrameError:
         if is_state:
             return found
     if not is_state:

@@ -1,19 +1,23 @@
 """Capture files of the form pcap: UDP packets, and TCP connections put together again."""
 
+import collections
 import ipaddress
 import struct
 
 # A file's first four bytes, and how many of its small units a microsecond has.
 MAGICS = {0xA1B2C3D4: 1, 0xA1B23C4D: 1000}
 
-# How many bytes stand before an IP packet, by the kind of link; of Ethernet, and of the two kinds of Linux's `any`.
+# How many bytes a frame has before its IP packet, by the kind of link: 1 is Ethernet, 113 and 276 are the two of Linux's `any`.
 HEADS = {0: 4, 1: 14, 12: 0, 14: 0, 101: 0, 113: 16, 276: 20}
 
 TCP, UDP = 6, 17
-SYN = 2
+SYN, ACK = 2, 16
+
+# What a capture has. The times are microseconds: `began` since 1970, all others since `began`.
+Capture = collections.namedtuple("Capture", "began length hosts datagrams connections notes")
 
 
-class NoCapture(Exception):
+class CaptureError(Exception):
     """The file is no capture that can be read here."""
 
 
@@ -21,13 +25,13 @@ def frames_of(data):
     """The kind of link, and each frame with its time in microseconds."""
     order = {b"\xa1\xb2": ">", b"\xd4\xc3": "<", b"\x4d\x3c": "<"}.get(data[:2])
     if data[:4] == b"\x0a\x0d\x0d\x0a":
-        raise NoCapture("a capture of the form pcapng: `editcap -F pcap` makes it one of the form pcap")
+        raise CaptureError("the capture has the form pcapng; `editcap -F pcap` turns it into one of the form pcap")
     if order is None or len(data) < 24 or struct.unpack_from(order + "I", data)[0] not in MAGICS:
-        raise NoCapture("no capture of the form pcap")
+        raise CaptureError("this is no capture of the form pcap")
     unit = MAGICS[struct.unpack_from(order + "I", data)[0]]
     link = struct.unpack_from(order + "I", data, 20)[0] & 0xFFFF
     if link not in HEADS:
-        raise NoCapture(f"a capture of a kind of link that isn't known: {link}")
+        raise CaptureError(f"the capture is of a kind of link that is not known here: {link}")
     frames, at = [], 24
     while at + 16 <= len(data):
         seconds, parts, kept, _ = struct.unpack_from(order + "4I", data, at)
@@ -37,7 +41,7 @@ def frames_of(data):
 
 
 def network_packet(link, frame):
-    """The IP packet in a frame: its two addresses, its protocol and what it carries, or None."""
+    """The IP packet in a frame: its two addresses, its protocol and what it carries; None if it has none that is whole."""
     at = HEADS[link]
     if link == 1 and frame[12:14] == b"\x81\x00":
         at += 4
@@ -57,7 +61,7 @@ def network_packet(link, frame):
 
 
 class Side:
-    """What one side of a connection sent: its parts by their places, and when each came."""
+    """What one end of a connection sent: its parts by their sequence numbers, each with its time."""
 
     def __init__(self):
         self.first, self.parts = None, {}
@@ -69,7 +73,7 @@ class Side:
             self.parts.setdefault(sequence, (time, payload))
 
     def whole(self):
-        """What was sent from the beginning on without a gap, and when its last part came; None where the beginning isn't there."""
+        """The time of the last part and all bytes up to the first gap; None if the capture lacks the beginning."""
         if self.first is None:
             return None
         sent, time, at = b"", None, 0
@@ -81,49 +85,68 @@ class Side:
         return (time, sent) if sent else None
 
 
+class Connection:
+    """A TCP connection: which end called, when, and what each end sent. The caller's port is none that it listens on."""
+
+    def __init__(self, ends, began):
+        self.sides, self.began = {end: Side() for end in ends}, began
+        self.caller, self.listener = None, None
+
+    def is_used(self):
+        return any(side.parts for side in self.sides.values())
+
+    def called_by(self, caller, listener):
+        self.caller, self.listener = caller, listener
+
+    def sent_by(self, end):
+        """The time and the bytes of what this end sent; None if that is nothing, or the capture lacks its beginning."""
+        return self.sides[end].whole()
+
+
+def connection_of(connections, time, sender, receiver, flags):
+    """The connection to which a segment belongs. Two ends have a new one after each SYN, unless that is a SYN sent again."""
+    of_ends = connections.setdefault(frozenset((sender, receiver)), [])
+    calls, answers = flags & SYN and not flags & ACK, flags & SYN and flags & ACK
+    if not of_ends or (calls and of_ends[-1].is_used()) or (answers and of_ends[-1].sides[sender].parts):
+        of_ends.append(Connection((sender, receiver), time))
+    if calls or answers:
+        of_ends[-1].called_by(*((sender, receiver) if calls else (receiver, sender)))
+    return of_ends[-1]
+
+
 def counted(notes, why):
     notes[why] = notes.get(why, 0) + 1
 
 
-def side_of(sides, ends, flags):
-    """The side to which a segment belongs: of one pair of ends a new one begins with SYN, unless it is sent again."""
-    of_ends = sides.setdefault(ends, [])
-    if not of_ends or flags & SYN and of_ends[-1].parts:
-        of_ends.append(Side())
-    return of_ends[-1]
-
-
-def streams_of(sides, notes):
-    """What each side sent, with the time of its last part and its ends."""
-    streams = []
-    for ends, side in [(ends, side) for ends, of_ends in sides.items() for side in of_ends]:
-        whole = side.whole()
-        if whole is not None:
-            streams.append((whole[0], *ends, whole[1]))
-        elif side.parts:
-            counted(notes, "sides of connections without their beginning")
-    return streams
-
-
 def read(data):
-    """When the first frame came, in microseconds since 1970; the UDP packets and the sides of TCP connections, each with its
-    time since then, its sender, its receiver and its bytes; and how often what was left out."""
+    """The capture in a file's bytes: all addresses, the UDP packets, each with its time, sender, receiver and bytes, the
+    connections, and how often what was left out."""
     link, frames = frames_of(data)
     began = frames[0][0] if frames else 0
-    datagrams, sides, notes = [], {}, {}
+    length = max([max(time - began, 0) for time, _ in frames], default=0)
+    addresses, datagrams, connections, notes = set(), [], {}, {}
     for time, frame in frames:
         found = network_packet(link, frame)
         if found is None:
-            counted(notes, "frames that are no whole IP packets")
+            counted(notes, "frames without a whole IP packet")
             continue
         hosts, protocol, segment = found
         if protocol not in (TCP, UDP) or len(segment) < 8:
             continue
-        ends = tuple(zip(hosts, struct.unpack_from(">2H", segment)))
+        addresses.update(hosts)
+        sender, receiver = zip(hosts, struct.unpack_from(">2H", segment))
         since = max(time - began, 0)
         if protocol == UDP:
-            datagrams.append((since, *ends, segment[8:]))
-        elif len(segment) >= 20:
+            datagrams.append((since, sender, receiver, segment[8:]))
+        elif len(segment) >= 20 and sender != receiver:
             sequence, offset, flags = struct.unpack_from(">I4x2B", segment, 4)
-            side_of(sides, ends, flags).add(since, sequence, flags, segment[(offset >> 4) * 4 :])
-    return began, datagrams, streams_of(sides, notes), notes
+            connection = connection_of(connections, since, sender, receiver, flags)
+            connection.sides[sender].add(since, sequence, flags, segment[(offset >> 4) * 4 :])
+    known = []
+    for connection in (one for of_ends in connections.values() for one in of_ends):
+        for side in connection.sides.values():
+            if side.parts and side.first is None:
+                counted(notes, "sides of connections without their beginning")
+        if connection.caller is not None:
+            known.append(connection)
+    return Capture(began, length, addresses, datagrams, known, notes)

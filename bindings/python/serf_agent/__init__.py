@@ -1,4 +1,4 @@
-"""The proved Serf agent, by ctypes: ``Agent`` over a snapshot's file. docs/HOST.md says what to call when."""
+"""The proved Serf agent, through ctypes: an ``Agent`` keeps its snapshot in a file. docs/HOST.md says what to call when."""
 
 from .agent import Agent, Answer, Asked, Clocks, Closed, Event, Fired, Forked, Handed, Received
 from .burst import Burst
@@ -10,7 +10,7 @@ from .members import Members, state_members
 from .settings import Settings
 from .store import Broken, Full, Locked, MissingFolder, NotAFile, ReadOnly, Store, StoreError
 
-__version__ = "0.1.0"
+__version__ = "0.2.0"
 
 __all__ = [
     "Agent",

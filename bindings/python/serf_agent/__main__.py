@@ -1,10 +1,10 @@
-"""Two agents in one process, joined by hand: an event is fired, comes twice, its agent crashes and comes back, and nothing
-is handed out twice. A query is answered, and closed.
+"""Two agents in one process, which the program joins by hand. An event is fired and arrives twice. Its receiver crashes and
+restarts, and nothing is handed out twice. Then a query is answered and closed.
 
     python -m serf_agent [FOLDER]
 
-FOLDER gets the two snapshots. Where they are there already, the agents go on from them. Without FOLDER they stand in a
-folder that is taken away.
+The two snapshots are in FOLDER. If they exist already, the agents resume from them. Without FOLDER they are in a temporary
+folder.
 """
 
 import os
@@ -40,14 +40,14 @@ def fire(name: str, agent: Agent, event: bytes, payload: bytes) -> bytes:
 
 
 def ask(one: Agent, other: Agent, now: int, name: bytes, answer: bytes) -> None:
-    """One asks, the other acks and answers."""
+    """One agent fires a query, and the other acks and answers it."""
     received = other.receive(now, one.query(now, 7, name, timeout=1000, want_ack=True).packet)
     one.receive(now, received.ack)
     one.receive(now, other.respond(now, received.query.number, answer))
 
 
 def close_due(name: str, agent: Agent, now: int) -> None:
-    """Closes what is due, and prints the answers."""
+    """Closes the queries that are due, and prints their answers."""
     for closed in agent.close_due(now):
         for node in closed.acks:
             print(f"{node.decode()} acked the query of {name}")
@@ -56,7 +56,7 @@ def close_due(name: str, agent: Agent, now: int) -> None:
 
 
 def run(folder: str) -> None:
-    """The two agents, with their snapshots in a folder."""
+    """Runs the two agents, with their snapshots in a folder."""
     names = ["alpha", "beta"]
     paths = [os.path.join(folder, name + ".snapshot") for name in names]
     with Agent(b"alpha", paths[0]) as alpha:

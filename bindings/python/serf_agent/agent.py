@@ -1,4 +1,4 @@
-"""An agent over the library and a snapshot's file."""
+"""An agent that keeps its snapshot in a file."""
 
 import collections
 import contextlib
@@ -7,7 +7,7 @@ import os
 import threading
 import weakref
 from dataclasses import dataclass
-from typing import Iterable, Iterator, List, Optional, Tuple, Union
+from typing import Iterable, Iterator, List, Optional, Tuple
 
 from .burst import Burst, c_params
 from .checks import Buffer, flag, integer, texts
@@ -17,12 +17,12 @@ from .store import Path, Store
 
 
 class Forked(RuntimeError):
-    """The agent is of the process that forked this one: only that one may use it."""
+    """The agent belongs to the process that forked this one, and only that process may use it."""
 
 
 @dataclass(frozen=True)
 class Event:
-    """An event that is handed out: run its handler."""
+    """An event that is handed out. Run its handler."""
 
     time: int
     name: bytes
@@ -32,7 +32,7 @@ class Event:
 
 @dataclass(frozen=True)
 class Handed:
-    """A query that is handed out: run its handler, and answer by ``Agent.respond`` with its number."""
+    """A query that is handed out. Run its handler, and until ``deadline`` answer by ``Agent.respond`` with its number."""
 
     number: int
     time: int
@@ -48,7 +48,7 @@ class Handed:
 
 @dataclass(frozen=True)
 class Answer:
-    """An answer that was counted, of the query of this time and ID: who sent it, and what a response says."""
+    """An ack or a response that was counted: its query's Lamport time and ID, the node that sent it, and a response's payload."""
 
     time: int
     id: int
@@ -58,7 +58,7 @@ class Answer:
 
 @dataclass(frozen=True)
 class Received:
-    """What came of a packet. Where ``rebroadcast`` says so, it is to be sent on unchanged."""
+    """The result of a received packet. If ``rebroadcast`` is True, send the packet on unchanged."""
 
     kind: Kind
     reason: Reason
@@ -72,7 +72,7 @@ class Received:
 
 @dataclass(frozen=True)
 class Fired:
-    """The event as it is handed out here, and the packet to send."""
+    """An event as it is handed out on this node, and the packet to send."""
 
     event: Event
     packet: bytes
@@ -80,10 +80,7 @@ class Fired:
 
 @dataclass(frozen=True)
 class Asked:
-    """The packet of a query to send, and what this node is handed out and sends as its own ack; and the query's time.
-
-    An ``Answer`` to it has this time and the query's ID.
-    """
+    """A query that was fired: the packet to send; if it is handed out here, the query and this node's ack; and the query's time."""
 
     packet: bytes
     query: Optional[Handed]
@@ -93,7 +90,7 @@ class Asked:
 
 @dataclass(frozen=True)
 class Closed:
-    """A query of this agent's own that was closed: the names of the nodes that acked it and the responses, in order of arrival."""
+    """A query of this agent that was closed: the names of the nodes that acked it, and the responses, in order of arrival."""
 
     time: int
     id: int
@@ -104,7 +101,7 @@ class Closed:
 
 @dataclass(frozen=True)
 class Clocks:
-    """The agent's clocks, and the least times of events and queries that it takes."""
+    """The agent's clocks, and the minimum times of events and queries that it accepts."""
 
     member: int
     event: int
@@ -114,26 +111,27 @@ class Clocks:
 
 
 def c_settings(settings: Settings) -> CSettings:
-    """An agent's settings in C."""
+    """An agent's settings, as C's struct."""
     return CSettings(*((flag if kind is ctypes.c_bool else integer)(field, getattr(settings, field)) for field, kind in CSettings._fields_))
 
 
 def let_go(library: Library, handle: Handle, store: Store) -> None:
-    """Frees an agent and its file."""
+    """Closes an agent and its file."""
     library.close(handle)
     store.close()
 
 
 class Agent:
-    """A proved agent whose snapshot is a file. A context manager: leaving it closes both, and so does letting it go.
+    """A proved agent with its snapshot. As a context manager, it closes the agent and the file. So does its finalizer.
 
-    Each method brings what its call wrote to the disk before it returns, and so before a handler runs. Where the file
-    fails (a ``StoreError``) the agent is closed; open it again on the file. One call at a time is let through, from
-    whichever thread. A forked child has no part of it: there each call but ``close`` raises ``Forked``.
+    Each method flushes what its call wrote to the disk before it returns, so nothing reaches a handler before its line is
+    durable. If the file fails (a ``StoreError``), the agent is closed: open it again on the same file. Calls may come from any
+    thread, and run one at a time. A forked child can't use the agent: there, each call except ``close`` raises ``Forked``.
 
-    Moments are nanoseconds of one clock that never goes back: a thread's moment that is before its last one is refused
-    by ``ValueError``. A number that doesn't fit is refused by ``OverflowError``, and what is no number, no bool or no bytes
-    by ``TypeError``. ``AgentError`` with the code says why the library refused a call. None of these has changed anything.
+    Moments (``now``) are nanoseconds of one clock that never goes back. If a thread passes a moment that is before its previous
+    one, the call raises ``ValueError``. A number that doesn't fit raises ``OverflowError``. Anything that has to be a number, a
+    bool or bytes, and isn't, raises ``TypeError``. If the library refuses a call, ``AgentError`` has the code. None of these
+    errors has changed anything, except as ``merge`` says.
     """
 
     def __init__(self, name: Buffer, path: Path, settings: Settings = Settings(), library: Optional[Library] = None) -> None:
@@ -143,9 +141,9 @@ class Agent:
         self._process = os.getpid()
         self._last = threading.local()
         self._handle = Handle()
-        # whether a call that failed may have left filters, or members, which the next one would take
+        # Whether a call that failed may have left filters, or members, that the library would add to the next call.
         self._stale_filters = self._stale_members = False
-        # the calls of bursts whose outcomes nobody has read yet
+        # The calls of bursts whose outcomes have not been read yet.
         self._unread = collections.deque()
         self._store = Store(path)
         self._let_go = weakref.finalize(self, let_go, self._library, self._handle, self._store)
@@ -164,27 +162,27 @@ class Agent:
         self.close()
 
     def close(self) -> None:
-        """Closes the agent and its file. One that is closed stays so; its calls raise ``AgentError`` with ``EMPTY``."""
+        """Closes the agent and its file. After that, calls raise ``AgentError`` with ``EMPTY``, and closing it again does nothing."""
         if os.getpid() != self._process:
-            # a thread that isn't here may have had the lock
+            # Don't wait for the lock: a thread that exists only in the parent process may have had it.
             self._let_go()
             return
         with self._lock:
             self._unread.clear()
             self._let_go()
 
-    # What every call goes through.
+    # Each call uses these.
 
     @contextlib.contextmanager
     def _alone(self) -> Iterator[None]:
-        """One call at a time, in the agent's own process."""
+        """Allows one call at a time, and only in the agent's own process."""
         if os.getpid() != self._process:
-            raise Forked("the agent is of another process, which forked this one")
+            raise Forked("the agent belongs to the process that forked this one")
         with self._lock:
             yield
 
     def _moment(self, now: int) -> int:
-        """A moment that is not before the last one of this thread."""
+        """Checks a moment, which must not be before this thread's previous one."""
         found, last = integer("now", now), getattr(self._last, "now", 0)
         if found < last:
             raise ValueError(f"now is {found}, which is before {last}: the clock went back")
@@ -197,14 +195,14 @@ class Agent:
             raise AgentError(code)
 
     def _do(self, name: str, *words: object) -> None:
-        """Does a call and brings what it wrote to the file, also where the call was refused."""
+        """Makes a call, and flushes what it left for the file, even if it was refused."""
         try:
             self._call(name, *words)
         finally:
             self._settle()
 
     def _forget(self, name: str, *words: object) -> None:
-        """Forgets what was added for a call that failed, by one that changes nothing and whose answer nobody wants."""
+        """Discards what was added for a call that failed, by a call that changes nothing and whose result is not read."""
         try:
             self._call(name, *words)
         except AgentError as error:
@@ -212,7 +210,7 @@ class Agent:
                 raise
 
     def _forget_filters(self) -> None:
-        """Forgets the filters of a query that failed, by one of no time, which is never fired."""
+        """Discards the filters of a query that failed, by a query with no timeout, which is refused."""
         if self._stale_filters:
             self._forget("query", 0, 0, *texts(name=b"", payload=b"", addr=b""), CParams())
             self._stale_filters = False
@@ -230,7 +228,7 @@ class Agent:
             raise
         self._call("written")
 
-    # Reading what a call gave.
+    # These read a call's result.
 
     def _gave(self) -> CGave:
         gave = CGave()
@@ -245,12 +243,12 @@ class Agent:
         return Event(about.time, name.raw, payload.raw, about.coalesce)
 
     def _merged(self) -> List[Event]:
-        """The events that a merge took, in order. One that didn't begin gave nothing, and what came before it stands."""
+        """The events that a merge accepted, in order. If it never began, there are none, and the library has an earlier result."""
         gave = self._gave()
         return [self._event(index) for index in range(gave.events)] if gave.kind == Kind.MERGED else []
 
     def _answer(self, packet: Buffer) -> Answer:
-        """What an ack's or a response's packet says."""
+        """What an ack's or a response's packet contains."""
         about = CAnswer()
         self._library.answer(*texts(packet=packet), about, None, 0, None, 0)
         sender, payload = (ctypes.create_string_buffer(length) for length in (about.from_len, about.payload_len))
@@ -258,7 +256,7 @@ class Agent:
         return Answer(about.time, about.id, sender.raw, payload.raw)
 
     def _packet(self, name: str = "packet") -> Optional[bytes]:
-        """A packet that the call gave, or None: the message itself, or this node's own ack."""
+        """The packet to send that the call made, or this node's own ack, or None if there is none."""
         length = ctypes.c_size_t()
         code = getattr(self._library, name)(self._handle, length, None, 0)
         if code == Code.NOTHING:
@@ -270,7 +268,7 @@ class Agent:
         return packet.raw
 
     def _handed(self, number: int) -> Handed:
-        """A query that was handed out and isn't answered yet."""
+        """A query that was handed out and is not answered yet."""
         about = CHanded()
         self._call("handed", number, about, *[None, 0] * 4)
         found = [ctypes.create_string_buffer(length) for length in (about.name_len, about.payload_len, about.source_len, about.addr_len)]
@@ -301,7 +299,7 @@ class Agent:
         return Closed(about.time, about.id, about.deadline, acks, responses)
 
     def _received(self, packet: Buffer) -> "Received":
-        """What came of a packet."""
+        """The result of a received packet."""
         gave = self._gave()
         event = self._event(0) if gave.events else None
         query = self._handed(gave.handed) if gave.handed else None
@@ -310,11 +308,11 @@ class Agent:
         return Received(Kind(gave.kind), Reason(gave.reason), event, query, ack, gave.rebroadcast, gave.foreign, answer)
 
     def _fired(self) -> "Fired":
-        """What a firing gave."""
+        """The result of a firing."""
         return Fired(self._event(0), self._packet())
 
     def _asked(self) -> "Asked":
-        """What a query gave."""
+        """The result of a query."""
         handed = self._gave().handed
         time = ctypes.c_uint64()
         self._call("asked_time", time)
@@ -323,10 +321,11 @@ class Agent:
     # Calls.
 
     def receive(self, now: int, packet: Buffer, tags_pass: bool = False) -> Received:
-        """Takes a packet of the network: ``Received``.
+        """Handles a packet from the network.
 
-        A query that has tag filters (``query_filters``) is handed out only where the host says that its tags pass each of
-        them, and its other filters let this node pass. Say True only where each could be read and passes.
+        ``tags_pass`` says whether this node's tags pass every tag filter of the packet's query, which ``query_filters`` returns.
+        If they do, and the other filters let this node pass, the query is handed out. Pass True only if every tag filter could be
+        read and passes. A host without tags passes False.
         """
         with self._alone():
             passing = flag("tags_pass", tags_pass)
@@ -334,16 +333,16 @@ class Agent:
             return self._received(packet)
 
     def fire(self, name: Buffer, payload: Buffer = b"", coalesce: bool = False) -> Fired:
-        """Fires an event: ``Fired``."""
+        """Fires an event."""
         with self._alone():
             self._do("fire", *texts(name=name, payload=payload), flag("coalesce", coalesce))
             return self._fired()
 
     def merge(self, packet: Buffer, join: bool = False) -> List[Event]:
-        """Merges another agent's whole state: the events that are handed out, in order. ``join`` where it is of a join.
+        """Merges another agent's whole state, and returns the events to hand out, in order. ``join`` says that it is a join.
 
-        Where it ends for want of memory (``AgentError`` with ``OUT_OF_MEMORY``), the events that entered before are in the
-        error's ``events``: handle them too.
+        If memory runs out (``AgentError`` with ``OUT_OF_MEMORY``), the error's ``events`` are those that the merge accepted
+        before. Handle them as well, since no later merge hands them out again.
         """
         with self._alone():
             try:
@@ -355,7 +354,7 @@ class Agent:
             return self._merged()
 
     def local_state(self, statuses: Iterable[Tuple[Buffer, int]] = (), left: Iterable[Buffer] = ()) -> bytes:
-        """This agent's whole state, to send: with (name, status time) of members, and the names of those that left."""
+        """Returns the packet with this agent's whole state, with the members' (name, status time) and the names that left."""
         with self._alone():
             named = [(*texts(name=name), integer("the status time", time)) for name, time in statuses]
             gone = [texts(name=name) for name in left]
@@ -386,9 +385,9 @@ class Agent:
         no_broadcast: bool = False,
         tags_pass: bool = False,
     ) -> Asked:
-        """Fires a query whose answers are taken for ``timeout`` nanoseconds: ``Asked``. ``id`` is a random number of 32 bits.
+        """Fires a query, and accepts answers for ``timeout`` nanoseconds. Choose ``id``, a number of 32 bits, at random.
 
-        ``tags_pass`` says that this node's tags pass each tag filter among the filters, so that it may be handed out here.
+        ``tags_pass`` says that this node's tags pass every tag filter in ``filters``, so that the query may be handed out here.
         """
         with self._alone():
             words, given = texts(name=name, payload=payload, addr=addr), [texts(filter=one) for one in filters]
@@ -403,7 +402,7 @@ class Agent:
             return self._asked()
 
     def burst(self) -> Burst:
-        """A burst, whose calls are made at the end of its block, and whose lines are brought to the disk at once: ``Burst``.
+        """Begins a burst. Its calls are made at the end of its block, with a single flush for all of their lines.
 
         ::
 
@@ -415,28 +414,28 @@ class Agent:
         return Burst(self)
 
     def unread_outcomes(self) -> int:
-        """How many outcomes of bursts nobody has read yet: those of a ``Burst.read`` that had no memory."""
+        """Returns how many outcomes of bursts are unread, because memory ran out while they were read."""
         with self._alone():
             found = ctypes.c_size_t()
             self._call("outcomes", found)
             return found.value
 
     def respond(self, now: int, number: int, payload: Buffer = b"") -> bytes:
-        """Answers a query that was handed out: the packet to send to its address and port."""
+        """Answers a query that was handed out. Returns the packet to send to the query's address and port."""
         with self._alone():
             words, which = texts(payload=payload), integer("number", number)
             self._do("respond", self._moment(now), which, *words)
             return self._packet()
 
     def forget(self, number: int) -> None:
-        """Forgets a query that was handed out and won't be answered: until it is answered or forgotten, it takes memory."""
+        """Forgets a query that won't be answered. Otherwise it takes memory until ``close_due`` finds that its deadline has passed."""
         with self._alone():
             self._do("forget_query", integer("number", number))
 
     def close_due(self, now: int) -> List[Closed]:
-        """Closes this agent's queries whose deadline is before ``now``: each ``Closed``, in the order in which they were fired.
+        """Closes this agent's queries whose deadline is before ``now``, and returns them in the order in which they were fired.
 
-        Queries that were handed out here, and whose deadline is before it, are forgotten.
+        Queries that were handed out here are forgotten if their deadline is before ``now``.
         """
         with self._alone():
             closed = ctypes.c_size_t()
@@ -444,12 +443,12 @@ class Agent:
             return [self._closed(index) for index in range(closed.value)]
 
     def observe_member(self, time: int) -> None:
-        """Observes the time of a member's word or status: the member clock is later than it from then on."""
+        """Observes the time of a member's intent or status. After that the member clock is later than this time."""
         with self._alone():
             self._do("observe_member", integer("time", time))
 
     def next_member_time(self) -> int:
-        """The time for a word of this node's own, as a ``Join``: its line is on the disk, so no later life takes it again."""
+        """Returns the time for an intent of this node. The clock is on the disk by then, so no later life uses this time again."""
         with self._alone():
             time = self.clocks().member
             self.observe_member(time)
@@ -457,24 +456,24 @@ class Agent:
             return time
 
     def save_member_clock(self) -> None:
-        """Notes the member clock, so that the next life goes on from there."""
+        """Appends the member clock to the file, so that the next life resumes from it."""
         with self._alone():
             self._do("save_member_clock")
 
     def compact(self) -> None:
-        """Replaces the file by one line of each clock."""
+        """Replaces the file's text by one line for each clock, and, if the settings keep events, the lines of what the buffers hold."""
         with self._alone():
             self._do("compact")
 
     def clocks(self) -> Clocks:
-        """The agent's clocks, and the least times that it takes."""
+        """Returns the agent's clocks, and the minimum times that it accepts."""
         with self._alone():
             found = CClocks()
             self._call("clocks", found)
             return Clocks(*(getattr(found, field) for field, _ in CClocks._fields_))
 
     def next_deadline(self) -> Optional[int]:
-        """The least deadline of this agent's open queries, or None."""
+        """Returns the earliest deadline of this agent's open queries, or None if none is open."""
         with self._alone():
             found = ctypes.c_uint64()
             code = self._library.next_deadline(self._handle, found)
@@ -485,14 +484,14 @@ class Agent:
             return found.value
 
     def open_queries(self) -> int:
-        """How many of this agent's own queries still take answers."""
+        """Returns how many of this agent's own queries still accept answers."""
         with self._alone():
             found = ctypes.c_size_t()
             self._call("open_queries", found)
             return found.value
 
     def should_compact(self, limit: int = DEFAULT_SNAPSHOT_LIMIT) -> bool:
-        """Whether the file has more bytes than ``limit``, and ``compact`` would take away at least half of them."""
+        """Returns whether the file has more than ``limit`` bytes, and ``compact`` would remove at least half of them."""
         with self._alone():
             found = ctypes.c_bool()
             self._call("should_compact", integer("limit", limit), found)

@@ -1,18 +1,18 @@
-"""Bursts: many calls, and one flush of the agent's file."""
+"""Bursts: many calls, with one flush of the agent's file."""
 
 import ctypes
 from dataclasses import dataclass
 from types import TracebackType
 from typing import Any, Callable, Iterable, List, Optional, Tuple, Type, Union
 
-# (agent.py imports this module: its names are looked up when a type is asked for)
+# agent.py imports this module, so its names can only be looked up later, when a function runs.
 from . import agent as agents
 from .checks import Buffer, flag, integer, texts
 from .library import AgentError, Code, CParams, DEFAULT_QUERY_TIMEOUT
 
 
 def c_params(timeout: int, port: int, relay_factor: int, want_ack: bool, no_broadcast: bool, tags_pass: bool) -> CParams:
-    """How a query is fired, in C."""
+    """The parameters of a query, as C's struct."""
     return CParams(
         integer("timeout", timeout, signed=True),
         integer("port", port, 16),
@@ -25,7 +25,7 @@ def c_params(timeout: int, port: int, relay_factor: int, want_ack: bool, no_broa
 
 @dataclass(frozen=True)
 class Call:
-    """A call of a burst: the library's name of it, its words, the filters before it, and how an agent reads what it gave."""
+    """A call of a burst: its name in the library, its arguments, the filters to add before it, and how an agent reads its result."""
 
     name: str
     words: Tuple[Any, ...]
@@ -34,15 +34,15 @@ class Call:
 
 
 class Burst:
-    """Calls that an agent makes one after another at the end of a ``with`` block, and whose lines are flushed once.
+    """Calls that an agent makes one after another at the end of a ``with`` block, with a single flush for all of their lines.
 
-    ``outcomes`` has what came of each call, in the order of the calls: ``Received``, ``Fired`` or ``Asked``, or the
-    ``AgentError`` of a call that was refused, such as of a packet that is no message. There is none before all lines are
-    on the disk. Where the block raises, no call is made.
+    ``outcomes`` has the outcome of each call, in the order of the calls: ``Received``, ``Fired`` or ``Asked``, or the
+    ``AgentError`` of a call that was refused, for example because its packet is no message. It is empty until all lines are on
+    the disk. If the block raises, no call is made.
 
-    Where memory is wanting, the block's end raises ``AgentError`` with ``OUT_OF_MEMORY``, and makes no further call:
-    ``outcomes`` has those of the calls before, which count. Where it has fewer than were made, ``read`` goes on. Where the
-    file fails (a ``StoreError``) the agent is closed, and there is no outcome.
+    If memory runs out, the block's end makes no further call, and raises ``AgentError`` with ``OUT_OF_MEMORY``. The outcomes
+    that ``outcomes`` has by then are valid. If they are fewer than the calls that were made, ``read`` reads the others. If the
+    file fails (a ``StoreError``), the agent is closed, and there are no outcomes.
     """
 
     def __init__(self, agent: "agents.Agent") -> None:
@@ -59,17 +59,17 @@ class Burst:
             self._make(calls)
 
     def __len__(self) -> int:
-        """How many calls wait for the block's end."""
+        """The number of calls that wait for the block's end."""
         return len(self._calls)
 
     def receive(self, now: int, packet: Buffer, tags_pass: bool = False) -> None:
-        """Takes a packet of the network, as ``Agent.receive`` does."""
+        """Adds a received packet. The arguments are those of ``Agent.receive``."""
         passing = flag("tags_pass", tags_pass)
         moment, (own, length) = self._agent._moment(now), texts(packet=packet)
         self._calls.append(Call("burst_receive", (moment, own, length, passing), lambda agent: agent._received(own)))
 
     def fire(self, name: Buffer, payload: Buffer = b"", coalesce: bool = False) -> None:
-        """Fires an event."""
+        """Adds an event to fire."""
         self._calls.append(Call("burst_fire", (*texts(name=name, payload=payload), flag("coalesce", coalesce)), lambda agent: agent._fired()))
 
     def query(
@@ -88,14 +88,14 @@ class Burst:
         no_broadcast: bool = False,
         tags_pass: bool = False,
     ) -> None:
-        """Fires a query, as ``Agent.query`` does."""
+        """Adds a query to fire. The arguments are those of ``Agent.query``."""
         words, given = texts(name=name, payload=payload, addr=addr), tuple(tuple(texts(filter=one)) for one in filters)
         how = c_params(timeout, port, relay_factor, want_ack, no_broadcast, tags_pass)
         moment, id = self._agent._moment(now), integer("id", id, 32)
         self._calls.append(Call("burst_query", (moment, id, *words, how), lambda agent: agent._asked(), given))
 
     def read(self) -> None:
-        """Reads the outcomes that wait, as the block's end does: where that had no memory for them."""
+        """Reads the outcomes that the block's end could not read because memory ran out."""
         agent, answered = self._agent, ctypes.c_uint32()
         with agent._alone():
             while agent._unread:
@@ -104,7 +104,7 @@ class Burst:
                 burst.outcomes.append(AgentError(answered.value) if answered.value else call.read(agent))
 
     def _make(self, calls: List[Call]) -> None:
-        """Makes the calls, brings their lines to the file at once, and reads what came of them."""
+        """Makes the calls, flushes their lines to the file together, and reads their outcomes."""
         agent = self._agent
         with agent._alone():
             agent._forget_filters()

@@ -9,13 +9,13 @@ WORDS = {
     Fault.EMPTY: "the packet is empty",
     Fault.UNKNOWN_TYPE: "no message has the type {byte}",
     Fault.TRUNCATED: "the packet ends inside the value at {offset}",
-    Fault.UNSUPPORTED: "the byte {byte:#x} at {offset} begins no value that is read",
-    Fault.TOO_DEEP: "the array or map at {offset} stands inside eight others",
+    Fault.UNSUPPORTED: "the byte {byte:#x} at {offset} doesn't begin a supported value",
+    Fault.TOO_DEEP: "the array or map at {offset} is inside eight others",
     Fault.TRAILING: "the value ends before {offset}, and more bytes follow",
-    Fault.NOT_A_MAP: "the value is no map",
+    Fault.NOT_A_MAP: "the value is not a map",
     Fault.BAD_KEY: "the key at {offset} is not raw",
-    Fault.TWICE: "the key at {offset} stands for the second time",
-    Fault.WRONG_KIND: "the value at {offset} is of another kind",
+    Fault.TWICE: "the key at {offset} appears for the second time",
+    Fault.WRONG_KIND: "the value at {offset} has the wrong type",
     Fault.OUT_OF_RANGE: "the integer at {offset} is out of range",
     Fault.GREATEST_TIME: "the number at {offset} is no time",
 }
@@ -23,9 +23,9 @@ WORDS = {
 
 @dataclass(frozen=True)
 class PacketFault:
-    """A packet's first fault. ``offset`` is in bytes from the packet's first byte, its type.
+    """The first fault of a packet that is no message. ``offset`` is in bytes from the packet's first byte, which is its type.
 
-    ``offset`` is 0 where the fault names no place, and ``byte`` where it names no byte.
+    ``offset`` is 0 if it has no place. ``byte`` is the byte in question (``UNKNOWN_TYPE``, ``UNSUPPORTED``), else 0.
     """
 
     kind: Fault
@@ -37,12 +37,12 @@ class PacketFault:
 
 
 def read_fault(getter: Callable[..., int], packet: Union[bytes, bytearray, memoryview]) -> Optional[PacketFault]:
-    """The fault that a getter of the library finds in a packet, or None."""
+    """Returns what a getter of the library finds wrong with a packet, or None."""
     found = CPacketFault()
     code = getter(bytes(packet), len(packet), found)
     return PacketFault(Fault(found.kind), found.offset, found.byte) if code == Code.OK else None
 
 
 def packet_fault(packet: Union[bytes, bytearray, memoryview], library: Optional[Library] = None) -> Optional[PacketFault]:
-    """Why a packet is no message: ``PacketFault``, or None where it is one. It needs no agent."""
+    """Returns why a packet is no message, or None if it is one. No agent is needed."""
     return read_fault((library or Library()).packet_fault, packet)

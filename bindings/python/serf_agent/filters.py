@@ -1,4 +1,4 @@
-"""The filters that a query has: which nodes it asks."""
+"""The filters of a query, which select the nodes that handle it."""
 
 import ctypes
 import struct
@@ -7,45 +7,45 @@ from typing import Optional, Tuple
 from .checks import as_bytes, Buffer, texts
 from .library import AgentError, CFilters, Code, Library
 
-# The first byte of a filter that asks for a tag. The agent knows no tags: ``Agent.receive`` is told whether they pass.
+# The first byte of a tag filter. The agent doesn't know its node's tags: see ``Agent.receive``.
 TAG_FILTER = 1
 
-# The first byte of a filter that asks for names.
+# The first byte of a filter by node names.
 NODE_FILTER = 0
 
 
 def head(count: int, short: int, least: int, middle: int, long: int) -> bytes:
-    """The head of a text or a list of so many bytes or items, in the shortest of MessagePack's three forms of it."""
+    """The head of a text or a list with ``count`` bytes or items, in the shortest of MessagePack's three forms."""
     if count < short:
         return bytes([least | count])
     return struct.pack(">BH", middle, count) if count < 1 << 16 else struct.pack(">BI", long, count)
 
 
 def raw(name: str, value: Buffer) -> bytes:
-    """A text as MessagePack's old form has it (raw 5, 16 or 32), as Serf writes it."""
+    """A text in MessagePack's old form (raw 5, 16 or 32), which Serf writes."""
     data = as_bytes(name, value)
     return head(len(data), 32, 0xA0, 0xDA, 0xDB) + data
 
 
 def node_filter(*names: Buffer) -> bytes:
-    """A filter that the nodes of these names pass, for ``Agent.query``."""
+    """Returns a filter for ``Agent.query`` that the nodes with these names pass."""
     return bytes([NODE_FILTER]) + head(len(names), 16, 0x90, 0xDC, 0xDD) + b"".join(raw("name", name) for name in names)
 
 
 def tag_filter(tag: Buffer, expression: Buffer) -> bytes:
-    """A filter that a node passes whose tag ``tag`` matches the expression somewhere, for ``Agent.query``.
+    """Returns a filter for ``Agent.query`` that a node passes if the expression matches a part of its tag.
 
-    Serf reads the expression by Go's package ``regexp``.
+    Serf reads the expression with Go's package ``regexp``.
     """
     fields = raw("key", b"Expr") + raw("expression", expression) + raw("key", b"Tag") + raw("tag", tag)
     return bytes([TAG_FILTER, 0x82]) + fields
 
 
 def query_filters(packet: Buffer, library: Optional[Library] = None) -> Optional[Tuple[bytes, ...]]:
-    """The filters that a query's packet has, in its order, or None where the packet is no query. It needs no agent."""
+    """Returns the filters of a query's packet, in order, or None if the packet is no query. No agent is needed."""
     library = library or Library()
     all, lens, filters = CFilters(), (ctypes.c_size_t * 0)(), ctypes.create_string_buffer(0)
-    # first the sizes, and then the filters
+    # The first call returns the sizes, the second the filters.
     for _ in range(2):
         lens, filters = (ctypes.c_size_t * all.filters)(), ctypes.create_string_buffer(all.filters_len)
         code = library.query_filters(*texts(packet=packet), all, lens, len(lens), filters, len(filters))

@@ -1,4 +1,4 @@
-"""Intents: a node's word that it joins, and the word that a node leaves."""
+"""Join and leave intents."""
 
 import ctypes
 from dataclasses import dataclass
@@ -10,10 +10,10 @@ from .library import AgentError, CIntent, Code, Library
 
 
 def written(getter: Callable[..., int], *words: Any) -> bytes:
-    """The packet that a call without an agent writes."""
+    """Returns the packet that a call without an agent makes."""
     length = ctypes.c_size_t()
     packet = b""
-    # first the length, and then the bytes
+    # The first call returns the length, the second the bytes.
     for _ in range(2):
         packet = ctypes.create_string_buffer(length.value)
         code = getter(*words, length, packet, len(packet))
@@ -24,33 +24,34 @@ def written(getter: Callable[..., int], *words: Any) -> bytes:
 
 @dataclass(frozen=True)
 class Join:
-    """A node's word that it joins, of a time of its member clock."""
+    """A join intent: the name of the node that joins, and a time of its member clock."""
 
     time: int
     node: bytes
 
     def packet(self, library: Optional[Library] = None) -> bytes:
-        """The packet to send. A time of 2^64 - 1 is none: ``AgentError`` with ``EXHAUSTED``."""
+        """Returns the packet to send. If the time is 2^64 - 1, which is no time: ``AgentError`` with ``EXHAUSTED``."""
         return written((library or Library()).join_packet, integer("time", self.time), *texts(node=self.node))
 
 
 @dataclass(frozen=True)
 class Leave:
-    """The word that a node leaves. ``prune`` says that the members are to forget it at once."""
+    """A leave intent. ``prune`` is True if the members are to forget the node at once."""
 
     time: int
     node: bytes
     prune: bool = False
 
     def packet(self, library: Optional[Library] = None) -> bytes:
-        """The packet to send. A time of 2^64 - 1 is none: ``AgentError`` with ``EXHAUSTED``."""
+        """Returns the packet to send. If the time is 2^64 - 1, which is no time: ``AgentError`` with ``EXHAUSTED``."""
         return written((library or Library()).leave_packet, integer("time", self.time), *texts(node=self.node), flag("prune", self.prune))
 
 
 def intent(packet: Buffer, library: Optional[Library] = None) -> Union[Join, Leave, None]:
-    """The intent that a packet is, ``Join`` or ``Leave``; None where it is another message, at which nobody looks.
+    """Returns a packet's intent, or None if the packet is another message, whose content is not checked. No agent is needed.
 
-    ``AgentError`` with ``NO_MESSAGE`` where it is no message, or a faulty intent: ``intent_fault`` says why. It needs no agent.
+    If the packet is no message, or a faulty intent, it raises ``AgentError`` with ``NO_MESSAGE``. ``intent_fault`` returns the
+    reason.
     """
     library = library or Library()
     about = CIntent()
@@ -66,5 +67,5 @@ def intent(packet: Buffer, library: Optional[Library] = None) -> Union[Join, Lea
 
 
 def intent_fault(packet: Buffer, library: Optional[Library] = None) -> Optional[PacketFault]:
-    """Why a packet is no intent: ``PacketFault``, or None where it is one, or another message. It needs no agent."""
+    """Returns why ``intent`` refuses a packet with ``NO_MESSAGE``, or None if it doesn't. No agent is needed."""
     return read_fault((library or Library()).intent_fault, packet)

@@ -1,4 +1,4 @@
-"""The shared library: its functions, structs and codes as include/serf_agent.h has them."""
+"""The shared library: its functions, structs and codes, as in include/serf_agent.h."""
 
 import ctypes
 import enum
@@ -13,7 +13,7 @@ OF_CLONE = os.path.join(HERE, "..", "..", "c", "out", "libserf_agent.so")
 
 
 class Code(enum.IntEnum):
-    """What a call answers."""
+    """What a call of the library returns."""
 
     OK = 0
     EMPTY = 1
@@ -35,31 +35,31 @@ class Code(enum.IntEnum):
     NOT_HANDED = 17
 
 
-# What each code says.
+# The message for each code.
 SENTENCES = {
-    Code.OK: "the call did what it should",
+    Code.OK: "ok",
     Code.EMPTY: "the agent is closed",
-    Code.IN_USE: "the handle has an agent already",
-    Code.UNWRITTEN: "bytes for the file aren't written yet",
-    Code.NOTHING: "there is no such thing",
-    Code.OUT_OF_MEMORY: "there was no memory",
-    Code.BAD_CONFIG: "a setting, or the node's name, is out of its bounds",
-    Code.SINK_FAULT: "the file failed",
-    Code.STOPPED: "the agent is stopped, since its file failed before",
+    Code.IN_USE: "the handle already has an agent",
+    Code.UNWRITTEN: "bytes for the file are pending",
+    Code.NOTHING: "there is no such item",
+    Code.OUT_OF_MEMORY: "out of memory",
+    Code.BAD_CONFIG: "the settings are out of bounds",
+    Code.SINK_FAULT: "the sink failed",
+    Code.STOPPED: "the agent is stopped",
     Code.TOO_LARGE: "the event, query or response is too large",
-    Code.EXHAUSTED: "the clock is at its end",
-    Code.NO_MESSAGE: "the packet is no message of Serf's",
-    Code.RESPONDERS_FULL: "the query has as many answers as it takes",
-    Code.NOT_PUSH_PULL: "the packet is no whole state",
+    Code.EXHAUSTED: "the clock is exhausted",
+    Code.NO_MESSAGE: "the packet is not a Serf message",
+    Code.RESPONDERS_FULL: "the query has as many answers as it accepts",
+    Code.NOT_PUSH_PULL: "the packet is not a push/pull",
     Code.TOO_LONG: "a text or a list is too long",
-    Code.NO_TIME: "the query's timeout is zero or less",
-    Code.PAST_DEADLINE: "the query takes no more answers",
-    Code.NOT_HANDED: "no query of this number waits for an answer",
+    Code.NO_TIME: "the query has no timeout",
+    Code.PAST_DEADLINE: "the deadline of the query has passed",
+    Code.NOT_HANDED: "no query with this number is waiting for an answer",
 }
 
 
 class Kind(enum.IntEnum):
-    """What a call gave."""
+    """What the result of a call is."""
 
     NOTHING = 0
     EVENT = 1
@@ -111,19 +111,20 @@ class Fault(enum.IntEnum):
     GREATEST_TIME = 12
 
 
-# How many bytes a file may have before it is worth a compaction: Serf's own number.
+# The size in bytes above which Serf compacts its snapshot.
 DEFAULT_SNAPSHOT_LIMIT = 131072
 
-# How long a query takes answers where no other time is given, in nanoseconds: Serf's own time in a cluster of 10 to 99
-# nodes, which is 16 of its gossip intervals of 0.2 seconds for each digit of the number of nodes.
+# How long a query accepts answers if the caller sets no timeout, in nanoseconds. It is Serf's timeout in a cluster of 10 to 99
+# nodes: 16 of its gossip intervals of 0.2 seconds for each digit of the number of nodes.
 DEFAULT_QUERY_TIMEOUT = 6_400_000_000
 
 
 class AgentError(Exception):
-    """A call was refused, with this code. It has changed nothing, but that a merge without memory keeps what it took.
+    """A call was refused with this code, and has changed nothing, except that a merge without memory keeps what it accepted.
 
-    ``events`` has what such a merge took: run their handlers, since no later merge hands them out again. Of a packet with
-    ``Code.NO_MESSAGE``, ``packet_fault`` says why. With ``Code.BAD_CONFIG`` the text names the setting.
+    ``events`` has the events that the merge accepted. Run their handlers, since no later merge hands them out again. If a packet
+    is refused with ``Code.NO_MESSAGE``, ``packet_fault`` returns the reason. With ``Code.BAD_CONFIG`` the message names the
+    setting.
     """
 
     def __init__(self, code: int, events: Iterable[Any] = (), said: str = "") -> None:
@@ -231,11 +232,11 @@ STRUCTS = {
 }
 
 HANDLE = POINTER(Handle)
-# what is lent to a call: any bytes, or room for bytes
+# A buffer that a call borrows: bytes to read, or room for bytes.
 DATA = c_void_p
 TEXT = [DATA, c_size_t]
 
-# The functions' arguments, by the rest of their names; each answers a code.
+# The types of the functions' arguments, by the names without "serf_agent_". Each function returns a code.
 FUNCTIONS = {
     "open": [HANDLE, *TEXT, POINTER(CSettings), *TEXT],
     "close": [HANDLE],
@@ -285,25 +286,25 @@ FUNCTIONS = {
 
 
 class NotLoaded(OSError):
-    """The shared library isn't there, or this system can't load it."""
+    """The shared library doesn't exist, or this system can't load it."""
 
 
 def found_at() -> str:
-    """The path of the shared library: as ``SERF_AGENT_LIBRARY`` says, or of the wheel, or of a clone's bindings/c/out."""
+    """The path of the shared library: the one in ``SERF_AGENT_LIBRARY``, the wheel's, or the one in a clone's bindings/c/out."""
     named = os.environ.get("SERF_AGENT_LIBRARY")
     if named:
         return named
     for path in (OF_WHEEL, OF_CLONE):
         if os.path.exists(path):
             return path
-    raise NotLoaded("serf_agent: there is no libserf_agent.so beside the package: install the wheel, or name it by SERF_AGENT_LIBRARY")
+    raise NotLoaded("serf_agent: there is no libserf_agent.so in the package: install the wheel, or set SERF_AGENT_LIBRARY to the library")
 
 
 def loaded(path: str) -> ctypes.CDLL:
-    """The shared library at a path."""
+    """Loads the shared library at a path."""
     system, machine = platform.system(), platform.machine()
     if (system, machine) != ("Linux", "x86_64"):
-        raise NotLoaded(f"serf_agent: the library is for Linux on x86-64, and this is {system} on {machine}")
+        raise NotLoaded(f"serf_agent: the library is for Linux on x86-64, and this system is {system} on {machine}")
     try:
         return ctypes.CDLL(path)
     except OSError as error:
@@ -312,7 +313,7 @@ def loaded(path: str) -> ctypes.CDLL:
 
 
 class Library:
-    """The shared library's functions, typed. They let other threads run meanwhile. ``NotLoaded`` says why there is none."""
+    """The shared library's functions, with their types. Other threads run during a call. If it can't be loaded: ``NotLoaded``."""
 
     def __init__(self, path: Optional[str] = None) -> None:
         found = loaded(path or found_at())

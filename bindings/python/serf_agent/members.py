@@ -1,4 +1,4 @@
-"""The members that another agent's whole state names."""
+"""The members in another agent's whole state."""
 
 import ctypes
 from dataclasses import dataclass
@@ -10,7 +10,7 @@ from .library import AgentError, CMember, CMembers, Code, Library
 
 @dataclass(frozen=True)
 class Members:
-    """What a push/pull says of members: the sender's member clock, names with the times of their status, and who left."""
+    """What a push/pull says about members: the sender's member clock, names with their status times, and the names that left."""
 
     member_clock: int
     statuses: Tuple[Tuple[bytes, int], ...]
@@ -18,13 +18,13 @@ class Members:
 
 
 def state_members(packet: Buffer, library: Optional[Library] = None) -> Optional[Members]:
-    """What a push/pull's packet says of members: ``Members``, or None where the packet is none. It needs no agent.
+    """Returns what a push/pull's packet says about members, or None if the packet is not a push/pull. No agent is needed.
 
-    ``Agent.merge`` takes the same packet, whose events are its own.
+    ``Agent.merge`` handles the events of the same packet.
     """
     library = library or Library()
     all, named, names = CMembers(), (CMember * 0)(), ctypes.create_string_buffer(0)
-    # first the sizes, and then the members
+    # The first call returns the sizes, the second the members.
     for _ in range(2):
         named, names = (CMember * all.members)(), ctypes.create_string_buffer(all.names_len)
         code = library.state_members(*texts(packet=packet), all, named, len(named), names, len(names))

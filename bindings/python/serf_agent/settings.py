@@ -2,7 +2,7 @@
 
 from dataclasses import dataclass
 
-# From where to where each setting goes, as the header says.
+# The minimum and the maximum of each setting, as in the header.
 BOUNDS = {
     **dict.fromkeys(("event_buffer", "query_buffer", "responders", "per_time"), (1, 65_536)),
     **dict.fromkeys(("event_limit", "query_limit", "response_limit"), (0, 9_216)),
@@ -12,12 +12,18 @@ NAME_BOUNDS = (1, 128)
 
 @dataclass(frozen=True)
 class Settings:
-    """How many times are kept, the greatest sizes of what is sent, and what is taken of one query and one time.
+    """An agent's settings. The default values are Serf's.
 
-    The sizes are in bytes, 9,216 at most: of a fired event, of a fired query's packet, and of a response's packet. Of the
-    last two 0 stands for 1,024.
+    ``event_buffer`` and ``query_buffer`` are how many Lamport times of events, and of queries, the buffers hold: 1 to 65,536.
 
-    With ``keep_events`` the file keeps events and queries, and a restart goes on with those that the buffers held.
+    ``event_limit``, ``query_limit`` and ``response_limit`` are the maximum sizes in bytes of a fired event, of a fired query's
+    packet, and of a response's packet: at most 9,216. For the last two, 0 stands for 1,024.
+
+    ``responders`` is how many names are counted among a query's acks, and among its responses. ``per_time`` is how many events,
+    or queries, are accepted with the same Lamport time. Both are 1 to 65,536.
+
+    With ``ignore_old`` a join ignores the events from before it. With ``keep_events`` the file keeps events and queries, so that
+    a restart resumes with those that the buffers held.
     """
 
     event_buffer: int = 512
@@ -32,10 +38,10 @@ class Settings:
 
 
 def out_of_bounds(name: bytes, settings: Settings) -> str:
-    """The first that is out of its bounds, in words: the node's name, or a setting. Nothing where each is within."""
+    """Describes the first that is out of its bounds: the node's name, or a setting. It is empty if none is."""
     if not NAME_BOUNDS[0] <= len(name) <= NAME_BOUNDS[1]:
-        return f"name has {len(name)} bytes, and has to have {NAME_BOUNDS[0]} to {NAME_BOUNDS[1]}"
+        return f"the name has {len(name)} bytes, and must have {NAME_BOUNDS[0]} to {NAME_BOUNDS[1]}"
     for field, (least, greatest) in BOUNDS.items():
         if not least <= getattr(settings, field) <= greatest:
-            return f"{field} is {getattr(settings, field)}, and has to be from {least} to {greatest}"
+            return f"{field} is {getattr(settings, field)}, and must be between {least} and {greatest}"
     return ""

@@ -8,35 +8,35 @@ import stat
 import weakref
 from typing import Iterator, Union
 
-# What names a file.
+# The types of a file's path.
 Path = Union[str, bytes, "os.PathLike[str]", "os.PathLike[bytes]"]
 
-# How often an opening begins anew, because the file was replaced between its opening and its lock.
+# How often opening starts again because the file was replaced between its opening and its lock.
 TRIES = 100
 
 
 class StoreError(Exception):
-    """The file can't be opened, read or written; the system's error, where there is one, is its cause."""
+    """The file can't be opened, read or written. If the system reported an error, it is the cause (``__cause__``)."""
 
 
 class Locked(StoreError):
-    """Another store, here or in another process, has the file."""
+    """Another store, in this process or another one, has locked the file."""
 
 
 class MissingFolder(StoreError):
-    """The folder in which the file is to stand isn't there."""
+    """The folder that should contain the file doesn't exist."""
 
 
 class NotAFile(StoreError):
-    """The path names a folder, a device or anything else that is no plain file."""
+    """The path is a folder, a device or anything else that is not a regular file."""
 
 
 class ReadOnly(StoreError):
-    """The file, its folder or its disk may not be written."""
+    """The file, its folder or its file system is not writable."""
 
 
 class Full(StoreError):
-    """The disk, or the share of it that this user may take, is full."""
+    """The disk, or this user's quota, is full."""
 
 
 class Broken(StoreError):
@@ -61,7 +61,7 @@ FAULTS = {
 
 @contextlib.contextmanager
 def named(path: Union[str, bytes]) -> Iterator[None]:
-    """Raises a fault of the system by its name."""
+    """Turns the system's error into the ``StoreError`` for it."""
     try:
         yield
     except OSError as error:
@@ -69,7 +69,7 @@ def named(path: Union[str, bytes]) -> Iterator[None]:
 
 
 def real_path(path: Union[str, bytes]) -> Union[str, bytes]:
-    """The path without links; where it names no file, without those of its folder."""
+    """The path without symbolic links. If the file doesn't exist, its folder's links are resolved."""
     if os.path.exists(path):
         return os.path.realpath(path)
     return os.path.join(os.path.realpath(os.path.dirname(path)), os.path.basename(path))
@@ -86,7 +86,7 @@ STORES = weakref.WeakSet()
 
 
 def close_all() -> None:
-    """Closes a forked child's copies of the files: so the lock is the parent's alone, and ends with it."""
+    """Closes a forked child's copies of the files, so that only the parent has the lock, and the lock ends with it."""
     for store in list(STORES):
         store.close()
 
@@ -95,15 +95,15 @@ os.register_at_fork(after_in_child=close_all)
 
 
 class Store:
-    """The snapshot's file, opened or made, and locked: one store at a time has it.
+    """The snapshot's file, which is created if it doesn't exist. It is locked, so only one store at a time has it open.
 
-    The system gives the lock free where the process ends, however it ends. A child that is forked by ``os.fork`` closes its
-    copy of the file at once, and one that is begun by ``exec`` gets none. A replacement writes ``FILE.new`` beside the
-    file, brings it to the disk and renames it, so a crash leaves the old text or the new one; what a crash left of
-    ``FILE.new`` is removed by the next opening. After a fault in an append or a replacement the store is broken: it takes
-    no more bytes until it is opened again, and its agent with it.
+    The system releases the lock when the process ends, however it ends. A child that is forked by ``os.fork`` closes its
+    copy of the file at once, and a program that is run by ``exec`` gets none. A replacement writes ``FILE.new`` next to the
+    file, flushes it and renames it, so a crash leaves the old text or the new one. The next opening removes a ``FILE.new`` that
+    a crash left. After an error in an append or a replacement the store is broken: it accepts no more bytes until it, and the
+    agent with it, is opened again.
 
-    No contract speaks of it; tests/library/embed.py tests it.
+    The store is not proved. tests/library/embed.py tests it.
     """
 
     def __init__(self, path: Path) -> None:
@@ -122,30 +122,30 @@ class Store:
                 raise
 
     def _open_file(self) -> None:
-        """Opens and locks the file that the name names now."""
+        """Opens and locks the file that has the name now."""
         how = os.O_RDWR | os.O_APPEND | os.O_CREAT | os.O_NOFOLLOW | os.O_NONBLOCK
         for _ in range(TRIES):
             self._file = os.open(self._name, how, 0o600, dir_fd=self._folder)
             own = os.fstat(self._file)
             if not stat.S_ISREG(own.st_mode):
-                raise OSError(errno.EISDIR, "it is no plain file")
+                raise OSError(errno.EISDIR, "it is not a regular file")
             fcntl.flock(self._file, fcntl.LOCK_EX | fcntl.LOCK_NB)
             with contextlib.suppress(FileNotFoundError):
                 if os.path.samestat(own, os.stat(self._name, dir_fd=self._folder, follow_symlinks=False)):
                     return
             os.close(self._file)
             self._file = None
-        raise OSError(errno.EWOULDBLOCK, "it is replaced all the time")
+        raise OSError(errno.EWOULDBLOCK, f"it was replaced during each of {TRIES} attempts to open it")
 
     def _settle(self) -> None:
-        """Removes what a crash left of a replacement, and brings what is there to the disk."""
+        """Removes what a crash left of a replacement, and flushes the file and its folder."""
         with contextlib.suppress(FileNotFoundError):
             os.unlink(self._name + ".new", dir_fd=self._folder)
         os.fsync(self._file)
         os.fsync(self._folder)
 
     def read(self) -> bytes:
-        """All of the file: the text on which an agent is opened."""
+        """Returns the whole file, which is the text on which an agent is opened."""
         if self._file is None:
             raise Broken(f"{self.path}: the store is closed")
         with named(self.path):
@@ -157,7 +157,7 @@ class Store:
 
     @contextlib.contextmanager
     def _breaking(self) -> Iterator[None]:
-        """What is done within leaves the store broken where it fails."""
+        """Marks the store as broken if its block fails."""
         if self._file is None or self._is_broken:
             raise Broken(f"{self.path}: an earlier call failed, or the store is closed")
         self._is_broken = True
@@ -166,14 +166,14 @@ class Store:
         self._is_broken = False
 
     def append(self, data: bytes) -> None:
-        """Appends these bytes and brings them to the disk. Does nothing where there are none."""
+        """Appends these bytes and flushes them to the disk. It does nothing if there are none."""
         with self._breaking():
             if data:
                 write_all(self._file, data)
                 os.fdatasync(self._file)
 
     def replace(self, data: bytes) -> None:
-        """Replaces all of the file by these bytes, on the disk."""
+        """Replaces the file's content by these bytes, durably."""
         with self._breaking():
             beside = self._name + ".new"
             file = os.open(beside, os.O_RDWR | os.O_APPEND | os.O_CREAT | os.O_EXCL, 0o600, dir_fd=self._folder)
@@ -192,7 +192,7 @@ class Store:
             os.fsync(self._folder)
 
     def close(self) -> None:
-        """Gives the lock free. A store that is closed stays so."""
+        """Releases the lock. Closing a closed store does nothing."""
         for file in (self._file, self._folder):
             if file is not None:
                 os.close(file)

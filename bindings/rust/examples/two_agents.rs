@@ -1,9 +1,9 @@
-//! Two agents in one process, joined by hand: an event is fired, comes twice, its agent crashes and comes back, and nothing is
-//! handed out twice. A query is answered, and closed.
+//! Two agents in one process, which the program joins by hand. An event is fired and arrives twice. Its receiver crashes and
+//! restarts, and nothing is handed out twice. Then a query is answered and closed.
 //!
 //!     cargo run --example two_agents FOLDER
 //!
-//! FOLDER gets the two snapshots. Where they are there already, the agents go on from them.
+//! The two snapshots are in FOLDER. If they exist already, the agents resume from them.
 
 use serf_agent::{Agent, Error, Event, Outcome, QueryParams, Reason, Settings};
 use std::path::Path;
@@ -50,7 +50,7 @@ impl Node {
         Ok(())
     }
 
-    /// This node asks, the other acks and answers.
+    /// This node fires a query, and the other acks and answers it.
     fn ask(&mut self, other: &mut Node, now: u64, name: &str, answer: &str) -> Result<(), Error> {
         let params = QueryParams { timeout: 1000, want_ack: true, ..QueryParams::default() };
         let asked = self.agent.query(now, 7, name.as_bytes(), b"", &params)?;
@@ -62,7 +62,7 @@ impl Node {
         Ok(())
     }
 
-    /// Closes what is due, and prints the answers.
+    /// Closes the queries that are due, and prints their answers.
     fn close_due(&mut self, now: u64) -> Result<(), Error> {
         for closed in self.agent.close_due(now)? {
             for node in &closed.acks {
@@ -88,7 +88,7 @@ fn main() -> Result<(), Box<dyn std::error::Error>> {
     beta.deliver(1, &packet)?;
     beta.deliver(2, &packet)?;
 
-    // nothing is left of it but its file
+    // Only its file is left.
     drop(beta);
     let mut beta = Node::open("beta", folder)?;
     println!("beta crashed, and is back at {}", beta.agent.clocks()?.event);

@@ -1,4 +1,4 @@
-//! An agent over the library and a snapshot's file.
+//! An agent that keeps its snapshot in a file.
 
 mod burst;
 mod closing;
@@ -15,7 +15,7 @@ use std::path::Path;
 pub use burst::{Call, CallOutcome, Outcomes};
 pub use closing::{Closed, DEFAULT_SNAPSHOT_LIMIT};
 
-/// What an ack's or a response's packet says.
+/// What an ack's or a response's packet contains.
 fn answer_of(packet: &[u8]) -> Result<Answer, Error> {
     let mut about = raw::Answer::default();
     let (mut from, mut payload) = (Vec::new(), Vec::new());
@@ -37,15 +37,16 @@ fn answer_of(packet: &[u8]) -> Result<Answer, Error> {
     Ok(Answer { time: about.time, id: about.id, from, payload })
 }
 
-/// A getter of a packet: the message itself, or this node's own ack.
+/// A getter of a packet to send: the one that the call made, or this node's own ack.
 type Getter = unsafe extern "C" fn(*mut raw::Handle, *mut usize, *mut u8, usize) -> u32;
 const PACKET: Getter = raw::serf_agent_packet;
 const OWN_ACK: Getter = raw::serf_agent_ack;
 
-/// What `serf_agent_gave` says of a merge.
+/// The kind that `serf_agent_gave` returns after a merge.
 const MERGED: u32 = 10;
 
-/// What a call that forgets what was added for one that failed has done: each forgets it, but for want of memory.
+/// Returns an error if a call has not discarded the filters or members that were left for it. Every call discards them unless
+/// memory runs out.
 fn forgotten(answer: Result<(), Error>) -> Result<(), Error> {
     match answer {
         Err(Error::Refused(code)) if code != Code::OutOfMemory => Ok(()),
@@ -53,23 +54,24 @@ fn forgotten(answer: Result<(), Error>) -> Result<(), Error> {
     }
 }
 
-/// A proved agent whose snapshot is a file. Dropping it closes both.
+/// A proved agent with its snapshot. Dropping it closes the agent and the file.
 pub struct Agent {
-    // in a box, since the library is promised that nobody copies it
+    // In a box, because a handle must never be copied or moved.
     handle: Box<raw::Handle>,
     store: Store,
-    // whether a call that failed may have left filters, or members, which the next one would take
+    // Whether a call that failed may have left filters, or members, that the library would add to the next call.
     stale_filters: bool,
     stale_members: bool,
-    // the calls of bursts whose outcomes nobody has read yet
+    // The calls of bursts whose outcomes have not been read yet.
     unread: VecDeque<burst::Made>,
 }
 
-// SAFETY: the library keeps nothing of a thread's own, and `&mut` lets one thread at a time through.
+// SAFETY: the library has no state per thread, and `&mut` allows one thread at a time.
 unsafe impl Send for Agent {}
 
 impl Agent {
-    /// Opens the file, or makes it, and an agent of this name on its text.
+    /// Opens or creates the file at `path`, and opens an agent with this name on its text. If a setting is out of its bounds, the
+    /// error is [`Error::Setting`].
     pub fn open(name: &[u8], path: impl AsRef<Path>, settings: Settings) -> Result<Agent, Error> {
         let store = Store::open(path)?;
         let text = store.read()?;
@@ -97,7 +99,7 @@ impl Agent {
         }
     }
 
-    /// Does a call, and brings what it wrote to the file, also where it was refused.
+    /// Makes a call, and flushes what it left for the file, even if it was refused.
     fn settled(&mut self, call: impl FnOnce(&mut raw::Handle) -> u32) -> Result<(), Error> {
         let code = call(&mut self.handle);
         self.settle()?;
@@ -106,7 +108,7 @@ impl Agent {
 
     fn settle(&mut self) -> Result<(), Error> {
         let mut about = raw::Bytes::default();
-        // SAFETY: no room is given.
+        // SAFETY: with room for 0 bytes, the library writes nothing there.
         if unsafe { raw::serf_agent_unwritten(&mut *self.handle, &mut about, std::ptr::NonNull::dangling().as_ptr(), 0) } != 0 {
             return Ok(());
         }
@@ -140,7 +142,7 @@ impl Agent {
 
     fn event(&mut self, index: usize) -> Result<Event, Error> {
         let (mut about, mut name, mut payload) = (raw::Event::default(), Vec::new(), Vec::new());
-        // first the lengths, and then the texts
+        // The first call returns the lengths, the second the texts.
         for _ in 0..2 {
             name = vec![0; about.name_len];
             payload = vec![0; about.payload_len];
@@ -174,7 +176,7 @@ impl Agent {
         Ok(Some(packet))
     }
 
-    /// The packet of a call that gives one.
+    /// The packet of a call that made one.
     fn own_packet(&mut self) -> Result<Vec<u8>, Error> {
         self.packet(PACKET)?.ok_or(Error::Refused(Code::Nothing))
     }
@@ -211,17 +213,18 @@ impl Agent {
         Ok(Some(Handed { number, time, id, name, payload, source, addr, port, relay_factor, deadline }))
     }
 
-    /// Takes a packet of the network, where the host says whether its tags pass every tag filter of the packet's query, as
-    /// [`crate::query_filters`] gives them: then the query is handed out where its other filters let this node pass.
+    /// Handles a packet from the network.
     ///
-    /// Say `true` only where each of them could be read and passes; a host without tags says `false`.
+    /// `tags_pass` says whether this node's tags pass every tag filter of the packet's query, which [`crate::query_filters`]
+    /// returns. If they do, and the other filters let this node pass, the query is handed out. Pass `true` only if every tag
+    /// filter could be read and passes. A host without tags passes `false`.
     pub fn receive(&mut self, now: u64, packet: &[u8], tags_pass: bool) -> Result<Received, Error> {
         // SAFETY: the pointer comes with its length.
         self.settled(|handle| unsafe { raw::serf_agent_receive(handle, now, packet.as_ptr(), packet.len(), tags_pass) })?;
         self.received(packet)
     }
 
-    /// What came of a packet.
+    /// The result of a received packet.
     fn received(&mut self, packet: &[u8]) -> Result<Received, Error> {
         let gave = self.gave()?;
         let outcome = match gave.kind {
@@ -246,21 +249,23 @@ impl Agent {
         self.fired()
     }
 
-    /// What a firing gave.
+    /// The result of a firing.
     fn fired(&mut self) -> Result<Fired, Error> {
         Ok(Fired { event: self.event(0)?, packet: self.own_packet()? })
     }
 
-    /// The events that a merge took, in order. One that didn't begin gave nothing, and what came before it stands.
+    /// The events that a merge accepted, in order. If the merge was refused before it began, there are none: the library then
+    /// still has the result of the call before.
     fn merged(&mut self) -> Result<Vec<Event>, Error> {
         let gave = self.gave()?;
         let count = if gave.kind == MERGED { gave.events } else { 0 };
         (0..count).map(|index| self.event(index)).collect()
     }
 
-    /// Merges another agent's whole state: the events that are handed out, in order.
+    /// Merges another agent's whole state. Returns the events to hand out, in order.
     ///
-    /// Where it ends for want of memory, [`Error::MergedInPart`] has the events that entered before: handle them too.
+    /// If memory runs out, [`Error::MergedInPart`] has the events that the merge accepted before. Handle them as well, since no
+    /// later merge hands them out again.
     pub fn merge(&mut self, packet: &[u8], is_join: bool) -> Result<Vec<Event>, Error> {
         // SAFETY: the pointer comes with its length.
         match self.settled(|handle| unsafe { raw::serf_agent_merge(handle, packet.as_ptr(), packet.len(), is_join) }) {
@@ -275,10 +280,10 @@ impl Agent {
         self.settled(|handle| unsafe { raw::serf_agent_local_state(handle) })
     }
 
-    /// This agent's whole state, to send: with the status times of members, and the names of those that left.
+    /// Returns the packet with this agent's whole state, with the members' status times and the names of the members that left.
     pub fn local_state(&mut self, statuses: &[(&[u8], u64)], left: &[&[u8]]) -> Result<Vec<u8>, Error> {
         if self.stale_members {
-            // a state that nobody reads
+            // This state is not read.
             forgotten(self.make_state())?;
         }
         self.stale_members = !statuses.is_empty() || !left.is_empty();
@@ -327,7 +332,7 @@ impl Agent {
         self.asked()
     }
 
-    /// Forgets the filters of a query that failed, by one of no time, which is never fired.
+    /// Forgets the filters of a query that failed, by a query with no timeout, which is refused.
     fn forget_filters(&mut self) -> Result<(), Error> {
         if self.stale_filters {
             forgotten(self.ask(0, 0, b"", b"", b"", &raw::Params::default()))?;
@@ -336,7 +341,7 @@ impl Agent {
         Ok(())
     }
 
-    /// What a query gave.
+    /// The result of a query.
     fn asked(&mut self) -> Result<Asked, Error> {
         let number = self.gave()?.handed;
         let mut time = 0;
@@ -345,28 +350,28 @@ impl Agent {
         Ok(Asked { time, packet: self.own_packet()?, handed: self.handed(number)?, ack: self.packet(OWN_ACK)? })
     }
 
-    /// Answers a query that was handed out: the packet to send to its address and port.
+    /// Answers a query that was handed out. Returns the packet to send to the query's address and port.
     pub fn respond(&mut self, now: u64, number: u64, payload: &[u8]) -> Result<Vec<u8>, Error> {
         // SAFETY: the pointer comes with its length.
         self.settled(|handle| unsafe { raw::serf_agent_respond(handle, now, number, payload.as_ptr(), payload.len()) })?;
         self.own_packet()
     }
 
-    /// Forgets a query that was handed out and won't be answered: until it is answered or forgotten, or
-    /// [`Agent::close_due`] finds its deadline past, it takes memory.
+    /// Forgets a query that was handed out and won't be answered. A query takes memory until it is answered or forgotten, or
+    /// until [`Agent::close_due`] finds that its deadline has passed.
     pub fn forget(&mut self, number: u64) -> Result<(), Error> {
         // SAFETY: the handle is the agent's own.
         self.settled(|handle| unsafe { raw::serf_agent_forget_query(handle, number) })
     }
 
-    /// Observes the time of a member's word or status: the member clock is later than it from then on.
+    /// Observes the time of a member's intent or status. After that the member clock is later than this time.
     pub fn observe_member(&mut self, time: u64) -> Result<(), Error> {
         // SAFETY: the handle is the agent's own.
         self.settled(|handle| unsafe { raw::serf_agent_observe_member(handle, time) })
     }
 
-    /// The time for a word of this node's own, as an [`crate::Intent`]: its line is on the disk, so no later life takes it
-    /// again.
+    /// Returns the time for an intent of this node ([`crate::Intent`]). The member clock is on the disk by then, so no later life
+    /// of the agent uses this time again.
     pub fn next_member_time(&mut self) -> Result<u64, Error> {
         let time = self.clocks()?.member;
         self.observe_member(time)?;
@@ -374,19 +379,19 @@ impl Agent {
         Ok(time)
     }
 
-    /// Notes the member clock, so that the next life goes on from there.
+    /// Appends the member clock to the file, so that the next life resumes from it.
     pub fn save_member_clock(&mut self) -> Result<(), Error> {
         // SAFETY: the handle is the agent's own.
         self.settled(|handle| unsafe { raw::serf_agent_save_member_clock(handle) })
     }
 
-    /// Replaces the file by one line of each clock.
+    /// Replaces the file's text by one line for each clock, and, if the settings keep events, the lines of what the buffers hold.
     pub fn compact(&mut self) -> Result<(), Error> {
         // SAFETY: the handle is the agent's own.
         self.settled(|handle| unsafe { raw::serf_agent_compact(handle) })
     }
 
-    /// The agent's clocks, and the least times that it takes.
+    /// Returns the agent's clocks, and the minimum times that it accepts.
     pub fn clocks(&mut self) -> Result<Clocks, Error> {
         let mut found = raw::Clocks::default();
         // SAFETY: `found` is of the type that the library writes.
@@ -395,7 +400,7 @@ impl Agent {
         Ok(Clocks { member, event, query, event_minimum, query_minimum })
     }
 
-    /// The least deadline of this agent's open queries.
+    /// Returns the earliest deadline of this agent's open queries, or `None` if none is open.
     pub fn next_deadline(&mut self) -> Result<Option<u64>, Error> {
         let mut deadline = 0;
         // SAFETY: `deadline` is of the type that the library writes.
@@ -405,7 +410,7 @@ impl Agent {
         }
     }
 
-    /// How many of this agent's own queries still take answers.
+    /// Returns how many of this agent's own queries still accept answers.
     pub fn open_queries(&mut self) -> Result<usize, Error> {
         let mut open = 0;
         // SAFETY: `open` is of the type that the library writes.
@@ -422,7 +427,7 @@ impl fmt::Debug for Agent {
 
 impl Drop for Agent {
     fn drop(&mut self) {
-        // SAFETY: the handle is the agent's own; one that is empty stays so.
+        // SAFETY: the handle is the agent's own. Closing an empty handle does nothing.
         unsafe { raw::serf_agent_close(&mut *self.handle) };
     }
 }

@@ -1,4 +1,4 @@
-//! Why a call isn't done.
+//! Why a call failed.
 
 use crate::outcome::Event;
 use crate::store::StoreError;
@@ -7,39 +7,39 @@ use crate::store::StoreError;
 #[derive(Clone, Copy, Debug, PartialEq, Eq)]
 #[non_exhaustive]
 pub enum Code {
-    /// The agent was closed, since its file failed.
+    /// The agent was closed, because its file failed.
     Empty,
-    /// An opening of a handle that has an agent: never by this crate.
+    /// The handle already has an agent. This crate never causes it.
     InUse,
-    /// Bytes for the file aren't written yet: never by this crate, which writes them in the call.
+    /// Bytes for the file are pending. This crate never causes it, because each call writes them.
     Unwritten,
-    /// The last call gave no such thing.
+    /// The last call has no such result.
     Nothing,
-    /// There is no memory. Nothing was done, but that a merge keeps what it took ([`Error::MergedInPart`]).
+    /// Memory ran out. Nothing was done, except that a merge keeps what it accepted ([`Error::MergedInPart`]).
     OutOfMemory,
-    /// The settings are out of their bounds, or the name has no bytes or more than 128.
+    /// A setting is out of its bounds, or the name is empty or longer than 128 bytes.
     BadConfig,
-    /// The agent's sink failed: never with this library, whose sink is memory.
+    /// The agent's sink failed. It never does with this library, whose sink is memory.
     SinkFault,
-    /// The agent's sink failed before: never with this library.
+    /// The agent's sink failed before. It never does with this library.
     Stopped,
     /// The event, the query or the response is larger than its limit.
     TooLarge,
-    /// The clock stands at 2^64 - 1.
+    /// The clock is at 2^64 - 1, or this was given as a time, which it is not.
     Exhausted,
-    /// The packet is no message: [`crate::packet_fault`] says why.
+    /// The packet is no message. [`crate::packet_fault`] returns the reason.
     NoMessage,
-    /// An answer of a new name, where as many names as the settings allow are counted.
+    /// The query has as many answers as the settings allow, and this one is from another node.
     RespondersFull,
-    /// A merge of a message of another kind.
+    /// The packet to merge is not a push/pull.
     NotPushPull,
-    /// A text or a list of a state is longer than 4,294,967,295.
+    /// A text or a list is longer than 4,294,967,295.
     TooLong,
-    /// A query's timeout is 0 or below.
+    /// The query's timeout is 0 or negative.
     NoTime,
-    /// A response after the query's deadline.
+    /// The response is after the query's deadline.
     PastDeadline,
-    /// No query of this number is handed out and not yet answered.
+    /// No query with this number is waiting for an answer.
     NotHanded,
     /// A code that this crate doesn't know.
     Other(u32),
@@ -65,24 +65,23 @@ const CODES: [Code; 17] = [
     Code::NotHanded,
 ];
 
-/// Why a call isn't done.
+/// Why a call failed.
 #[derive(Debug)]
 pub enum Error {
-    /// The library refused it, and nothing has changed.
+    /// The library refused the call, and nothing has changed.
     Refused(Code),
-    /// The library refused an opening ([`Code::BadConfig`]), since this setting, or the name's length, is out of its bounds.
+    /// The library refused to open an agent ([`Code::BadConfig`]), because this setting, or the name's length, is out of its bounds.
     Setting {
         /// The setting's field, or `name`.
         field: &'static str,
-        /// What it is.
+        /// Its value, or the name's length in bytes.
         is: u64,
-        /// The least that it may be.
+        /// The minimum.
         least: u64,
-        /// The greatest that it may be.
+        /// The maximum.
         greatest: u64,
     },
-    /// A merge ran out of memory. These events entered before it did: run their handlers, since no later merge hands them out
-    /// again.
+    /// A merge ran out of memory. It accepted these events before: run their handlers, since no later merge hands them out again.
     MergedInPart(Vec<Event>),
     /// The file failed, and the agent is closed.
     Store(StoreError),
@@ -92,8 +91,11 @@ impl std::fmt::Display for Error {
     fn fmt(&self, to: &mut std::fmt::Formatter<'_>) -> std::fmt::Result {
         match self {
             Error::Refused(code) => write!(to, "the agent refused the call: {code:?}"),
-            Error::Setting { field, is, least, greatest } => write!(to, "{field} is {is}, and has to be from {least} to {greatest}"),
-            Error::MergedInPart(events) => write!(to, "the merge ran out of memory; events that entered before: {}", events.len()),
+            Error::Setting { field: "name", is, least: min, greatest: max } => {
+                write!(to, "the name has {is} bytes, and must have {min} to {max}")
+            }
+            Error::Setting { field, is, least: min, greatest: max } => write!(to, "{field} is {is}, and must be between {min} and {max}"),
+            Error::MergedInPart(events) => write!(to, "the merge ran out of memory; events that it accepted before: {}", events.len()),
             Error::Store(_) => write!(to, "the agent's file failed"),
         }
     }
@@ -114,7 +116,7 @@ impl From<StoreError> for Error {
     }
 }
 
-/// What a code of the library answers.
+/// Turns a code of the library into a result.
 pub(crate) fn answered(code: u32) -> Result<(), Error> {
     match code {
         0 => Ok(()),

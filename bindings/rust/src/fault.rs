@@ -3,35 +3,35 @@
 use crate::error::answered;
 use crate::raw;
 
-/// Why a packet is no message: its first fault. A place is in bytes from the packet's first byte, its type.
+/// Why a packet is no message: the first thing that is wrong with it. Offsets are in bytes from the packet's first byte, its type.
 #[derive(Clone, Copy, Debug, PartialEq, Eq)]
 #[non_exhaustive]
 pub enum PacketFault {
-    /// The packet has no byte.
+    /// The packet is empty.
     Empty,
-    /// No message has this type.
+    /// This first byte is not the type of any message.
     UnknownType(u8),
-    /// The packet ends inside the value that begins here.
+    /// The packet ends inside the value that begins at this offset.
     Truncated(usize),
-    /// This byte, at this place, begins no value that is read: c1, a float or an ext.
+    /// This byte, at this offset, begins an unsupported value: c1, a float or an ext.
     Unsupported(u8, usize),
-    /// The array or map that begins here stands inside eight others.
+    /// The array or map at this offset is inside eight others.
     TooDeep(usize),
-    /// The value is over, and bytes follow from here.
+    /// The value ends before this offset, and more bytes follow.
     Trailing(usize),
-    /// The value is no map.
+    /// The value is not a map.
     NotAMap,
-    /// The key here is not raw.
+    /// The key at this offset is not raw.
     BadKey(usize),
-    /// The known key here stands in its map for the second time.
+    /// The known key at this offset appears in its map for the second time.
     Twice(usize),
-    /// The value here is not of its field's kind.
+    /// The value at this offset doesn't have its field's type.
     WrongKind(usize),
-    /// The integer here is not in its field's range.
+    /// The integer at this offset is not in its field's range.
     OutOfRange(usize),
-    /// Here is 2^64 - 1, which is no time.
+    /// At this offset is 2^64 - 1, which is no time.
     GreatestTime(usize),
-    /// A fault that this crate doesn't know.
+    /// A kind that this crate doesn't know.
     Other(u32),
 }
 
@@ -41,13 +41,13 @@ impl std::fmt::Display for PacketFault {
             PacketFault::Empty => write!(to, "the packet is empty"),
             PacketFault::UnknownType(kind) => write!(to, "no message has the type {kind}"),
             PacketFault::Truncated(at) => write!(to, "the packet ends inside the value at {at}"),
-            PacketFault::Unsupported(byte, at) => write!(to, "the byte {byte:#x} at {at} begins no value that is read"),
-            PacketFault::TooDeep(at) => write!(to, "the array or map at {at} stands inside eight others"),
+            PacketFault::Unsupported(byte, at) => write!(to, "the byte {byte:#x} at {at} doesn't begin a supported value"),
+            PacketFault::TooDeep(at) => write!(to, "the array or map at {at} is inside eight others"),
             PacketFault::Trailing(at) => write!(to, "the value ends before {at}, and more bytes follow"),
-            PacketFault::NotAMap => write!(to, "the value is no map"),
+            PacketFault::NotAMap => write!(to, "the value is not a map"),
             PacketFault::BadKey(at) => write!(to, "the key at {at} is not raw"),
-            PacketFault::Twice(at) => write!(to, "the key at {at} stands for the second time"),
-            PacketFault::WrongKind(at) => write!(to, "the value at {at} is of another kind"),
+            PacketFault::Twice(at) => write!(to, "the key at {at} appears for the second time"),
+            PacketFault::WrongKind(at) => write!(to, "the value at {at} has the wrong type"),
             PacketFault::OutOfRange(at) => write!(to, "the integer at {at} is out of range"),
             PacketFault::GreatestTime(at) => write!(to, "the number at {at} is no time"),
             PacketFault::Other(kind) => write!(to, "the packet has the fault {kind}"),
@@ -57,15 +57,16 @@ impl std::fmt::Display for PacketFault {
 
 impl std::error::Error for PacketFault {}
 
-/// A getter of a packet's fault.
+/// A getter that returns what is wrong with a packet.
 type Getter = unsafe extern "C" fn(*const u8, usize, *mut raw::PacketFault) -> u32;
 
-/// Why a packet is no message, or `None` where it is one. It needs no agent.
+/// Returns why a packet is no message, or `None` if it is one. No agent is needed.
 pub fn packet_fault(packet: &[u8]) -> Option<PacketFault> {
     fault_of(packet, raw::serf_agent_packet_fault)
 }
 
-/// Why [`crate::Intent::of_packet`] refuses a packet, or `None` where it doesn't. It needs no agent.
+/// Returns why [`crate::Intent::of_packet`] refuses a packet with [`crate::Code::NoMessage`], or `None` if it doesn't. No agent is
+/// needed.
 pub fn intent_fault(packet: &[u8]) -> Option<PacketFault> {
     fault_of(packet, raw::serf_agent_intent_fault)
 }

@@ -1,15 +1,15 @@
-//! The filters that a query has: which nodes it asks.
+//! The filters of a query, which select the nodes that handle it.
 
 use crate::error::{answered, Code, Error};
 use crate::raw;
 
-/// The first byte of a filter that asks for a tag. The agent knows no tags: see [`crate::Agent::receive`].
+/// The first byte of a tag filter. The agent doesn't know its node's tags: see [`crate::Agent::receive`].
 pub const TAG_FILTER: u8 = 1;
 
-/// The first byte of a filter that asks for names.
+/// The first byte of a filter by node names.
 const NODE_FILTER: u8 = 0;
 
-/// Appends a text as MessagePack's old form has it (raw 5, 16 or 32), as Serf writes it.
+/// Appends a text in MessagePack's old form (raw 5, 16 or 32), which Serf writes.
 fn put_raw(out: &mut Vec<u8>, text: &[u8]) {
     match text.len() {
         short @ 0..=31 => out.push(0xa0 | short as u8),
@@ -25,7 +25,8 @@ fn put_raw(out: &mut Vec<u8>, text: &[u8]) {
     out.extend_from_slice(text);
 }
 
-/// A filter that the nodes of these names pass, for [`crate::Agent::query`]: fewer than 2^32, of fewer bytes each.
+/// Returns a filter for [`crate::Agent::query`] that the nodes with these names pass. There must be fewer than 2^32 names, each with
+/// fewer than 2^32 bytes.
 pub fn node_filter<T: AsRef<[u8]>>(names: &[T]) -> Vec<u8> {
     let mut out = vec![NODE_FILTER];
     match names.len() {
@@ -43,8 +44,8 @@ pub fn node_filter<T: AsRef<[u8]>>(names: &[T]) -> Vec<u8> {
     out
 }
 
-/// A filter that a node passes whose tag matches the expression somewhere, for [`crate::Agent::query`]. Serf reads the
-/// expression by Go's package `regexp`.
+/// Returns a filter for [`crate::Agent::query`] that a node passes if the expression matches a part of its tag. Serf reads the
+/// expression with Go's package `regexp`.
 pub fn tag_filter(tag: &[u8], expression: &[u8]) -> Vec<u8> {
     let mut out = vec![TAG_FILTER, 0x82];
     for text in [b"Expr", expression, b"Tag", tag] {
@@ -53,10 +54,10 @@ pub fn tag_filter(tag: &[u8], expression: &[u8]) -> Vec<u8> {
     out
 }
 
-/// The filters that a query's packet has, in its order; `None` where the packet is no query. It needs no agent.
+/// Returns the filters of a query's packet, in order, or `None` if the packet is no query. No agent is needed.
 pub fn query_filters(packet: &[u8]) -> Result<Option<Vec<Vec<u8>>>, Error> {
     let (mut all, mut lens, mut filters) = (raw::Filters::default(), Vec::new(), Vec::new());
-    // first the sizes, and then the filters
+    // The first call returns the sizes, the second the filters.
     for _ in 0..2 {
         lens = vec![0; all.filters];
         filters = vec![0; all.filters_len];

@@ -1,21 +1,21 @@
-//! Intents: a node's word that it joins, and the word that a node leaves.
+//! Join and leave intents.
 
 use crate::error::{answered, Code, Error};
 use crate::raw;
 
-/// A node's word that it joins, or the word that a node leaves, of a time of the member clock.
+/// A join or a leave intent, with a time of the member clock.
 #[derive(Clone, Debug, PartialEq, Eq)]
 pub enum Intent {
     /// The node joins.
     Join {
-        /// The time of the word. 2^64 - 1 is none.
+        /// The intent's time. 2^64 - 1 is no time.
         time: u64,
         /// The name of the node that joins.
         node: Vec<u8>,
     },
-    /// The node leaves, by itself or by another's order.
+    /// The node leaves, or another node made it leave.
     Leave {
-        /// The time of the word. 2^64 - 1 is none.
+        /// The intent's time. 2^64 - 1 is no time.
         time: u64,
         /// The name of the node that leaves.
         node: Vec<u8>,
@@ -25,12 +25,13 @@ pub enum Intent {
 }
 
 impl Intent {
-    /// The intent that a packet is; `None` where it is another message, at which nobody looks. It needs no agent.
+    /// Returns a packet's intent, or `None` if the packet is another message, whose content is not checked. No agent is needed.
     ///
-    /// [`Code::NoMessage`] where it is no message, or a faulty intent: [`crate::intent_fault`] says why.
+    /// The error is [`Code::NoMessage`] if the packet is no message, or a faulty intent. [`crate::intent_fault`] returns the
+    /// reason.
     pub fn of_packet(packet: &[u8]) -> Result<Option<Intent>, Error> {
         let (mut about, mut node) = (raw::Intent::default(), Vec::new());
-        // first the length, and then the name
+        // The first call returns the length, the second the name.
         for _ in 0..2 {
             node = vec![0; about.node_len];
             // SAFETY: each pointer comes with its length, and `about` is of the type that the library writes.
@@ -44,7 +45,7 @@ impl Intent {
         Ok(Some(if leave { Intent::Leave { time, node, prune } } else { Intent::Join { time, node } }))
     }
 
-    /// The packet to send. It needs no agent. [`Code::Exhausted`] where the time is 2^64 - 1, which is none.
+    /// Returns the packet to send. No agent is needed. The error is [`Code::Exhausted`] if the time is 2^64 - 1, which is no time.
     pub fn packet(&self) -> Result<Vec<u8>, Error> {
         let (mut len, mut packet) = (0, Vec::new());
         for _ in 0..2 {
@@ -55,15 +56,9 @@ impl Intent {
                     Intent::Join { time, node } => {
                         raw::serf_agent_join_packet(*time, node.as_ptr(), node.len(), &mut len, packet.as_mut_ptr(), packet.len())
                     }
-                    Intent::Leave { time, node, prune } => raw::serf_agent_leave_packet(
-                        *time,
-                        node.as_ptr(),
-                        node.len(),
-                        *prune,
-                        &mut len,
-                        packet.as_mut_ptr(),
-                        packet.len(),
-                    ),
+                    Intent::Leave { time, node, prune } => {
+                        raw::serf_agent_leave_packet(*time, node.as_ptr(), node.len(), *prune, &mut len, packet.as_mut_ptr(), packet.len())
+                    }
                 }
             })?;
         }

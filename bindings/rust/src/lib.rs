@@ -1,10 +1,10 @@
-//! The proved Serf agent for Rust programs that are built without Rattle: an [`Agent`] over a snapshot's file.
+//! The proved Serf agent for Rust programs that are built without Rattle. An [`Agent`] keeps its snapshot in a file.
 //!
-//! Each call brings what it wrote to the disk before it returns, and so before a handler runs. Where the file fails, the
-//! agent is closed: open it again on the file. The calls of an [`Agent`] need it alone (`&mut`), so that one thread at a time
-//! uses it. Moments (`now`) are nanoseconds of one clock that never goes back.
+//! Each call flushes what it wrote to the disk before it returns, so nothing reaches a handler before its line is durable. If
+//! the file fails, the agent is closed: open it again on the same file. The calls of an [`Agent`] borrow it mutably (`&mut`), so
+//! only one thread at a time uses it. Moments (`now`) are nanoseconds of one clock that never goes back.
 //!
-//! The library is proved; this crate is tested.
+//! The library is proved. This crate is tested.
 //!
 //! ```no_run
 //! use serf_agent::{Agent, Error, Outcome, Settings};
@@ -15,7 +15,7 @@
 //!     let mut agent = Agent::open(b"alpha", "alpha.snapshot", Settings::default())?;
 //!     let fired = agent.fire(b"deploy", b"v1", false)?;
 //!     handle(&fired.event);
-//!     // fired.packet goes to the other agents, and what they send comes in
+//!     // Send fired.packet to the other agents, and receive what they send.
 //!     for (now, packet) in packets() {
 //!         if let Outcome::Event(event) = agent.receive(now, &packet, false)?.outcome {
 //!             handle(&event);

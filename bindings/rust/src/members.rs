@@ -1,26 +1,26 @@
-//! The members that another agent's whole state names.
+//! The members in another agent's whole state.
 
 use crate::error::{answered, Code, Error};
 use crate::raw;
 
-/// What a push/pull says of members.
+/// What a push/pull says about members.
 #[derive(Clone, Debug, PartialEq, Eq)]
 pub struct Members {
     /// The sender's member clock.
     pub member_clock: u64,
-    /// Names with the times of their status, in the packet's order.
+    /// The members' names with the times of their status, in the packet's order.
     pub statuses: Vec<(Vec<u8>, u64)>,
-    /// The names of those that left.
+    /// The names of the members that left.
     pub left: Vec<Vec<u8>>,
 }
 
 impl Members {
-    /// What a push/pull's packet says of members; `None` where the packet is none. It needs no agent.
+    /// Returns what a push/pull's packet says about members, or `None` if the packet is not a push/pull. No agent is needed.
     ///
-    /// [`crate::Agent::merge`] takes the same packet, whose events are its own.
+    /// [`crate::Agent::merge`] handles the events of the same packet.
     pub fn of_packet(packet: &[u8]) -> Result<Option<Members>, Error> {
         let (mut all, mut named, mut names) = (raw::Members::default(), Vec::new(), Vec::new());
-        // first the sizes, and then the members
+        // The first call returns the sizes, the second the members.
         for _ in 0..2 {
             named = vec![raw::Member::default(); all.members];
             names = vec![0; all.names_len];

@@ -1,6 +1,6 @@
-//! What calls give: events and queries to handle, packets to send, and what came of a packet.
+//! The results of calls: events and queries to handle, packets to send, and the outcomes of received packets.
 
-/// An event that is handed out: run its handler.
+/// An event that is handed out. Run its handler.
 #[derive(Clone, Debug, PartialEq, Eq)]
 pub struct Event {
     /// Its Lamport time.
@@ -9,32 +9,32 @@ pub struct Event {
     pub name: Vec<u8>,
     /// Its payload.
     pub payload: Vec<u8>,
-    /// Whether a host may hand out the last one alone of those that come within a moment under one name.
+    /// Whether a host may coalesce the event: of several with the same name within a short time, it may hand out only the last.
     pub coalesce: bool,
 }
 
-/// A query that is handed out: run its handler, and answer by [`crate::Agent::respond`] with its number.
+/// A query that is handed out. Run its handler, and answer by [`crate::Agent::respond`] with its number.
 #[derive(Clone, Debug, PartialEq, Eq)]
 pub struct Handed {
     /// Its number, for [`crate::Agent::respond`].
     pub number: u64,
     /// Its Lamport time.
     pub time: u64,
-    /// Its ID: with the time it tells queries apart.
+    /// Its ID. The time and the ID together identify a query.
     pub id: u32,
     /// Its name.
     pub name: Vec<u8>,
     /// Its payload.
     pub payload: Vec<u8>,
-    /// The node that asks.
+    /// The name of the node that fired the query.
     pub source: Vec<u8>,
-    /// The address to which a response is to be sent.
+    /// The address to which a response is sent.
     pub addr: Vec<u8>,
-    /// The port to which a response is to be sent.
+    /// The port to which a response is sent.
     pub port: u16,
-    /// By how many other nodes a response is to be sent as well.
+    /// How many other nodes also relay a response.
     pub relay_factor: u8,
-    /// The last moment at which it can be answered.
+    /// The last moment at which the query can be answered.
     pub deadline: u64,
 }
 
@@ -42,27 +42,27 @@ pub struct Handed {
 #[derive(Clone, Copy, Debug, PartialEq, Eq)]
 #[non_exhaustive]
 pub enum Reason {
-    /// The event's name and payload have together more than 9,216 bytes.
+    /// The event's name and payload together have more than 9,216 bytes.
     Oversize,
-    /// Its time is below the least that the agent takes.
+    /// Its time is below the agent's minimum.
     BelowMinimum,
     /// Its time is too far below the clock.
     TooOld,
-    /// The same was taken at its time.
+    /// The same event or query was accepted before.
     Seen,
-    /// As many as are taken of one time were taken at its time.
+    /// As many as the settings allow were accepted with the same time.
     TimeFull,
-    /// A response to no query that is open here.
+    /// A response to a query that is not open here.
     NotOpen,
-    /// A response to another query of the same time.
+    /// A response to another query with the same time.
     OtherId,
     /// A response after the deadline.
     Closed,
-    /// An ack, though none was asked for.
+    /// An ack, although the query requests none.
     AckNotAsked,
-    /// A second ack of one node.
+    /// A second ack from the same node.
     AckTwice,
-    /// A second response of one node.
+    /// A second response from the same node.
     ResponseTwice,
 }
 
@@ -80,54 +80,54 @@ pub(crate) const REASONS: [Reason; 11] = [
     Reason::ResponseTwice,
 ];
 
-/// An answer that was counted: of the query of this time and ID, from whom, and what a response says.
+/// An ack or a response that was counted.
 #[derive(Clone, Debug, PartialEq, Eq)]
 pub struct Answer {
     /// The query's time.
     pub time: u64,
     /// The query's ID.
     pub id: u32,
-    /// The node that answers.
+    /// The name of the node that sent it.
     pub from: Vec<u8>,
-    /// What a response says.
+    /// A response's payload.
     pub payload: Vec<u8>,
 }
 
-/// What came of a packet.
+/// The outcome of a received packet.
 #[derive(Clone, Debug, PartialEq, Eq)]
 #[non_exhaustive]
 pub enum Outcome {
     /// A new event.
     Event(Event),
-    /// A new query: handed out where its filters let this node pass, with the ack to send where one is asked for.
+    /// A new query.
     Query {
-        /// The query, for its handler.
+        /// The query, for its handler, if its filters let this node pass.
         handed: Option<Handed>,
-        /// The ack, to send to the query's address and port.
+        /// This node's own ack, to send to the query's address and port, if the query requests one.
         ack: Option<Vec<u8>>,
     },
     /// An ack was counted.
     Ack(Answer),
     /// A response was counted.
     Response(Answer),
-    /// Nothing came of it, for this reason.
+    /// The packet was ignored, for this reason.
     Ignored(Reason),
-    /// A message of this type, which isn't read.
+    /// A message of this type, which the agent doesn't read.
     Foreign(u8),
     /// A push/pull, which is for [`crate::Agent::merge`].
     PushPull,
 }
 
-/// What came of a packet, and whether it is to be sent on unchanged.
+/// The result of a received packet.
 #[derive(Clone, Debug, PartialEq, Eq)]
 pub struct Received {
-    /// What came of it.
+    /// Its outcome.
     pub outcome: Outcome,
-    /// Whether the packet is to be sent on as it came.
+    /// If `true`, send the packet on unchanged.
     pub rebroadcast: bool,
 }
 
-/// The event as it is handed out here, and the packet to send.
+/// An event as it is handed out on this node, and the packet to send.
 #[derive(Clone, Debug, PartialEq, Eq)]
 pub struct Fired {
     /// The event, for its handler.
@@ -136,30 +136,30 @@ pub struct Fired {
     pub packet: Vec<u8>,
 }
 
-/// The packet of a query to send, and what this node is handed out and sends as its own ack.
+/// A query that was fired.
 #[derive(Clone, Debug, PartialEq, Eq)]
 pub struct Asked {
-    /// Its time, which stands in each [`Answer`] to it.
+    /// The query's Lamport time, which is in each [`Answer`] to it.
     pub time: u64,
     /// The packet to send.
     pub packet: Vec<u8>,
-    /// The query as it is handed out here, where its filters let this node pass.
+    /// The query as it is handed out on this node, if its filters let this node pass.
     pub handed: Option<Handed>,
-    /// This node's own ack, to send to the query's address and port.
+    /// This node's own ack, to send to the query's address and port, if the query is handed out here and requests one.
     pub ack: Option<Vec<u8>>,
 }
 
-/// The agent's clocks, and the least times that it takes.
+/// The agent's clocks, and the minimum times that it accepts.
 #[derive(Clone, Copy, Debug, PartialEq, Eq)]
 pub struct Clocks {
-    /// The members' clock.
+    /// The member clock.
     pub member: u64,
     /// The time of the next event.
     pub event: u64,
     /// The time of the next query.
     pub query: u64,
-    /// The least time of an event that is taken.
+    /// The minimum time of an event that is accepted.
     pub event_minimum: u64,
-    /// The least time of a query that is taken.
+    /// The minimum time of a query that is accepted.
     pub query_minimum: u64,
 }

@@ -1,4 +1,4 @@
-//! What `include/serf_agent.h` declares, and the calls for memory that the library takes.
+//! What `include/serf_agent.h` declares, and the memory functions that the library needs.
 
 use std::alloc::{alloc, dealloc, realloc, Layout};
 
@@ -199,13 +199,7 @@ extern "C" {
     pub fn serf_agent_observe_member(handle: *mut Handle, time: u64) -> u32;
     pub fn serf_agent_save_member_clock(handle: *mut Handle) -> u32;
     pub fn serf_agent_compact(handle: *mut Handle) -> u32;
-    pub fn serf_agent_burst_receive(
-        handle: *mut Handle,
-        now: u64,
-        packet: *const u8,
-        packet_len: usize,
-        tags_pass: bool,
-    ) -> u32;
+    pub fn serf_agent_burst_receive(handle: *mut Handle, now: u64, packet: *const u8, packet_len: usize, tags_pass: bool) -> u32;
     pub fn serf_agent_burst_fire(
         handle: *mut Handle,
         name: *const u8,
@@ -250,14 +244,7 @@ extern "C" {
     pub fn serf_agent_packet_fault(packet: *const u8, packet_len: usize, fault: *mut PacketFault) -> u32;
     pub fn serf_agent_intent(packet: *const u8, packet_len: usize, intent: *mut Intent, node: *mut u8, node_room: usize) -> u32;
     pub fn serf_agent_intent_fault(packet: *const u8, packet_len: usize, fault: *mut PacketFault) -> u32;
-    pub fn serf_agent_join_packet(
-        time: u64,
-        node: *const u8,
-        node_len: usize,
-        len: *mut usize,
-        to: *mut u8,
-        room: usize,
-    ) -> u32;
+    pub fn serf_agent_join_packet(time: u64, node: *const u8, node_len: usize, len: *mut usize, to: *mut u8, room: usize) -> u32;
     pub fn serf_agent_leave_packet(
         time: u64,
         node: *const u8,
@@ -319,14 +306,14 @@ extern "C" {
     pub fn serf_agent_should_compact(handle: *mut Handle, limit: u64, should: *mut bool) -> u32;
 }
 
-/// What a call for memory answers: whether there was any, and where it is.
+/// What a memory function returns: whether there was memory, and its address.
 #[repr(C)]
 pub struct Tried {
     ok: bool,
     place: *mut u8,
 }
 
-/// Room before each piece of memory, in which its size is kept.
+/// The number of bytes before each allocation, which hold its size.
 const HEAD: usize = 16;
 
 fn tried(place: *mut u8, size: usize) -> Tried {
@@ -344,15 +331,15 @@ fn layout_of(size: usize) -> Option<Layout> {
     Layout::from_size_align(size.checked_add(HEAD)?, HEAD).ok()
 }
 
-/// Memory for the library, aligned to 16 bytes as malloc's is.
+/// Allocates memory for the library, aligned to 16 bytes like malloc's.
 #[no_mangle]
 extern "C" fn rattle_alloc(size: usize, _align: usize) -> Tried {
-    // SAFETY: the layout has HEAD bytes at least.
+    // SAFETY: the layout has at least HEAD bytes.
     tried(layout_of(size).map_or(std::ptr::null_mut(), |layout| unsafe { alloc(layout) }), size)
 }
 
 /// # Safety
-/// `old` is of one of these calls, and was not given back.
+/// `old` is from one of these functions, and has not been freed.
 #[no_mangle]
 unsafe extern "C" fn rattle_realloc(old: *mut u8, _kept: usize, size: usize, _align: usize) -> Tried {
     let whole = old.sub(HEAD);
@@ -364,7 +351,7 @@ unsafe extern "C" fn rattle_realloc(old: *mut u8, _kept: usize, size: usize, _al
 }
 
 /// # Safety
-/// `old` is of one of these calls, and was not given back.
+/// `old` is from one of these functions, and has not been freed.
 #[no_mangle]
 unsafe extern "C" fn rattle_dealloc(old: *mut u8) {
     let whole = old.sub(HEAD);

@@ -1,33 +1,33 @@
-//! What an agent is set to, and how a query is fired.
+//! An agent's settings, and a query's parameters.
 
 use crate::error::{Code, Error};
 use crate::raw;
 
-/// An agent's settings; `default()` has Serf's.
+/// An agent's settings. `default()` returns Serf's.
 #[derive(Clone, Copy, Debug, PartialEq, Eq)]
 pub struct Settings {
-    /// How many times of events are kept: 1 to 65,536.
+    /// How many Lamport times of events the buffer holds: 1 to 65,536.
     pub event_buffer: u64,
-    /// How many times of queries are kept: 1 to 65,536.
+    /// How many Lamport times of queries the buffer holds: 1 to 65,536.
     pub query_buffer: u64,
-    /// The greatest size of a fired event in bytes, 9,216 at most.
+    /// The maximum size of a fired event in bytes, at most 9,216.
     pub event_limit: u64,
-    /// The greatest size in bytes of the packet of a query that is fired, 9,216 at most; 0 stands for 1,024.
+    /// The maximum size in bytes of a fired query's packet, at most 9,216; 0 stands for 1,024.
     pub query_limit: u64,
-    /// The greatest size in bytes of the packet of a response, 9,216 at most; 0 stands for 1,024.
+    /// The maximum size in bytes of a response's packet, at most 9,216; 0 stands for 1,024.
     pub response_limit: u64,
-    /// How many names are counted of a query's acks, and of its responses: 1 to 65,536.
+    /// How many names are counted among a query's acks, and among its responses: 1 to 65,536.
     pub responders: u64,
-    /// How many events, or queries, are taken of one time: 1 to 65,536.
+    /// How many events, or queries, are accepted with the same Lamport time: 1 to 65,536.
     pub per_time: u64,
-    /// Whether events from before a join are ignored.
+    /// Whether a join ignores the events from before it.
     pub ignore_old: bool,
-    /// Whether the file keeps events and queries, and a restart goes on with those that the buffers held.
+    /// Whether the file keeps events and queries, so that a restart resumes with those that the buffers held.
     pub keep_events: bool,
 }
 
 impl Settings {
-    /// Why the library has refused these settings: the first one, or the name's length, that is out of the header's bounds.
+    /// Returns why the library refused these settings: the first one, or the name's length, that is out of the header's bounds.
     pub(crate) fn refusal(&self, name: &[u8]) -> Error {
         const MOST: u64 = 65_536;
         const LONGEST: u64 = 9_216;
@@ -65,26 +65,26 @@ impl Default for Settings {
 /// How a query is fired.
 #[derive(Clone, Debug, Default, PartialEq, Eq)]
 pub struct QueryParams {
-    /// How long answers are taken, in nanoseconds.
+    /// How long answers are accepted, in nanoseconds.
     pub timeout: i64,
-    /// The address to which answers are to be sent.
+    /// The address to which answers are sent.
     pub addr: Vec<u8>,
-    /// The port to which answers are to be sent.
+    /// The port to which answers are sent.
     pub port: u16,
-    /// By how many other nodes answers are to be sent as well.
+    /// How many other nodes also relay each answer.
     pub relay_factor: u8,
-    /// Whether each node that the query is handed out at sends an ack.
+    /// Whether each node that hands out the query sends an ack.
     pub want_ack: bool,
-    /// Whether nodes shall not send the query on.
+    /// Whether nodes must not send the query on.
     pub no_broadcast: bool,
-    /// Whether this node's tags pass each tag filter among the filters, so that it may be handed out here.
+    /// Whether this node's tags pass every tag filter in `filters`, so that the query may be handed out here.
     pub tags_pass: bool,
     /// The filters that a node has to pass, as Serf writes them.
     pub filters: Vec<Vec<u8>>,
 }
 
 impl QueryParams {
-    /// The same in C, without its texts.
+    /// Converts the parameters to C's struct, which has no texts.
     pub(crate) fn in_c(&self) -> raw::Params {
         raw::Params {
             timeout: self.timeout,

@@ -8,14 +8,14 @@ use std::os::unix::fs::{FileExt, MetadataExt, OpenOptionsExt, PermissionsExt};
 use std::os::unix::io::AsRawFd;
 use std::path::{Path, PathBuf};
 
-/// How often an opening begins anew, because the file was replaced between its opening and its lock.
+/// How often opening starts again because the file was replaced between its opening and its lock.
 const TRIES: usize = 100;
 
-/// Don't follow a link, and don't wait for the other side of a pipe (`O_NOFOLLOW`, `O_NONBLOCK` of Linux on x86-64).
+/// Open without following a link, and without waiting for a pipe's other end (`O_NOFOLLOW`, `O_NONBLOCK` of Linux on x86-64).
 const NO_FOLLOW: i32 = 0o400_000;
 const NO_WAIT: i32 = 0o4_000;
 
-/// A lock that nobody shares, and don't wait for it (`LOCK_EX`, `LOCK_NB` of Linux).
+/// An exclusive lock, and don't wait for it (`LOCK_EX`, `LOCK_NB` of Linux).
 const ALONE: c_int = 2;
 const AT_ONCE: c_int = 4;
 
@@ -23,23 +23,23 @@ extern "C" {
     fn flock(file: c_int, how: c_int) -> c_int;
 }
 
-/// Why a file isn't opened, read or written.
+/// Why the file can't be opened, read or written.
 #[derive(Debug)]
 #[non_exhaustive]
 pub enum StoreError {
-    /// Another store, here or in another process, has the file.
+    /// Another store, in this process or another one, has locked the file.
     Locked,
-    /// The folder in which the file is to stand isn't there.
+    /// The folder that should contain the file doesn't exist.
     MissingFolder,
-    /// The path names a folder, a device or anything else that is no plain file.
+    /// The path is a folder, a device or anything else that is not a regular file.
     NotAFile,
-    /// The file, its folder or its disk may not be written.
+    /// The file, its folder or its file system is not writable.
     ReadOnly,
-    /// The disk, or the share of it that this user may take, is full.
+    /// The disk, or this user's quota, is full.
     Full,
     /// An earlier call failed.
     Broken,
-    /// Any other fault of the system.
+    /// Any other error of the system.
     Failed(io::Error),
 }
 
@@ -47,12 +47,12 @@ impl std::fmt::Display for StoreError {
     fn fmt(&self, to: &mut std::fmt::Formatter<'_>) -> std::fmt::Result {
         to.write_str(match self {
             StoreError::Locked => "another agent has the file",
-            StoreError::MissingFolder => "the folder of the file isn't there",
-            StoreError::NotAFile => "the path names no plain file",
-            StoreError::ReadOnly => "the file or its folder may not be written",
+            StoreError::MissingFolder => "the folder of the file doesn't exist",
+            StoreError::NotAFile => "the path is not a regular file",
+            StoreError::ReadOnly => "the file or its folder is not writable",
             StoreError::Full => "the disk is full",
             StoreError::Broken => "an earlier call failed",
-            StoreError::Failed(error) => return write!(to, "the system failed: {error}"),
+            StoreError::Failed(error) => return write!(to, "the system call failed: {error}"),
         })
     }
 }
@@ -67,7 +67,7 @@ impl std::error::Error for StoreError {
 }
 
 impl From<io::Error> for StoreError {
-    /// By the numbers of Linux on x86-64. What has none is a path that no file can have.
+    /// Converts by the error numbers of Linux on x86-64. `InvalidInput` without a number is for a path that no file can have.
     fn from(error: io::Error) -> Self {
         match error.raw_os_error() {
             // EWOULDBLOCK
@@ -86,7 +86,7 @@ impl From<io::Error> for StoreError {
     }
 }
 
-/// Locks a file, where no other store has it.
+/// Locks a file, unless another store has it.
 fn lock(file: &File) -> Result<(), StoreError> {
     // SAFETY: the descriptor is open as long as the file is.
     match unsafe { flock(file.as_raw_fd(), ALONE | AT_ONCE) } {
@@ -95,16 +95,16 @@ fn lock(file: &File) -> Result<(), StoreError> {
     }
 }
 
-/// The snapshot's file, opened or made, and locked: one store at a time has it.
+/// The snapshot's file, which is created if it doesn't exist. It is locked, so only one store at a time has it open.
 ///
-/// The system gives the lock free where the process ends, however it ends. The file is close-on-exec; a forked child that
-/// begins no other program has the lock too, until it ends.
+/// The system releases the lock when the process ends, however it ends. The file is close-on-exec. A forked child that runs no
+/// other program shares the lock until it ends.
 ///
-/// A replacement writes `FILE.new` beside the file, brings it to the disk and renames it, so a crash leaves the old text or
-/// the new one; what a crash left of `FILE.new` is removed by the next opening. After a fault in an append or a replacement
-/// the store is broken: it takes no more bytes until it is opened again, and its agent with it.
+/// A replacement writes `FILE.new` next to the file, flushes it and renames it, so a crash leaves the old text or the new one.
+/// The next opening removes a `FILE.new` that a crash left. After an error in an append or a replacement the store is broken: it
+/// accepts no more bytes until it, and the agent with it, is opened again.
 ///
-/// No contract speaks of it: it is tested.
+/// The store is not proved. It is tested.
 #[derive(Debug)]
 pub struct Store {
     path: PathBuf,
@@ -112,7 +112,7 @@ pub struct Store {
     is_broken: bool,
 }
 
-/// The file that a replacement writes first.
+/// The path of the file that a replacement writes first.
 fn beside(path: &Path) -> PathBuf {
     let mut name = OsString::from(path);
     name.push(".new");
@@ -124,7 +124,7 @@ fn sync_folder(path: &Path) -> io::Result<()> {
     File::open(folder)?.sync_all()
 }
 
-/// The path without links; the file itself need not be there.
+/// The path without symbolic links. The file itself doesn't have to exist.
 fn real_path(path: &Path) -> Result<PathBuf, StoreError> {
     match fs::canonicalize(path) {
         Err(error) if error.kind() == io::ErrorKind::NotFound => {
@@ -139,7 +139,7 @@ fn real_path(path: &Path) -> Result<PathBuf, StoreError> {
     }
 }
 
-/// Opens and locks the file that the path names now.
+/// Opens and locks the file that has this path now.
 fn open_locked(path: &Path) -> Result<File, StoreError> {
     for _ in 0..TRIES {
         let mut how = OpenOptions::new();
@@ -159,7 +159,7 @@ fn open_locked(path: &Path) -> Result<File, StoreError> {
 }
 
 impl Store {
-    /// Opens the file, or makes it where it isn't there, and locks it. A symbolic link is followed to its file.
+    /// Opens or creates the file, and locks it. It follows a symbolic link to its file.
     pub fn open(path: impl AsRef<Path>) -> Result<Store, StoreError> {
         let path = real_path(path.as_ref())?;
         let file = open_locked(&path)?;
@@ -172,7 +172,7 @@ impl Store {
         Ok(Store { path, file, is_broken: false })
     }
 
-    /// All of the file: the text on which an agent is opened.
+    /// Returns the whole file, which is the text on which an agent is opened.
     pub fn read(&self) -> Result<Vec<u8>, StoreError> {
         let (mut text, mut part) = (Vec::new(), [0; 1 << 16]);
         loop {
@@ -183,7 +183,7 @@ impl Store {
         }
     }
 
-    /// Appends these bytes and brings them to the disk. Does nothing where there are none.
+    /// Appends these bytes and flushes them to the disk. It does nothing if there are none.
     pub fn append(&mut self, bytes: &[u8]) -> Result<(), StoreError> {
         self.breaking(|store| {
             if !bytes.is_empty() {
@@ -194,7 +194,7 @@ impl Store {
         })
     }
 
-    /// Replaces all of the file by these bytes, on the disk.
+    /// Replaces the file's content by these bytes, durably.
     pub fn replace(&mut self, bytes: &[u8]) -> Result<(), StoreError> {
         self.breaking(|store| {
             let beside = beside(&store.path);
@@ -221,7 +221,7 @@ impl Store {
         Ok(file)
     }
 
-    /// Does this, and is broken from then on where it fails.
+    /// Runs an operation. If it fails, the store is broken.
     fn breaking(&mut self, done: impl FnOnce(&mut Store) -> Result<(), StoreError>) -> Result<(), StoreError> {
         if self.is_broken {
             return Err(StoreError::Broken);

@@ -1,8 +1,8 @@
-//! Bursts: the outcomes in the order of the calls, faults among them, and those that are left unread.
+//! Bursts: the outcomes are in the order of the calls, with errors among them, and some stay unread.
 
 use serf_agent::{Agent, Call, CallOutcome, Code, Error, Outcome, Reason, Settings};
 
-/// A new agent in a folder of the test's own, and its file.
+/// A new agent in the test's own folder, and its file.
 fn opened(test: &str, name: &str) -> (Agent, std::path::PathBuf) {
     let folder = std::env::temp_dir().join(format!("serf-agent-{test}-{}", std::process::id()));
     std::fs::create_dir_all(&folder).unwrap();

@@ -23,7 +23,7 @@ fn queries_that_are_forgotten() {
         assert!(is_gone(agent.forget(number)), "{number}");
     }
     assert!(is_gone(agent.respond(6, other, b"").map(drop)));
-    // at its deadline it waits, and not past it
+    // A query can be answered at its deadline, and not after it.
     agent.close_due(15).unwrap();
     agent.respond(15, short, b"").unwrap();
     let late = handed(&mut agent, 10);

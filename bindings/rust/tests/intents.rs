@@ -1,9 +1,9 @@
-//! Intents, the members that a state names, the time of a query, and its filters with what the host says of its tags.
+//! Intents, the members in a state, the time of a query, and its filters together with the host's `tags_pass`.
 
 use serf_agent::{intent_fault, node_filter, query_filters, tag_filter, Agent, Call, CallOutcome, Code, Error, Intent, Members};
 use serf_agent::{Outcome, PacketFault, QueryParams, Received, Settings, TAG_FILTER};
 
-/// A fresh folder's file, and the folder, which goes with it.
+/// A new folder, which is removed when the value is dropped. The agent's snapshot is in it.
 struct File(std::path::PathBuf);
 
 impl File {
@@ -24,18 +24,12 @@ impl Drop for File {
     }
 }
 
-/// Intents off the wire between agents of Serf.
+/// Intents that agents of Serf sent to each other.
 fn of_serf() -> [(&'static [u8], Intent); 3] {
     [
         (b"\x01\x82\xa5LTime\x01\xa4Node\xa4beta", Intent::Join { time: 1, node: b"beta".to_vec() }),
-        (
-            b"\x00\x83\xa5LTime\x03\xa4Node\xa5gamma\xa5Prune\xc2",
-            Intent::Leave { time: 3, node: b"gamma".to_vec(), prune: false },
-        ),
-        (
-            b"\x00\x83\xa5LTime\x06\xa4Node\xa5delta\xa5Prune\xc3",
-            Intent::Leave { time: 6, node: b"delta".to_vec(), prune: true },
-        ),
+        (b"\x00\x83\xa5LTime\x03\xa4Node\xa5gamma\xa5Prune\xc2", Intent::Leave { time: 3, node: b"gamma".to_vec(), prune: false }),
+        (b"\x00\x83\xa5LTime\x06\xa4Node\xa5delta\xa5Prune\xc3", Intent::Leave { time: 6, node: b"delta".to_vec(), prune: true }),
     ]
 }
 
@@ -105,7 +99,7 @@ fn member_times() {
     }
 }
 
-/// Filters of the node a, of another one, of a tag, and of a type that nobody knows.
+/// A filter for the node a, one for another node, one for a tag, and one of an unknown type.
 const NODE: &[u8] = b"\x00\x91\xa1a";
 const OTHER: &[u8] = b"\x00\x91\xa1c";
 const TAG: &[u8] = b"\x01\x82\xa4Expr\xa0\xa3Tag\xa1a";
@@ -166,7 +160,10 @@ fn what_the_host_says_of_tags() {
     assert_eq!((node_filter(&["a"]), tag_filter(b"a", b"")), (NODE.to_vec(), TAG.to_vec()));
     let long = node_filter(&[vec![b'x'; 32], vec![b'y'; 65536]]);
     assert_eq!((&long[..5], &long[37..42]), (&b"\x00\x92\xda\x00\x20"[..], &b"\xdb\x00\x01\x00\x00"[..]));
-    assert_eq!((&node_filter(&["b"; 16])[..6], &node_filter(&["b"; 65536])[..6]), (&b"\x00\xdc\x00\x10\xa1b"[..], &b"\x00\xdd\x00\x01\x00\x00"[..]));
+    assert_eq!(
+        (&node_filter(&["b"; 16])[..6], &node_filter(&["b"; 65536])[..6]),
+        (&b"\x00\xdc\x00\x10\xa1b"[..], &b"\x00\xdd\x00\x01\x00\x00"[..])
+    );
     for packet in [&b""[..], b"\x04", b"\x03\x80"] {
         assert_eq!(query_filters(packet).unwrap(), None);
     }

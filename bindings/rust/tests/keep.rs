@@ -1,4 +1,4 @@
-//! Agents that keep their events over a restart.
+//! Agents that keep their events across a restart.
 
 use serf_agent::{Agent, Call, Outcome, Reason, Settings};
 use std::path::{Path, PathBuf};
@@ -7,7 +7,7 @@ const NEW: Result<(), Reason> = Ok(());
 const SEEN: Result<(), Reason> = Err(Reason::Seen);
 const BELOW: Result<(), Reason> = Err(Reason::BelowMinimum);
 
-/// A folder of the test's own.
+/// The test's own folder.
 fn folder(test: &str) -> PathBuf {
     let folder = std::env::temp_dir().join(format!("serf-agent-{test}-{}", std::process::id()));
     let _ = std::fs::remove_dir_all(&folder);
@@ -20,13 +20,13 @@ fn opened(path: &Path, keep_events: bool) -> Agent {
     Agent::open(b"keeps", path, settings).unwrap()
 }
 
-/// Another agent's events of the times 1 and on, e1 and so on.
+/// Another agent's events e1, e2 and so on, with the times 1, 2 and so on.
 fn packets(folder: &Path) -> Vec<Vec<u8>> {
     let mut other = opened(&folder.join("other"), false);
     (1..10).map(|time| other.fire(format!("e{time}").as_bytes(), b"", false).unwrap().packet).collect()
 }
 
-/// What comes of the event of this time: it is handed out, or ignored.
+/// The outcome of receiving the event with this time: it is handed out, or ignored.
 fn came(agent: &mut Agent, packets: &[Vec<u8>], time: usize) -> Result<(), Reason> {
     match agent.receive(1, &packets[time - 1], false).unwrap().outcome {
         Outcome::Event(event) => {
@@ -38,7 +38,7 @@ fn came(agent: &mut Agent, packets: &[Vec<u8>], time: usize) -> Result<(), Reaso
     }
 }
 
-/// A life on a file, which ends as by a kill: what comes of these events, and what the file has then.
+/// A life on a file that ends like a kill. Returns the outcomes of receiving these events, and the file's text afterwards.
 fn life(path: &Path, keep_events: bool, packets: &[Vec<u8>], times: &[usize]) -> (Vec<Result<(), Reason>>, String) {
     let mut agent = opened(path, keep_events);
     let found = times.iter().map(|&time| came(&mut agent, packets, time)).collect();

@@ -1,8 +1,8 @@
-//! How long the packets of queries and responses may be.
+//! The maximum sizes of the packets of queries and responses, and the bounds of the settings.
 
 use serf_agent::{Agent, Code, Error, QueryParams, Settings};
 
-/// An agent with these limits, in a folder of the test's own.
+/// An agent with these limits, in the test's own folder.
 fn opened(test: &str, query_limit: u64, response_limit: u64) -> Result<Agent, Error> {
     let folder = std::env::temp_dir().join(format!("serf-agent-{test}-{}", std::process::id()));
     let _ = std::fs::remove_dir_all(&folder);
@@ -10,7 +10,7 @@ fn opened(test: &str, query_limit: u64, response_limit: u64) -> Result<Agent, Er
     Agent::open(b"limited", folder.join("snapshot"), Settings { query_limit, response_limit, ..Settings::default() })
 }
 
-/// The packet of the longest payload that is taken. Each longer one is refused as too large.
+/// The length of the packet with the longest payload that is accepted. Each longer payload is refused as too large.
 fn longest(from: u64, mut call: impl FnMut(&[u8]) -> Result<Vec<u8>, Error>) -> u64 {
     for length in (0..=from).rev() {
         match call(&vec![0; length as usize]) {
@@ -42,7 +42,7 @@ fn packets_as_long_as_the_limits() {
     assert_eq!((settings.query_limit, settings.response_limit), (1024, 1024));
 }
 
-/// Each setting at its bounds is taken, and beyond them it is named.
+/// Each setting is accepted at its bounds, and the error names it if it is beyond them.
 #[test]
 fn settings_out_of_bounds() {
     type Put = fn(&mut Settings) -> &mut u64;
@@ -56,14 +56,14 @@ fn settings_out_of_bounds() {
         ("per_time", |all| &mut all.per_time, 1, 65536),
     ];
     let path = std::env::temp_dir().join(format!("serf-agent-bounds-{}", std::process::id()));
-    for (field, put, least, greatest) in all {
-        for value in [0, 1, greatest, greatest + 1, u64::MAX] {
+    for (field, put, min, max) in all {
+        for value in [0, 1, max, max + 1, u64::MAX] {
             let mut settings = Settings::default();
             *put(&mut settings) = value;
-            let wanted = format!("{field} is {value}, and has to be from {least} to {greatest}");
+            let wanted = format!("{field} is {value}, and must be between {min} and {max}");
             match Agent::open(b"bounds", &path, settings) {
-                Ok(_) => assert!(value >= least && value <= greatest, "{wanted}"),
-                Err(error) => assert_eq!((value < least || value > greatest, error.to_string()), (true, wanted)),
+                Ok(_) => assert!(value >= min && value <= max, "{wanted}"),
+                Err(error) => assert_eq!((value < min || value > max, error.to_string()), (true, wanted)),
             }
         }
     }
@@ -71,5 +71,7 @@ fn settings_out_of_bounds() {
         let opened = Agent::open(&vec![b'n'; length], &path, Settings::default());
         assert!(if is_taken { opened.is_ok() } else { matches!(opened, Err(Error::Setting { field: "name", .. })) }, "{length}");
     }
+    let error = Agent::open(b"", &path, Settings::default()).unwrap_err();
+    assert_eq!(error.to_string(), "the name has 0 bytes, and must have 1 to 128");
     std::fs::remove_file(path).unwrap();
 }

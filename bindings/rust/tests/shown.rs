@@ -1,4 +1,4 @@
-//! What is shown of an agent, and of a fault, for a log.
+//! How agents and errors appear in a log.
 
 use serf_agent::{Agent, Error, Event, Settings};
 use std::error::Error as _;
@@ -25,6 +25,6 @@ fn an_agent_is_shown() {
 fn a_merge_in_part_is_shown_with_its_events() {
     let event = Event { time: 7, name: b"deploy".to_vec(), payload: Vec::new(), coalesce: false };
     let fault = Error::MergedInPart(vec![event]);
-    assert_eq!(fault.to_string(), "the merge ran out of memory; events that entered before: 1");
+    assert_eq!(fault.to_string(), "the merge ran out of memory; events that it accepted before: 1");
     assert!(fault.source().is_none() && format!("{fault:?}").contains("time: 7"));
 }

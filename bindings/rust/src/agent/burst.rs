@@ -1,4 +1,4 @@
-//! Bursts: many calls of an agent, and one flush of its file.
+//! Bursts: many calls of an agent, with one flush of its file.
 
 use super::Agent;
 use crate::error::{answered, Code, Error};
@@ -9,13 +9,13 @@ use crate::settings::QueryParams;
 /// A call of a burst.
 #[derive(Clone, Copy, Debug)]
 pub enum Call<'a> {
-    /// A packet of the network, with what the host says of tag filters, as [`Agent::receive`] has it.
+    /// A packet from the network. The fields are the arguments of [`Agent::receive`].
     Receive {
         /// The moment.
         now: u64,
-        /// The packet, with its type byte in front.
+        /// The packet, which begins with its type byte.
         packet: &'a [u8],
-        /// Whether the host's tags pass every tag filter of the packet's query.
+        /// Whether this node's tags pass every tag filter of the packet's query.
         tags_pass: bool,
     },
     /// An event to fire.
@@ -24,36 +24,36 @@ pub enum Call<'a> {
         name: &'a [u8],
         /// The event's payload.
         payload: &'a [u8],
-        /// Whether a host may hand out the last one alone of those that come within a moment under one name.
+        /// Whether a host may coalesce the event: of several with the same name within a short time, it may hand out only the last.
         coalesce: bool,
     },
     /// A query to fire.
     Query {
         /// The moment.
         now: u64,
-        /// A random number.
+        /// The query's ID. Choose it at random.
         id: u32,
-        /// What is asked.
+        /// The query's name.
         name: &'a [u8],
-        /// What is asked about.
+        /// The query's payload.
         payload: &'a [u8],
         /// How it is fired.
         params: &'a QueryParams,
     },
 }
 
-/// What came of a call of a burst.
+/// The outcome of a call of a burst.
 #[derive(Clone, Debug, PartialEq, Eq)]
 pub enum CallOutcome {
-    /// Of a packet.
+    /// The outcome of a received packet.
     Received(Received),
-    /// Of an event.
+    /// The outcome of an event.
     Fired(Fired),
-    /// Of a query.
+    /// The outcome of a query.
     Asked(Asked),
 }
 
-/// What a call of a burst was, until its outcome is read.
+/// A call of a burst, as it is kept until its outcome is read.
 pub(super) enum Made {
     Received(Vec<u8>),
     Fired,
@@ -70,20 +70,20 @@ impl Call<'_> {
     }
 }
 
-/// What came of the calls of a burst, in order: of each its outcome, or why it was refused.
+/// The outcomes of the calls of a burst, in order. A call that was refused has an error.
 ///
-/// What isn't read waits for the next [`Agent::outcomes`] or [`Agent::burst`]. An error of [`Code::OutOfMemory`] from the
-/// outcomes themselves loses none: the next item is the same outcome.
+/// Outcomes that are not read wait for the next [`Agent::outcomes`] or [`Agent::burst`]. If reading an outcome fails with
+/// [`Code::OutOfMemory`], it is not lost: the next item is the same outcome.
 #[must_use = "an event whose outcome isn't read isn't handled"]
 #[derive(Debug)]
 pub struct Outcomes<'a> {
     agent: &'a mut Agent,
-    // why a call wasn't made: it stands behind the outcomes of those that were
+    // Why a call wasn't made. It follows the outcomes of the calls that were made.
     fault: Option<Error>,
 }
 
 impl Outcomes<'_> {
-    /// The first outcome that waits.
+    /// Reads the first outcome that waits.
     fn first(&mut self) -> Result<CallOutcome, Error> {
         let agent = &mut *self.agent;
         let mut code = 0;
@@ -116,11 +116,11 @@ impl Iterator for Outcomes<'_> {
 }
 
 impl Agent {
-    /// Makes calls one after another, and brings the lines of all of them to the disk at once: what came of each.
+    /// Makes calls one after another, flushes the lines of all of them together, and returns their outcomes in order.
     ///
-    /// A call that is refused has its outcome among the others, and so has a packet that is no message. Where memory is
-    /// wanting, no further call is made: [`Code::OutOfMemory`] stands behind the outcomes of the calls before, which count.
-    /// An error of this function itself says that the file failed, and the agent is closed: then there is no outcome.
+    /// A refused call, for example a packet that is no message, has an outcome like the others. If memory runs out, no further
+    /// call is made. The outcomes of the calls before are valid, and [`Code::OutOfMemory`] follows them. If the file fails, this
+    /// function returns the error, the agent is closed, and there are no outcomes.
     pub fn burst<'c>(&mut self, calls: impl IntoIterator<Item = Call<'c>>) -> Result<Outcomes<'_>, Error> {
         self.forget_filters()?;
         let fault = calls.into_iter().try_for_each(|call| self.make(call)).err();
@@ -128,12 +128,12 @@ impl Agent {
         Ok(Outcomes { agent: self, fault })
     }
 
-    /// What came of the calls of bursts that nobody has read yet.
+    /// Returns the outcomes of bursts that have not been read yet.
     pub fn outcomes(&mut self) -> Outcomes<'_> {
         Outcomes { agent: self, fault: None }
     }
 
-    /// How many outcomes of bursts nobody has read yet.
+    /// Returns how many outcomes of bursts are unread.
     pub fn unread_outcomes(&mut self) -> Result<usize, Error> {
         let mut total = 0;
         // SAFETY: `total` is of the type that the library writes.
@@ -141,7 +141,7 @@ impl Agent {
         Ok(total)
     }
 
-    /// Makes a call of a burst, whose outcome waits then.
+    /// Makes a call of a burst. After that, its outcome waits.
     fn make(&mut self, call: Call<'_>) -> Result<(), Error> {
         let code = match call {
             Call::Receive { now, packet, tags_pass } => {
@@ -150,7 +150,9 @@ impl Agent {
             }
             Call::Fire { name, payload, coalesce } => {
                 // SAFETY: each pointer comes with its length.
-                unsafe { raw::serf_agent_burst_fire(&mut *self.handle, name.as_ptr(), name.len(), payload.as_ptr(), payload.len(), coalesce) }
+                unsafe {
+                    raw::serf_agent_burst_fire(&mut *self.handle, name.as_ptr(), name.len(), payload.as_ptr(), payload.len(), coalesce)
+                }
             }
             Call::Query { now, id, name, payload, params } => self.make_query(now, id, name, payload, params)?,
         };

@@ -1,11 +1,11 @@
-//! The queries that an agent closed, with their answers, and when its file is worth a compaction.
+//! The queries that an agent closed, with their answers, and when to compact its file.
 
 use super::Agent;
 use crate::error::{answered, Error};
 use crate::outcome::Answer;
 use crate::raw;
 
-/// A query of this agent's own that was closed: the names of the nodes that acked it and the responses, in order of arrival.
+/// A query of this agent that was closed, with the names of the nodes that acked it and with the responses, in order of arrival.
 #[derive(Clone, Debug, PartialEq, Eq)]
 pub struct Closed {
     /// Its time.
@@ -20,7 +20,7 @@ pub struct Closed {
     pub responses: Vec<Answer>,
 }
 
-/// How many bytes a file may have before it is worth a compaction: Serf's own number, for [`Agent::should_compact`].
+/// The size in bytes above which Serf compacts its snapshot, for [`Agent::should_compact`].
 pub const DEFAULT_SNAPSHOT_LIMIT: u64 = 131_072;
 
 impl Agent {
@@ -70,8 +70,8 @@ impl Agent {
         Ok(Closed { time, id, deadline, responses: responses.collect::<Result<_, Error>>()?, acks })
     }
 
-    /// Closes this agent's queries whose deadline is before `now`: each with its answers, in the order in which they were fired.
-    /// Queries that were handed out here, and whose deadline is before it, are forgotten.
+    /// Closes this agent's queries whose deadline is before `now`. Returns them with their answers, in the order in which they
+    /// were fired. Queries that were handed out here are forgotten if their deadline is before `now`.
     pub fn close_due(&mut self, now: u64) -> Result<Vec<Closed>, Error> {
         let mut closed = 0;
         // SAFETY: `closed` is of the type that the library writes.
@@ -79,7 +79,7 @@ impl Agent {
         (0..closed).map(|index| self.closed(index)).collect()
     }
 
-    /// Whether the file has more bytes than `limit`, and [`Agent::compact`] would take away at least half of them.
+    /// Returns whether the file has more than `limit` bytes, and [`Agent::compact`] would remove at least half of them.
     pub fn should_compact(&mut self, limit: u64) -> Result<bool, Error> {
         let mut should = false;
         // SAFETY: `should` is of the type that the library writes.
