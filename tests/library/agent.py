@@ -1,11 +1,11 @@
-"""The agent for operators (`agent/`): built and packed as its page says, formatted, vetted, its own tests and those of the package
-serf beneath it under Go's race detector, what they recorded as a schedule (`examples/schedule_of_records.py`), and what the pages
-show of agents (`agent/shown.py`).
+"""The agent for operators (`agent/`): builds and packs it as its page says, formats and vets it, runs its own tests and those of the
+package serf that it uses under Go's race detector, turns what they recorded into a schedule (`examples/schedule_of_records.py`), and
+tries what the pages show of agents (`agent/shown.py`).
 
     tests/library/agent.py [--library FILE] [--over-ci]
 
-Go, memberlist, go-msgpack and Serf's coordinates have to be there, as `tools/packages` installs them, and the program has to be
-built. --library takes another static library than that of crates/serf_agent_c, which else is built; --over-ci builds it over
+Go, memberlist, go-msgpack and Serf's coordinates have to be installed, as `tools/packages` does, and the program has to be
+built. --library names another static library than that of crates/serf_agent_c, which is built otherwise; --over-ci builds it over
 what `rt ci` left, as the gate does.
 """
 
@@ -34,7 +34,7 @@ TEST = re.compile(r"^--- (PASS|FAIL): (\S+)", re.M)
 
 
 def unbuilt(count, library, folder):
-    """What agent/build says where Go or the library is missing: a sentence, and status 3."""
+    """If Go or the library is missing, agent/build prints a sentence, with status 3."""
     few, alone = os.path.join(folder, "few"), os.path.join(folder, "alone", "agent", "build")
     os.makedirs(few)
     for name in ("dirname", "uname"):
@@ -43,14 +43,14 @@ def unbuilt(count, library, folder):
     shutil.copy(os.path.join(TOP, "agent", "build"), alone)
     for what, script, path, says in (
         ("without Go", os.path.join(TOP, "agent", "build"), few, "agent/build: go is not on PATH"),
-        ("without the library", alone, os.environ["PATH"], "agent/build: there is no libserf_agent_c.a"),
+        ("without the library", alone, os.environ["PATH"], "agent/build: libserf_agent_c.a is not in "),
     ):
         status, said = c_library.ran([script, os.path.join(folder, "none"), library if path == few else folder], env={**os.environ, "PATH": path})
         count.check(f"agent/build {what}", status == 3 and said.startswith(says) and said.count("\n") == 1, (status, said))
 
 
 def built(count, library, folder):
-    """The program, by the script that README and AGENT.md show, and the package that has it."""
+    """The program, built by the script that README and AGENT.md show, and the package that contains it."""
     program, package = os.path.join(folder, "kitchenrue-agent"), os.path.join(folder, "kitchenrue-agent.deb")
     lean = {"env": {**os.environ, **c_library.LEAN_GO}}
     status, said = c_library.ran([os.path.join(TOP, "agent", "build"), program, library], **lean)
@@ -58,7 +58,7 @@ def built(count, library, folder):
     status, said = c_library.ran([program, "-version"])
     count.check("-version", status == 0 and "kitchenrue-agent" in said.lower(), (status, said))
     status, said = c_library.ran([program, "-no-such-flag"])
-    count.check("a flag that there isn't", status != 0 and "no-such-flag" in said, (status, said))
+    count.check("a flag that doesn't exist", status != 0 and "no-such-flag" in said, (status, said))
     unbuilt(count, library, folder)
     if shutil.which("dpkg-deb") is None:
         print("not run: the Debian package, since dpkg-deb is not on PATH")
@@ -73,13 +73,13 @@ def built(count, library, folder):
 
 
 def installed(count, package):
-    """The package installed, upgraded, removed and purged, with its own scripts, in a copy of this system."""
+    """The package is installed, upgraded, removed and purged, with its own scripts, in a copy of this system."""
     if shutil.which("apt-get") is None or os.geteuid() != 0:
         print("not run: the package's installation, which needs apt-get and root")
         return
     said = c_library.ran(["sh", os.path.join(TOP, "tests", "library", "agent", "install.sh"), package])[1]
     if said.strip() in ("", "unable") or said.startswith("unshare: "):
-        print("not run: the package's installation, since this system lets nobody mount an overlay")
+        print("not run: the package's installation, since this system allows no overlay mounts")
         return
     for line in said.splitlines():
         end, what = line.split(" ", 1)
@@ -92,7 +92,7 @@ SETTING = re.compile(r'^\t\{"([\w-]*)", "(\w*)", "', re.M)
 
 
 def settings_on_page(count):
-    """AGENT.md names each setting by its key, and by its flag where that isn't the key with - for _."""
+    """AGENT.md names each setting by its key, and by its flag if that isn't the key with - for _."""
     text = checks.text_of("docs", "AGENT.md").partition("\n## Settings\n")[2].partition("\n## ")[0]
     found = SETTING.findall(checks.text_of("agent", "internal", "config", "settings.go"))
     count.check("the settings are found", len(found) > 40, found)
@@ -131,7 +131,7 @@ def scheduled(count, what, *words):
 
 
 def recorded(count, folder):
-    """What three nodes recorded says as a schedule just what was handed to each."""
+    """The records of three nodes, as a schedule, hand out exactly what was handed to each."""
     module = loaded()
     paths = [os.path.join(folder, f"{name}.record") for name in "abc"]
     nodes = [module.Node(path, lambda what: count.check("a record is whole", False, what)) for path in paths]
@@ -149,8 +149,8 @@ def recorded(count, folder):
         actions = [line for line in written.splitlines() if not line.startswith("agent ")]
         other = [(line, answers[str(at)]) for at, line in enumerate(actions, 1) if " # " in line and line.split(" # ")[1].split()[1:] != answers[str(at)]]
         count.check(f"{what}: each call has the answer of the reference", len(actions) == len(answers) and not other, other)
-        count.check(f"{what}: all is told", sum(" # " in line for line in actions) > 20, written)
-        # of what nodes here sent, only a query by tags is another packet at who passes
+        count.check(f"{what}: all is recorded", sum(" # " in line for line in actions) > 20, written)
+        # (of what these nodes sent, only a query with a filter of tags is another packet at a node that it passes)
         injected = sum(": inject " in line for line in written.splitlines())
         count.check(f"{what}: packets are those that were sent", injected <= 1, written)
         for command in (["explain"], ["draw"], ["draw", "--as", "mermaid"]):
@@ -159,16 +159,16 @@ def recorded(count, folder):
     explained = checks.ran(["explain", "--agent", "2"], schedule)[1].decode()
     # (by gossip or by a state, whichever was first)
     count.check("explain says why the third node had the second event", re.search(r'because (slot \d brings )?event 2 "deploy" "v2": ("c" takes|new, and handed out)', explained), explained)
-    count.check("and from where on it goes on", "because its snapshot keeps clock" in explained, explained)
+    count.check("and from where it continues", "because its snapshot keeps clock" in explained, explained)
 
 
 def shown_of_records(count, folder):
-    """What docs/AGENT.md shows of records, run as it stands on the records of two nodes."""
+    """The commands of docs/AGENT.md for records, run exactly as shown, on the records of two nodes."""
     own = os.path.join(folder, "day")
     for node, name in (("web1", "a"), ("web2", "b")):
         os.makedirs(os.path.join(own, node))
         shutil.copy(os.path.join(folder, f"{name}.record"), os.path.join(own, node, "record"))
-    # (the unproved program is started by a script that wants its own folder)
+    # (the unproved program is started by a script that needs its own folder)
     with open(os.path.join(own, "serf-replay"), "w", encoding="utf-8") as file:
         file.write(f'#!/bin/sh\nexec {shlex.quote(checks.PROGRAM)} "$@"\n')
     os.chmod(file.name, 0o755)
@@ -183,7 +183,7 @@ def shown_of_records(count, folder):
 
 
 def cut_off(count, folder):
-    """Records that are cut off, that turned over, or that are none."""
+    """Records that are cut off, that were continued in a second file, or that are none."""
     with open(os.path.join(folder, "c.record"), encoding="ascii") as file:
         whole = file.read()
     other = os.path.join(folder, "cut.record")
@@ -202,14 +202,14 @@ def cut_off(count, folder):
             schedule = module.Schedule([module.Node(other, lambda what: None)], False).write()
         except module.Fault as fault:
             schedule = ""
-            count.check(f"cut at {at}: it has no call", at < 200 and "no record of an agent" in str(fault), fault)
-        # (a life that answers more needs more of the record)
-        count.check(f"cut at {at}: what is whole is taken", len(schedule.splitlines()) >= len(last.splitlines()), schedule)
+            count.check(f"cut at {at}: it has no call", at < 200 and "not the record of an agent" in str(fault), fault)
+        # (a life with more answers needs more of the record)
+        count.check(f"cut at {at}: what is whole is read", len(schedule.splitlines()) >= len(last.splitlines()), schedule)
         last = schedule
         if number % 10 == 9:
             status, _, said = checks.ran(["write"], schedule.encode())
             count.check(f"cut at {at}: it can be read", status == 0, said)
-    # the second file begins with the clocks at its place, behind any call of the first
+    # (the second file begins with the clocks at its place, after any call of the first)
     at = whole.index("\n\n", len(whole) // 3) + 2
     head = whole[: whole.index("\n\n") + 2].replace("\n", "\n# goes on\n", 1)
     count.check("two files are as one", written(whole[:at], head + whole[at:]) == (0, text))
@@ -242,7 +242,7 @@ def main():
 
 
 def said_by(name, said):
-    """What a test of Go said."""
+    """What a test of Go printed."""
     return said[said.rfind(f"=== RUN   {name}\n") : said.find(f": {name} (")][-2000:]
 
 
@@ -261,7 +261,7 @@ def tested(count, folder, own):
         count.check(name, end == "PASS", said_by(name, said))
     count.check("they end well, and no line is unformatted or doubtful", status == 0, said[-2000:])
     if not os.path.exists(checks.PROGRAM):
-        count.check("the program is built", False, "./prove makes it, and SERF_UNPROVED=1 takes the one that ./serf-replay compiled")
+        count.check("the program is built", False, "./prove makes it, and SERF_UNPROVED=1 uses the one that ./serf-replay compiled")
         return
     recorded(count, records)
     shown_of_records(count, records)

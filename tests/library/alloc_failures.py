@@ -1,14 +1,14 @@
-"""Each growth of memory refused once: every public call that takes memory, with its first, second, .. growth refused.
+"""Each allocation refused once: every public call that allocates, with its first, second, .. allocation refused.
 
 A scratch crate outside the repository, over its crates' sources, has a test for each growth of each case of
-tests/library/alloc_failures. `rt try --test --fail-alloc N` builds it once, runs each test in a process of its own, and
-refuses the N-th allocation there; a test takes N - k of them before its case begins, so the k-th growth of the case is
-refused. The case looks at what stands after a refusal, makes its call again, and prints how it came out:
+tests/library/alloc_failures. `rt try --test --fail-alloc N` builds it once, runs each test in a separate process, and
+refuses the N-th allocation there; a test makes N - k allocations before its case begins, so the k-th growth of the case is
+refused. The case checks the state after a refusal, makes its call again, and prints the result:
 
-    no state        a growth was refused before the call, or behind it
-    refused         one was refused in the call, and all was as it should be, the second call too
-    whole           none was refused in the call, and it gave what it should
-    wrong: WHAT     something was not as it should be
+    no state        a growth was refused before the call, or after it
+    refused         one was refused in the call, and everything was correct, in the second call too
+    whole           none was refused in the call, and it returned what it should
+    wrong: WHAT     something was wrong
 """
 
 import os
@@ -36,17 +36,18 @@ USES = [
     "serf_replay",
 ]
 
-# The allocation that is refused: REFUSED in tests/library/alloc_failures/lib.rattle. Each test takes what is left of so many
-# before its case begins, so it is no greater than the cases want: each has to end before it where nothing is refused.
+# The number of the allocation that is refused, as REFUSED in tests/library/alloc_failures/lib.rattle. Each test first makes the
+# allocations before it that its case doesn't need. The number is as small as the cases allow: if nothing is refused, each case has to
+# end before it.
 REFUSED = 1024
 
 # The number of a run in which nothing is refused.
 NOTHING = 1000
 
-# How often the toolchain is asked: again for the cases that have more growths than were tried.
+# How often the toolchain is called: again for the cases that have more growths than were tried.
 ROUNDS = 4
 
-# Each case, and how many growths it has up to the end of its call. A case that has more is found and tried again, which
+# Each case, and how many growths it has up to the end of its call. If a case has more, this is found and it is tried again, which
 # takes longer: the numbers only save time.
 GROWTHS = {
     "appenders": 15,
@@ -110,7 +111,7 @@ GROWTHS = {
     "take_line": 200,
 }
 
-# Each public call that is passed an allocator, and the case that makes it; None where it takes no memory.
+# Each public call that gets an allocator, and the case that makes it; None if it allocates nothing.
 CALLS = {
     "serf_agent Agent::compact": "compact_agent",
     "serf_agent Agent::fire": "fire",
@@ -176,19 +177,19 @@ CALLS = {
     "serf_world run": "run",
 }
 
-# A public function with its parameters, and the head of the impl or trait that it stands in.
+# A public function with its parameters, and the head of the impl or trait that it is in.
 PUBLIC = re.compile(r"^( *)pub fn (\w+)(?:<[^(]*>)?\(([^)]*)\)", re.M)
 OWNER = re.compile(r"^(?:impl(?:<[^{]*?>)? (?:[\w:]+(?:<[^{]*?>)? for )?|pub trait )(\w+)", re.M)
 
-# What takes no memory, so that it is never refused, and how many growths its state takes.
+# Calls that allocate nothing, so that they are never refused, and how many growths their state has.
 NEVER_REFUSED = {"ignore": 10, "merge_again": 14, "new_windows": 0}
 
-# Calls that are wrong on purpose, and have to come out as wrong: one that always answers want of memory among them.
+# Calls that are wrong on purpose, and have to be reported as wrong, one that always fails to allocate among them.
 WRONG = {"wrong_always_refused": 1, "wrong_another_error": 1, "wrong_answer": 1, "wrong_change": 2}
 
 
 def public_calls():
-    """Each public call of the crates that is passed an allocator."""
+    """Each public call of the crates that gets an allocator."""
     found = set()
     for crate in USES:
         for folder, _, files in os.walk(os.path.join(checks.TOP, "crates", crate, "src")):
@@ -208,7 +209,7 @@ def faults_of_calls():
     """What is wrong with the table of public calls."""
     found = public_calls()
     faults = [f"{call}: a public call without a case" for call in sorted(found - CALLS.keys())]
-    faults += [f"{call}: a case for a call that isn't there" for call in sorted(CALLS.keys() - found)]
+    faults += [f"{call}: a case for a call that doesn't exist" for call in sorted(CALLS.keys() - found)]
     cases = {**GROWTHS, **NEVER_REFUSED}
     return faults + [
         f"{call}: no case {case}" for call, case in CALLS.items() if case is not None and case not in cases
@@ -216,12 +217,12 @@ def faults_of_calls():
 
 
 def first_numbers():
-    """Each case, and the greatest number of a growth that is refused at first."""
+    """Each case, and the largest number of a growth that is refused at first."""
     return {name: count + 2 for name, count in {**GROWTHS, **NEVER_REFUSED, **WRONG}.items()}
 
 
 def rust_text(data):
-    """A byte string of the language."""
+    """A byte string in Rattle's syntax."""
     return 'b"' + "".join(
         chr(byte) if 32 <= byte < 127 and byte not in b'"\\' else f"\\x{byte:02x}" for byte in data
     ) + '"'
@@ -256,7 +257,7 @@ def write_tests(source, numbers):
 
 
 def outcomes(numbers):
-    """How each run of each case came out, what the toolchain said, and its status."""
+    """The result of each run of each case, what the toolchain printed, and its status."""
     with scratch.crate("alloc_failures", USES) as source:
         scratch.copy_sources(CASES, source)
         write_example(source)
@@ -273,7 +274,7 @@ def refused_in(came):
 
 
 def has_more(name, number, came):
-    """Whether a case may have growths behind those that were tried."""
+    """Whether a case may have growths after those that were tried."""
     last = came.get(number)
     if name in WRONG or last is None:
         return False
@@ -286,14 +287,14 @@ def fault_of(name, number, came):
     """What is wrong with the runs of a case, or None."""
     missing = [k for k in [*range(1, number + 1), NOTHING] if k not in came]
     if missing:
-        return f"no answer where growth {missing[0]} is refused"
+        return f"no answer if growth {missing[0]} is refused"
     wrong = [(k, how) for k, how in sorted(came.items()) if how not in ("no state", "refused", "whole")]
     if name in WRONG:
-        return None if wrong else "a wrong call that isn't seen"
+        return None if wrong else "a wrong call that isn't found"
     if wrong:
-        return "where growth {} is refused: {}".format(*wrong[0])
+        return "if growth {} is refused: {}".format(*wrong[0])
     if came[NOTHING] != "whole":
-        return f"{came[NOTHING]} where nothing is refused"
+        return f"{came[NOTHING]} if nothing is refused"
     if has_more(name, number, came):
         return f"it has more than {number} growths"
     refused = refused_in(came)
@@ -303,7 +304,7 @@ def fault_of(name, number, came):
 
 
 def calls(count):
-    """Each public call that is passed an allocator has a case."""
+    """Each public call that gets an allocator has a case."""
     faults = faults_of_calls()
     for fault in faults:
         count.check("the table of public calls", False, fault)
@@ -335,7 +336,7 @@ def growths(count):
         count.check("rt try", False, f"it ended with status {status}: {said[-1400:]}")
     runs = sum(len(each) for each in came.values())
     refused = sum(len(refused_in(each)) for each in came.values())
-    print(f"{runs} runs, and a growth of a call refused in {refused} of them")
+    print(f"{runs} runs, and a growth of a call was refused in {refused} of them")
 
 
 if __name__ == "__main__":

@@ -1,16 +1,16 @@
 """Nodes of the package serf in Go (`bindings/go/serf`) and stock agents of Serf in one cluster: what each shows of the others, and
-that no event and no query comes twice on a node of ours, over losses, repeats and kills.
+that no event and no query runs twice on a node of ours, despite losses, repeats and kills.
 
     tests/library/beside_serf.py [--library FILE] [--over-ci] [--stock N] [--ours N] [--seconds S] [--seed N] [--judge PROGRAM]
                                  [--keep]
 
-Each node is a process of its own, on a loopback address of its own; ours are the program of bindings/go/beside_serf/node. What a
-node of ours sends and gets by UDP is lost, repeated and late in part. Events are fired at random nodes, and a random node is killed
-by SIGKILL and started again on its file. Where there is a built program (or --judge), `serf-replay judge` reads the log of all that
-came on ours, with their files.
+Each node is a separate process with its own loopback address; ours are the program of bindings/go/beside_serf/node. Some of what a
+node of ours sends and receives by UDP is lost, repeated or late. Events are fired at random nodes, and a random node is killed
+by SIGKILL and started again on its file. If there is a built program (or --judge), `serf-replay judge` reads the log of everything
+that was handed out on ours, with their files.
 
-Go, memberlist and Debian's package `serf` have to be there (`tools/packages`); else it says so, and checks nothing.
---library takes another static library than that of crates/serf_agent_c, which else is built; --over-ci builds it over
+Go, memberlist and Debian's package `serf` have to be installed (`tools/packages`); otherwise the script prints what is missing, and checks nothing.
+--library names another static library than that of crates/serf_agent_c, which is built otherwise; --over-ci builds it over
 what `rt ci` left, as the gate does. `tests/by_hand/beside_serf_long.py` runs this with twelve nodes, for longer.
 """
 
@@ -39,26 +39,26 @@ from agent_cluster_kit import until
 
 HANDLER = os.path.join(TOP, "examples", "serf_log_handler.sh")
 
-# The shares of a node's packets of ours that are lost, repeated and late (bindings/go/serf/faults.go).
+# The shares of packets that are lost, repeated and late on a node of ours (by the transport in `bindings/go/serf/faults.go`).
 CHANCES = "lose 0.15\nrepeat 0.1\nlate 0.2\n"
 
-# How long what has to be seen may take, in seconds: a failed node is suspected for some seconds first.
+# How long it may take until something is seen, in seconds: a failed node is suspected for some seconds first.
 SEEN = 120
 
-# A query is asked so often at most, since an ack or an answer is one packet, and how long each may take, in seconds.
+# How often a query is fired at most, since an ack or an answer is one packet, and how long each may take, in seconds.
 ASKED, ANSWERED = 10, 4
 
-# At least so many kills of each kind have to be, and so many events that a node took to send.
+# The minimum number of kills of each kind, and of events that a node accepted.
 LEAST_KILLS, LEAST_FIRED = 2, 40
 
-# Of 100 events that were fired while a node of ours was up, so many have to have run there at least. An event doesn't count
-# where that node, or the one that fired it, was killed in the seconds behind it: it may never have been sent.
+# Of 100 events that were fired while a node of ours was up, at least so many have to have run there. An event doesn't count
+# if that node, or the one that fired it, was killed within so many seconds after it: it may never have been sent.
 LEAST_RAN, SENT = 60, 2
 
-# So many events are fired when all is at rest: each has to run on every node of ours.
+# So many events are fired when the cluster is at rest: each has to run on every node of ours.
 AT_REST = 10
 
-# How long no handler has to run before all are counted, in seconds.
+# For how long no handler has to run before the events are counted, in seconds.
 STILL = 2
 
 
@@ -72,7 +72,7 @@ def build(folder, library):
 
 
 class Stock(kit.Agent):
-    """A stock agent, which rejoins by its snapshot alone."""
+    """A stock agent, which rejoins only by its snapshot."""
 
     is_ours = False
 
@@ -82,7 +82,7 @@ class Stock(kit.Agent):
         self.words = ["-snapshot", self.snapshot, "-tag", "kind=stock", "-event-handler", f"user=SERF_LOG={self.events} sh {HANDLER}"]
 
     def fire(self, name, text):
-        """Whether the agent took it."""
+        """Whether the agent accepted it."""
         return self.serf("event", "-coalesce=false", name, text)[0] == 0
 
     def seen(self):
@@ -107,7 +107,7 @@ class Ours:
         self.put_faults()
 
     def put_faults(self, beyond=()):
-        """What becomes of its packets, and which addresses it is cut off from."""
+        """What happens to its packets, and which addresses it is cut off from."""
         with open(f"{self.faults}.new", "w", encoding="ascii") as file:
             file.write(CHANCES + f"cut {' '.join(beyond)}\n")
         os.replace(f"{self.faults}.new", self.faults)
@@ -123,12 +123,12 @@ class Ours:
         return self
 
     def answer(self, wait=60):
-        """A line that it says; empty where it says none in time."""
+        """A line that it prints; empty if it prints none in time."""
         ready, _, _ = select.select([self.process.stdout], [], [], wait)
         return self.process.stdout.readline().decode("utf-8", "replace").strip() if ready else ""
 
     def said(self, *words):
-        """What it says to a command."""
+        """What it replies to a command."""
         try:
             self.process.stdin.write((" ".join(words) + "\n").encode())
         except OSError:
@@ -136,11 +136,11 @@ class Ours:
         return self.answer()
 
     def fire(self, name, text):
-        """Whether the node took it."""
+        """Whether the node accepted it."""
         return self.said("fire", name, text).startswith("ok")
 
     def answers(self):
-        """Who acked a query of this node's, and who answered one, since the last time."""
+        """The nodes that acked a query of this node, and the nodes that answered one, since the last call."""
         return [set(names.split(",")) - {"-"} for names in (self.said("answers").split() + ["-", "-", "-"])[1:3]]
 
     def end(self, how=signal.SIGKILL, wait=20):
@@ -151,7 +151,7 @@ def ran(node, kinds=("event ",)):
     """The events that a node's handler ran, each as a line, in order."""
     try:
         with open(node.events, encoding="utf-8") as file:
-            # (a date stands before each line that Serf's handler writes)
+            # (a date is before each line that Serf's handler writes)
             lines = [line.split(" ", 1)[1] if line[:1].isdigit() else line for line in file.read().splitlines()]
             return [line for line in lines if line.startswith(kinds)]
     except OSError:
@@ -159,11 +159,11 @@ def ran(node, kinds=("event ",)):
 
 
 class Torment:
-    """Events that are fired, and nodes of both kinds that are killed by turns and started again."""
+    """Events that are fired, and nodes of both kinds that are killed in turn and started again."""
 
     def __init__(self, nodes, draw):
         self.nodes, self.draw = nodes, draw
-        # each event's text, with when it was fired, who fired it, and who was up
+        # each event's text, with the time at which it was fired, the node that fired it, and the nodes that were up
         self.fired, self.refused, self.kills = {}, 0, []
         self.down = set()
 
@@ -193,7 +193,7 @@ class Torment:
         self.down.remove(victim)
 
     def run(self, seconds):
-        """For so long at least, and until enough was fired and killed."""
+        """Runs for at least so long, and until enough was fired and killed."""
         end, next_kill = time.monotonic() + seconds, time.monotonic() + 1
         while time.monotonic() < end or min(self.count(True), self.count(False)) < LEAST_KILLS or len(self.fired) < LEAST_FIRED:
             for _ in range(self.draw.randint(1, 3)):
@@ -204,7 +204,7 @@ class Torment:
                 next_kill = time.monotonic() + self.draw.uniform(0.3, 1.5)
 
     def due(self, node):
-        """The events that a node was up for, and that it had the time to get."""
+        """The events that were fired while a node was up, and that it had time to receive."""
         def is_killed(at, *those):
             return any(at <= when < at + SENT and victim in those for when, victim in self.kills)
 
@@ -212,7 +212,7 @@ class Torment:
 
 
 def see(count, nodes, what, name, status, tags=None):
-    """Checks that every stock agent shows a node so, in time."""
+    """Checks that every stock agent shows a node like this, in time."""
     stock = [node for node in nodes if not node.is_ours]
 
     def holds():
@@ -222,7 +222,7 @@ def see(count, nodes, what, name, status, tags=None):
 
 
 def members(count, nodes):
-    """What stock shows of a node of ours in each state."""
+    """What stock agents show of a node of ours in each state."""
     first, other = [node for node in nodes if node.is_ours][:2]
     for node in nodes:
         see(count, nodes, "alive", node.name, "alive", node.tags if node.is_ours else None)
@@ -233,16 +233,16 @@ def members(count, nodes):
     see(count, nodes, "left", first.name, "left")
     first.end()
     first.start()
-    see(count, nodes, "alive behind its leave", first.name, "alive", first.tags)
+    see(count, nodes, "alive after its leave", first.name, "alive", first.tags)
     other.end()
-    see(count, nodes, "failed behind a kill", other.name, "failed")
+    see(count, nodes, "failed after a kill", other.name, "failed")
     count.check("ours shows it failed", until(lambda: f"{other.name}=failed" in first.said("members"), SEEN), first.said("members"))
     other.start()
-    see(count, nodes, "alive behind a kill", other.name, "alive", other.tags)
+    see(count, nodes, "alive after a kill", other.name, "alive", other.tags)
 
 
 def asked(count, nodes):
-    """Queries both ways, and one with a filter of tags."""
+    """Queries in both directions, and one with a filter of tags."""
     stock, ours = next(node for node in nodes if not node.is_ours), [node for node in nodes if node.is_ours]
     wanted = {node.name for node in ours}
 
@@ -273,7 +273,7 @@ def asked(count, nodes):
 
 
 def judged(nodes, folder, judge):
-    """What the judge says of the events and queries that came on ours: its status and its text."""
+    """What the judge reports on the events and queries that ran on ours: its status and its text."""
     log = os.path.join(folder, "ours.log")
     words = [judge, "judge", log]
     with open(log, "w", encoding="utf-8") as file:
@@ -285,7 +285,7 @@ def judged(nodes, folder, judge):
 
 
 def still(nodes):
-    """Waits until no handler runs any more, and gives what each node's ran."""
+    """Waits until no handler runs any more, and returns what ran on each node."""
     last, since = None, time.monotonic()
 
     def is_still():
@@ -300,11 +300,11 @@ def still(nodes):
 
 
 def at_rest(count, torment, nodes):
-    """Events that are fired when all are there, without kills: each runs on every node of ours."""
-    # (by then each has heard of the others' times, so that none of these is too old)
+    """Events that are fired when all nodes are up, without kills: each runs on every node of ours."""
+    # (by then each node knows the others' times, so that none of these is too old)
     still(nodes)
     texts = {torment.fire() for _ in range(AT_REST)}
-    count.check("events at rest are taken", texts <= set(torment.fired), torment.refused)
+    count.check("events at rest are accepted", texts <= set(torment.fired), torment.refused)
     for node in nodes:
         if node.is_ours:
             lacks = lambda: texts - {line.split()[-1] for line in ran(node)}
@@ -343,7 +343,7 @@ def torn(count, nodes, asked_, folder):
 
 
 def cluster(folder, program, asked_):
-    """The nodes, stock's first. The addresses are of this process, so that two runs don't meet."""
+    """The nodes, stock's first. The addresses depend on this process, so that two runs don't meet."""
     net = f"127.{10 + os.getpid() % 240}.{os.getpid() // 240 % 250}"
     nodes = [Stock(folder, number, net) for number in range(1, asked_.stock + 1)]
     for number in range(asked_.stock + 1, asked_.stock + asked_.ours + 1):
@@ -385,7 +385,7 @@ def main():
     count = checks.Checks()
     missing = kit.needed()
     if missing:
-        print(f"not run, since there is no {missing}")
+        print(f"not run, since {missing} is missing")
         return count.finish()
     fault = None if asked_.library else c_library.fault_of_library(asked_.over_ci)
     if fault:
@@ -396,7 +396,7 @@ def main():
         run(count, asked_, os.path.dirname(os.path.abspath(asked_.library or c_library.LIBRARY)), folder)
     finally:
         if asked_.keep:
-            print(f"all is in {folder}")
+            print(f"the files are in {folder}")
         else:
             shutil.rmtree(folder)
     return count.finish()

@@ -1,15 +1,15 @@
-"""A host in C over a file, killed at random moments, and its file torn: no event twice, over all lives.
+"""A host in C over a file, killed at random moments, and its file torn: no event is handed out twice over all lives.
 
     tests/library/crashes.py [--kills N] [--seed N] [--library FILE] [--over-ci]
 
 One node lives on one file. In each life a host (tests/library/crashes/host.c) gets all packets so far again, and then
-new ones, whole states, firings, compactions and saves of the member clock, while SIGKILL comes at a random moment. Of
-every second life the file is then cut behind what was flushed at its last answer, with garbage behind the cut. Over all
+new ones, whole states, firings, compactions and saves of the member clock, and SIGKILL arrives at a random moment. In
+every second life the file is then cut after what was flushed at its last answer, and garbage is appended. Over all
 lives no event may be handed out twice, and each firing has to be later than all that was handed out before it.
 
-Then, with no kill, each call's bytes are cut at each of their places, with each kind of garbage behind.
+After that, without a kill, each call's bytes are cut at each position, and each kind of garbage is appended.
 
---library takes another static library than that of crates/serf_agent_c, which else is built by `rt lib`; --over-ci
+--library names another static library than that of crates/serf_agent_c, which is built by `rt lib` otherwise; --over-ci
 builds it over those that `rt ci` left, as the gate does.
 """
 
@@ -33,14 +33,14 @@ from serf_agent import messages
 
 HOST = os.path.join(checks.TOP, "tests", "library", "crashes", "host.c")
 
-# A life is killed at a moment of this many seconds at most.
+# A life is killed after this many seconds at most.
 LONGEST_LIFE = 0.03
-# How many calls a life has, beside the packets that come again, and how many packets come again at most.
+# How many new calls a life has, and how many earlier packets are repeated at most.
 CALLS, AGAIN = 60, 300
-# How long a host may take that isn't killed.
+# How long a host that isn't killed may take.
 LIMIT = 60
 
-# What may stand behind a cut.
+# What may follow a cut.
 GARBAGE = [b"", b"\n", b"event-clock: ", b"\0\xff\x80", b"event-clock: 1\n", b"9", b"#", b"\nclock: 2"]
 
 
@@ -55,7 +55,7 @@ def state(clock, slots):
 
 
 class Answer:
-    """What a host answered to one line: the events that it handed out, and what its file was."""
+    """What a host answered to one line: the events that it handed out, and the state of its file."""
 
     def __init__(self, events, words):
         self.events = events
@@ -63,7 +63,7 @@ class Answer:
 
 
 def answers_in(said):
-    """The answers of a host, and the events behind the last whole one."""
+    """The answers of a host, and the events after the last whole one."""
     answers, events = [], []
     for line in said.decode().split("\n")[:-1]:
         words = line.split(" ")
@@ -76,7 +76,7 @@ def answers_in(said):
 
 
 def live(host, path, lines, seconds):
-    """A life of a host: what it said until it ended, or was killed after so many seconds; and its status."""
+    """A life of a host: what it printed until it ended, or was killed after so many seconds; and its status."""
     with subprocess.Popen([host, path], stdin=subprocess.PIPE, stdout=subprocess.PIPE, stderr=subprocess.PIPE) as life:
         timer = threading.Timer(seconds, life.kill)
         timer.start()
@@ -94,7 +94,7 @@ class Node:
         self.wrong = []
 
     def note(self, lines, answers, rest):
-        """The answers to an opening and to lines, in order; the last may be without its end."""
+        """The answers to an opening and to lines, in order; the final answer may be cut off."""
         self.lives += 1
         calls = ["open", *lines]
         for call, answer in zip(calls, answers):
@@ -103,17 +103,17 @@ class Node:
             self.note_events(calls[min(len(answers), len(calls) - 1)], rest)
 
     def note_events(self, call, events):
-        for time, name in events:
-            if (time, name) in self.handed:
+        for at, name in events:
+            if (at, name) in self.handed:
                 self.wrong.append(
-                    f"life {self.lives}: {name} at {time} was handed out in life {self.handed[time, name]} too"
+                    f"life {self.lives}: {name} at {at} was handed out in life {self.handed[at, name]} too"
                 )
             if call.startswith("f "):
                 self.fired += 1
-                if time <= self.greatest:
-                    self.wrong.append(f"life {self.lives}: fired at {time}, and {self.greatest} was handed out before")
-            self.handed[time, name] = self.lives
-            self.greatest = max(self.greatest, time)
+                if at <= self.greatest:
+                    self.wrong.append(f"life {self.lives}: fired at {at}, and {self.greatest} was handed out before")
+            self.handed[at, name] = self.lives
+            self.greatest = max(self.greatest, at)
 
 
 class Calls:
@@ -157,7 +157,7 @@ class Calls:
 
 
 def tear(chance, path, last):
-    """Cuts the file behind what was flushed at the last answer, and puts garbage there; and some beside it."""
+    """Cuts the file after what was flushed at the last answer, appends garbage, and sometimes leaves a file next to it."""
     about = os.stat(path)
     least = last.size if about.st_ino == last.inode else about.st_size
     with open(path, "r+b") as file:
@@ -170,7 +170,7 @@ def tear(chance, path, last):
 
 
 def kills(count, host, folder, chance, wanted):
-    """So many lives of one node, each killed: a check a life."""
+    """So many lives of one node, each of them killed: one check for each life."""
     path = os.path.join(folder, "killed.snapshot")
     node, calls = Node(), Calls(chance)
     torn = killed = replaced = 0
@@ -195,12 +195,12 @@ def kills(count, host, folder, chance, wanted):
             f"{status} {faults} {node.wrong[wrong:][:3]}",
         )
         if status == 0:
-            # it came to its end before the kill: that life doesn't count
+            # (if it came to its end before the kill, that life doesn't count)
             count.passed -= 1
     said, faults, status = live(host, path, calls.sent, LIMIT)
     node.note(calls.sent, *answers_in(said))
     count.check("all packets again, unharmed", status == 0 and not node.wrong, f"{status} {faults} {node.wrong[:3]}")
-    # a node that hands out nothing, or never compacts, passes as well
+    # (a node that hands out nothing, or never compacts, would pass as well)
     count.check(
         "enough was handed out",
         len(node.handed) >= 2 * wanted and node.fired >= wanted // 8 and replaced >= wanted // 20,
@@ -209,12 +209,12 @@ def kills(count, host, folder, chance, wanted):
     print(
         f"{killed} kills in {time.monotonic() - began:.0f} seconds: "
         f"{len(node.handed)} events handed out, {node.fired} of them fired here; "
-        f"{torn} files torn; a compaction came through in {replaced} lives; {len(calls.sent)} packets"
+        f"{torn} files torn; a compaction succeeded in {replaced} lives; {len(calls.sent)} packets"
     )
 
 
 def size_and_text(host, path, lines):
-    """A host's answers to lines, and the file's bytes then."""
+    """A host's answers to lines, and the file's bytes after that."""
     said, faults, status = live(host, path, lines, LIMIT)
     answers, _ = answers_in(said)
     if status or len(answers) != len(lines) + 1:
@@ -224,7 +224,7 @@ def size_and_text(host, path, lines):
 
 
 def each_cut(count, host, folder):
-    """For each kind of call: its bytes cut at each place, each kind of garbage behind, and all packets again."""
+    """For each kind of call: its bytes are cut at each position, each kind of garbage follows, and all packets are repeated."""
     path, torn = os.path.join(folder, "cut.snapshot"), os.path.join(folder, "torn.snapshot")
     before = ["r " + event(3, b"a").hex(), "m " + state(9, [(8, [b"b", b"c"])]).hex(), "f " + b"d".hex()]
     behind = {
@@ -241,7 +241,7 @@ def each_cut(count, host, folder):
         node = Node()
         node.note(before, answers, [])
         _, new = size_and_text(host, path, calls)
-        # the call was cut short, so what it handed out was never read; a replacement is there whole, or not at all
+        # (the call was cut short, so nobody read what it handed out; a replacement is there whole, or not at all)
         cuts = [old, new] if name == "compact" else [new[:at] for at in range(len(old), len(new))]
         wrong = []
         for cut in cuts:
@@ -257,7 +257,7 @@ def each_cut(count, host, folder):
 
 
 def two_at_once(count, host, folder):
-    """A second host on a file that another has."""
+    """A second host on a file that another host has locked."""
     path = os.path.join(folder, "killed.snapshot")
     with subprocess.Popen([host, path], stdin=subprocess.PIPE, stdout=subprocess.PIPE) as first:
         first.stdout.readline()
@@ -265,7 +265,7 @@ def two_at_once(count, host, folder):
         count.check("a second host", status == 3 and faults == "host: another agent has the file\n", (status, faults))
         first.kill()
     _, faults, status = live(host, path, [], LIMIT)
-    count.check("a host behind one that was killed", status == 0, (status, faults))
+    count.check("a host after one that was killed", status == 0, (status, faults))
 
 
 def main():

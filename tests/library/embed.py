@@ -1,13 +1,13 @@
-"""Hosts of the agent in C: header and library are one, bad input has a code, and the bindings' stores and examples.
+"""Hosts of the agent in C: header and library match, bad input has a code, and the bindings' stores and examples work.
 
     tests/library/embed.py [--library FILE] [--program FILE] [--over-ci]
 
-C and Python have to be there. Rust and Go are built and run where `cargo` and `go` are on PATH, and without the
-network; of the package serf in Go, whose own tests `agent.py` runs, a node that runs out of memory, where memberlist and Serf's
-coordinates are there as well (Debian's packages). Each part has a line such as `python: N passed, M failed` or `go: not run, since
-go is not on PATH`, and the last line is their sum. --library takes another static library than that of crates/serf_agent_c, which
-else is built by `rt lib`; no declaration of Rattle is compared then. --program takes another program than the proved one, which conformance/c is held against. --over-ci
-builds the library over those that `rt ci` left, as the gate does.
+C and Python have to be installed. Rust and Go are built and run if `cargo` and `go` are on PATH, and without the
+network. Of the package serf in Go, whose own tests `agent.py` runs, a node that runs out of memory is tried, if memberlist and Serf's
+coordinates are installed as well (Debian's packages). Each part has a line such as `python: N passed, M failed` or `go: not run, since
+go is not on PATH`, and the last line is their sum. --library names another static library than that of crates/serf_agent_c, which
+is built by `rt lib` otherwise; then no declaration of Rattle is compared. --program names another program than the proved one, with
+which conformance/c is compared. --over-ci builds the library over those that `rt ci` left, as the gate does.
 """
 
 import argparse
@@ -41,13 +41,13 @@ BINDINGS = os.path.join(TOP, "bindings")
 # How many bytes the library may have.
 LARGEST = 400_000
 
-# The random schedules that conformance/c is held against: so many seeds of each kind.
+# The random schedules on which conformance/c is compared: so many seeds of each kind.
 SEEDS = 40
 
-# How many rounds are made in which a node in Go tells of no want of memory.
+# In how many rounds a node in Go has to report no failed allocation until no more rounds are made.
 UNTOLD = 16
 
-# Where Debian has Go's packages, and those that a node in Go needs.
+# The folder of Debian's Go packages, and those that a node in Go needs.
 GO_CODE = os.environ.get("SERF_GOPATH", "/usr/share/gocode")
 NEEDED = [os.path.join(GO_CODE, "src", "github.com", "hashicorp", name) for name in ("memberlist", "serf/coordinate")]
 
@@ -57,7 +57,7 @@ class NotRun(Exception):
 
 
 class Places:
-    """Where what is built and run here stands. `starved` is a library whose calls run out of memory."""
+    """The places of what is built and run here. `starved` is a library whose calls run out of memory."""
 
     def __init__(self, folder, library):
         self.folder, self.library = folder, library
@@ -83,7 +83,7 @@ def compile_c(count, places, name, source, more=(), library=None):
 
 
 def counted(count, name, words, **more):
-    """Runs a program that ends with 'N passed, M failed', and counts what it says."""
+    """Runs a program that ends with 'N passed, M failed', and counts what it reports."""
     status, said = c_library.ran(words, **more)
     found = re.search(r"^(\d+) passed, (\d+) failed$", said, re.M)
     count.check(f"{name} ends", found is not None and status == (int(found[2]) > 0), f"{status}: {said[-1500:]}")
@@ -102,7 +102,7 @@ def counted_tests(count, name, line, words, ran=c_library.ran, **more):
 
 
 def bad_input(count, places):
-    """Bad input in C, in bursts too: as it is, under the address and undefined-behaviour sanitizers, and under valgrind."""
+    """Bad input in C, in bursts too: plain, under the address and undefined-behaviour sanitizers, and under valgrind."""
     sanitized = ["-g", "-fsanitize=address,undefined", "-fno-sanitize-recover=all"]
     can_sanitize = (
         c_library.ran(
@@ -134,16 +134,16 @@ def bad_input(count, places):
 
 
 def memory(count, places):
-    """Each call where memory is wanting, under valgrind too: its requests go through a count. And the library for hosts
+    """Each call while its allocations fail, under valgrind too: its requests for memory are counted. And the library for hosts
     whose calls run out of memory."""
     wrapped = ["-g", "-Wl,--wrap=malloc,--wrap=realloc"]
     path = compile_c(count, places, "memory", os.path.join(SOURCES, "memory.c"), [*wrapped, "-Wl,--wrap=free"])
     if path:
-        counted(count, "want of memory", [path])
+        counted(count, "out of memory", [path])
         if shutil.which("valgrind"):
             counted(
                 count,
-                "want of memory, under valgrind",
+                "out of memory, under valgrind",
                 ["valgrind", "-q", "--error-exitcode=9", "--leak-check=full", path],
             )
     members = compile_c(count, places, "members", os.path.join(SOURCES, "members.c"), wrapped)
@@ -154,7 +154,7 @@ def memory(count, places):
 
 
 def example(count, name, places, words, **more):
-    """Runs an example twice in a folder: the text that every language prints, and nothing twice over both runs."""
+    """Runs an example twice in a folder: it prints the text that every language prints, and hands out nothing twice over both runs."""
     folder = places.fresh(name)
     with open(os.path.join(BINDINGS, "example.out"), encoding="utf-8") as file:
         wanted = file.read()
@@ -288,7 +288,7 @@ def env_of_starved(env):
 
 
 def tests_in_go(count, places, more):
-    """The tests of serfagent, watched for races where the detector is there, and what `go vet` says of it. They are compiled once,
+    """The tests of serfagent, watched for races if the detector is there, and what `go vet` reports about it. They are compiled once,
     and run in the package's folder with the words that `go test` has for them."""
     lean, path = {**more, "env": {**more["env"], **c_library.LEAN_GO}}, places.of("serfagent.test")
     status, said = c_library.ran(["go", "vet", "."], **lean)
@@ -303,7 +303,7 @@ def tests_in_go(count, places, more):
             return
 
     def ran(words, **own):
-        # (what the compilers and the linker said is looked at too)
+        # (what the compilers and the linker printed is checked too)
         status, said = c_library.ran(words, **own)
         return status, built + said
 
@@ -318,8 +318,8 @@ def tests_in_go(count, places, more):
 
 
 def node_in_go(count, places, env):
-    """The package serf, whose sources beside ours are found as Debian has them: a node that runs out of memory, HOST's lines, and
-    the programs beside Serf."""
+    """The package serf, with its dependencies as Debian has them: a node that runs out of memory, HOST's lines, and
+    the programs of `beside`."""
     missing = [path for path in NEEDED if not os.path.isdir(path)]
     if missing:
         print(f"not run: the package serf in Go, since {missing[0]} isn't there")
@@ -331,7 +331,7 @@ def node_in_go(count, places, env):
     with open(os.path.join(lines, "main.go"), "w", encoding="utf-8") as file:
         file.write(host_lines.program("go"))
     beside = [f"kitchenrue.example/beside_serf/{name}" for name in ("node", "speed")]
-    for what, packages in (("HOST's lines", ["lines"]), ("the programs beside Serf", beside)):
+    for what, packages in (("HOST's lines", ["lines"]), ("the programs of `beside`", beside)):
         status, said = c_library.ran(["go", "vet", *packages], env=c_library.go_env(path, GO_CODE, own=env))
         count.check(f"Go: vet of {what}", status == 0, said[-2000:])
 
@@ -342,8 +342,8 @@ def go_path(places, bindings):
 
 
 def starved_node(count, places, env):
-    """A node whose first burst, and whose first merge, run out of memory one request later each time. Where it is wanting but to read
-    what was taken, nobody is told: so some rounds more are made behind the first of which nothing is told."""
+    """A node whose first burst, and whose first merge, run out of memory one request later each time. If the allocation fails only
+    while the result is read, no error is reported: so some more rounds are made after the first one without a report."""
     path = places.of("serf.test")
     env = c_library.go_env(go_path(places, places.of("go_starved")), GO_CODE, own=env_of_starved(env))
     status, said = c_library.ran(["go", "test", "-c", "-vet=off", "-o", path, "kitchenrue.example/serf"], env=env)
@@ -356,11 +356,11 @@ def starved_node(count, places, env):
         count.check(f"Go: a node with {granted} requests for memory", is_well, said[-900:])
         untold += "nothing is wanting" in said
         granted += 1
-    count.check("Go: a node with memory at last", 10 + UNTOLD < granted < starved.MOST, granted)
+    count.check("Go: finally, a node with enough memory", 10 + UNTOLD < granted < starved.MOST, granted)
 
 
 def in_pipe(count, places, program):
-    """The library behind the pipe, held against the reference on each example, each row and random schedules."""
+    """The library on the pipe, compared with the reference on each example, each row and random schedules."""
     fault = None if program else programs.fault_of_build("serf_replay_program")
     agent = compile_c(count, places, "pipe_agent", os.path.join(TOP, "conformance", "c", "agent.c"))
     count.check("the program is built", fault is None, fault)
@@ -388,7 +388,7 @@ def in_pipe(count, places, program):
 
 
 def shown(count, places, agent, program):
-    """What the pages show of a reader's agent, with the one in C in its place. Each page's pipe is made by itself."""
+    """What the pages show of a reader's agent, with the one in C in its place. Each page's pipe is made separately."""
     folder = piped_agents.folder_of_reader(places.of("reader"), agent, program)
     replies = os.path.join(folder, "replies")
     for command in pages.of(pages.EMBED):
@@ -400,7 +400,7 @@ def shown(count, places, agent, program):
 
 
 def declared(count, places, crate):
-    """Header and library are one, and the library is small."""
+    """Header and library match, and the library is small."""
     size = os.path.getsize(places.library)
     count.check("the library's size", size <= LARGEST, f"{size} bytes")
     declarations.compare(count, places, HEADER, crate)

@@ -4,24 +4,24 @@ runs twice on a node, and nearly none is missed.
     tests/library/kept_cluster.py [--library FILE] [--over-ci] [--nodes N] [--kills N] [--seconds S] [--rate N] [--seed N]
                                   [--cut] [--without] [--keep]
 
-Each node is a process of its own, on a loopback address of its own. What it sends and gets by UDP is lost, repeated and late
-in part, so that events overtake one another. Events are fired at random nodes. Random nodes are killed by SIGKILL, some of them in
+Each node is a separate process with its own loopback address. Some of what it sends and receives by UDP is lost, repeated or late,
+so that events overtake one another. Events are fired at random nodes. Random nodes are killed by SIGKILL, some of them in
 the middle of a firing, and started again on their files; they join all others then. With --cut some nodes are cut off from the
-others again and again, for some seconds, and join them behind it. When enough were killed the cluster comes to rest.
+others again and again, for some seconds, and join them afterwards. After enough kills the cluster comes to rest.
 
-An event counts where the node that fired it took it. All nodes come back, so each event is to run on each node. An event that a node
-missed was one of these, by the node's files as its kills left them:
+An event counts if the node that fired it accepted it. All nodes come back, so each event should run on each node. If a node
+missed an event, the cause is one of these, by the node's files as its kills left them:
 
 - in flight: its line was in the file, and its handler never ran;
 - overtaken: the node started again on a file by which the event's time was old already;
-- other: all else, as an event that never came.
+- other: everything else, such as an event that never arrived.
 
-It fails where an event ran twice on a node, or where a node missed one event in a thousand or more. With --without the files keep no
-events: then what is missed is only told. `tests/by_hand/kept_cluster_long.py` runs both for longer.
+The script fails if an event ran twice on a node, or if a node missed one event in a thousand or more. With --without the files keep
+no events: then missed events are only reported. `tests/by_hand/kept_cluster_long.py` runs both for longer.
 
-Go and the sources of memberlist and of Serf have to be there (`tools/packages`); else it says so, and checks nothing. --library
-takes another static library than that of crates/serf_agent_c, which else is built; --over-ci builds it over what `rt ci` left, as
-the gate does.
+Go and the sources of memberlist and of Serf have to be installed (`tools/packages`); otherwise the script prints what is missing, and checks nothing.
+--library names another static library than that of crates/serf_agent_c, which is built otherwise; --over-ci builds it over what
+`rt ci` left, as the gate does.
 """
 
 import argparse
@@ -47,16 +47,16 @@ from beside_serf import kit, ran, until
 from serf_agent import kept
 from serf_agent.snapshot import values_in
 
-# How often a node exchanges its state with another one. (LAN clusters of Serf do so each 30 seconds.)
+# How often a node exchanges its state with another one. (LAN clusters of Serf do so every 30 seconds.)
 STATES = 1
 
-# One of so many pairs of an event and a node may be missed. In a run of fewer than FEW pairs what was in flight doesn't count.
+# One of so many pairs of an event and a node may be missed. In a run of fewer than FEW pairs, events in flight don't count.
 MISSED, FEW = 1000, 20000
 
-# How long no handler has to run at the end, and how long that may take, in seconds.
+# For how long no handler has to run at the end, and how long it may take until then, in seconds.
 STILL, REST = 4 * STATES, 60
 
-# How long a cut lasts, and how long none is, in seconds; and the share of the nodes that are cut off.
+# How long a cut lasts, how long there is none, in seconds, and the share of the nodes that are cut off.
 CUT, WHOLE, SIDE = (2, 6), (3, 8), 0.34
 
 # The shares of kills in the middle of a firing, and of nodes that may be down at once.
@@ -80,7 +80,7 @@ class Node(beside_serf.Ours):
             self.left.append(b"")
 
     def start_soon(self, wait):
-        """Starts it again after so many seconds, beside all else."""
+        """Starts it again after so many seconds, in the background."""
 
         def begin():
             time.sleep(wait)
@@ -90,10 +90,10 @@ class Node(beside_serf.Ours):
         self.starting.start()
 
     def cut(self, others):
-        """Cuts it off from these others, and from no more; then it joins all others."""
+        """Cuts it off from exactly these others; then it joins all others."""
         self.put_faults([other.addr for other in others])
         if self.is_up() and not others:
-            # (what it is cut off from it reads each tenth of a second)
+            # (it reads every tenth of a second what it is cut off from)
             time.sleep(0.2)
             self.said("join", *self.others)
 
@@ -106,7 +106,7 @@ class Torment:
 
     def __init__(self, nodes, asked):
         self.nodes, self.asked, self.draw = nodes, asked, random.Random(asked.seed)
-        # of each event that a node took its time, by its text; and those of which nobody knows, since the node was killed
+        # (for each event that a node accepted its time, by its text; and the events whose fate is unknown, since the node was killed)
         self.fired, self.unknown, self.kills = {}, set(), 0
         self.cuts, self.side, self.next_cut = 0, [], time.monotonic() + WHOLE[0]
 
@@ -140,7 +140,7 @@ class Torment:
         victim.start_soon(self.draw.uniform(0.1, 1.5))
 
     def cut(self):
-        """Cuts some nodes off, or mends that, in its time."""
+        """Cuts some nodes off, or ends a cut, when it is time."""
         if time.monotonic() < self.next_cut:
             return
         if self.side:
@@ -164,7 +164,7 @@ class Torment:
                 next_kill = time.monotonic() + self.draw.uniform(0.1, 0.6)
 
     def rest(self):
-        """Starts all that are down, and waits until no handler runs any more."""
+        """Starts all nodes that are down, and waits until no handler runs any more."""
         for node in self.nodes:
             if node.starting is not None:
                 node.starting.join()
@@ -183,14 +183,14 @@ class Torment:
 
 
 def noted(text):
-    """The events that have lines of their own in a file's text, as times and texts."""
+    """The events that have their own lines in a file's text, as times and texts."""
     return {(time, payload.decode("ascii", "replace")) for time, _, payload in kept.events_in(text)}
 
 
 def cause(node, text, time, without):
     """Why a node missed an event, by its files as its kills left them."""
     if without:
-        # (the clock line of just this time, and no event of this time ran)
+        # (the clock line of exactly this time, and no event of this time ran)
         has_line = any(re.search(rb"^event-clock: 0*%d$" % time, left, re.M) for left in node.left)
         if has_line and not any(line.split()[2] == str(time) for line in ran(node)):
             return "in flight"
@@ -203,7 +203,7 @@ def cause(node, text, time, without):
 
 
 class Told:
-    """What ran on the nodes, held against what was fired."""
+    """What ran on the nodes, compared with what was fired."""
 
     def __init__(self, torment, without):
         self.once = self.twice = 0
@@ -227,7 +227,7 @@ class Told:
 
 
 def cluster(folder, program, asked):
-    """The nodes. The addresses are of this process, so that two runs don't meet."""
+    """The nodes. The addresses depend on this process, so that two runs don't meet."""
     net = f"127.{10 + os.getpid() % 240}.{os.getpid() // 240 % 250}"
     nodes = [Node(folder, program, number, net, asked) for number in range(1, asked.nodes + 1)]
     for node in nodes:
@@ -252,8 +252,8 @@ def run(count, asked, library, folder):
             node.end()
     told, setting = Told(torment, asked.without), "without keep_events" if asked.without else "with keep_events"
     print(
-        f"{setting}: {len(nodes)} nodes, {torment.kills} kills, {torment.cuts} cuts, {len(torment.fired):,} events and {len(torment.unknown)} of which nobody "
-        f"knows, in {time.monotonic() - began:.0f} seconds; {told.said()}",
+        f"{setting}: {len(nodes)} nodes, {torment.kills} kills, {torment.cuts} cuts, {len(torment.fired):,} events and "
+        f"{len(torment.unknown)} of unknown fate, in {time.monotonic() - began:.0f} seconds; {told.said()}",
         flush=True,
     )
     count.check("no event ran twice on a node", told.twice == 0, told.said())
@@ -279,7 +279,7 @@ def main():
     count = checks.Checks()
     missing = kit.needed(["go"])
     if missing:
-        print(f"not run, since there is no {missing}")
+        print(f"not run, since {missing} is missing")
         return count.finish()
     fault = None if asked.library else c_library.fault_of_library(asked.over_ci)
     if fault:
@@ -290,7 +290,7 @@ def main():
         run(count, asked, os.path.dirname(os.path.abspath(asked.library or c_library.LIBRARY)), folder)
     finally:
         if asked.keep:
-            print(f"all is in {folder}")
+            print(f"the files are in {folder}")
         else:
             shutil.rmtree(folder)
     return count.finish()

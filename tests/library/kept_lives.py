@@ -1,14 +1,15 @@
-"""Agents that keep their events, over random lives: the library, by its binding for Python, beside the agent in Python of conformance/.
+"""Agents that keep their events, over random lives: compares the library, through its binding for Python, with the agent in Python of
+conformance/.
 
     tests/library/kept_lives.py [--library FILE] [--over-ci] [--seeds FIRST-LAST] [--steps N]
 
-Both do the same calls on the same text: packets, firings, queries, merges, compactions, and restarts on a text that is as it was, that has
-a tail of strangers' lines, or that is torn; with settings that change from life to life, `keep_events` among them. Behind each call
-both have to say the same, and to have the same clocks, the same least times, the same state and the same text, byte for byte. The
-library has to say that a compaction is worth doing just where that would leave half of the text or less.
+Both make the same calls on the same text: packets, firings, queries, merges, compactions, and restarts on a text that is unchanged,
+that has a tail of strangers' lines, or that is torn; with settings that change from life to life, `keep_events` among them. After
+each call both have to answer the same, and to have the same clocks, minimum times, state and text, byte for byte. The
+library has to report that a compaction is worthwhile exactly if it would leave half of the text or less.
 
-It fails too where a seed hands out an event twice, or where too little of what is looked for came. (`replay` and `conform` don't know
-the setting yet.) --library and --over-ci are those of tests/library/embed.py.
+The script also fails if a seed hands out an event twice, or if too few of the cases that it needs occurred. (`replay` and `conform`
+don't know the setting yet.) --library and --over-ci are those of tests/library/embed.py.
 """
 
 import argparse
@@ -30,10 +31,10 @@ from serf_agent import kept, messages
 # What a name or a payload may be.
 TEXTS = [b"", b"a", b"b", b"deploy"]
 
-# Times that packets have beside those near the clock.
+# Times that packets have, in addition to those near the clock.
 FAR = [0, 1, 100]
 
-# Lines that nobody asked for, as a tail may have them.
+# Lines of unknown origin, as a tail may have them.
 STRANGE = [
     b"event-clock: 7\n",
     b"event-clock: 012\n",
@@ -54,15 +55,15 @@ STRANGE = [
     b"\n",
 ]
 
-# How long a text is at least that is worth a compaction, in bytes.
+# The minimum size of a text that is worth a compaction, in bytes.
 LIMIT = 100
 
-# How often each of these has to have come in all seeds together.
+# The minimum number of times that each of these has to occur in all seeds together.
 LEAST = {"new": 300, "Seen": 100, "BelowMinimum": 100, "TooOld": 20, "TimeFull": 20, "compacted": 50, "restarted": 100, "torn": 30, "merged": 100, "worth": 100}
 
 
 def words_of(name):
-    """A reason as a trace says it."""
+    """A reason in the words of a trace."""
     return "".join(part.capitalize() for part in name.split("_"))
 
 
@@ -130,7 +131,7 @@ def line_of(event):
     return python_agent.event_line(event.time, event.name, event.payload, event.coalesce)
 
 
-class Beside:
+class Reference:
     """The agent in Python."""
 
     def open(self, config, text):
@@ -163,11 +164,11 @@ class Beside:
         return getattr(self.agent, name)(*words)
 
 
-class Course:
-    """A random course of lives, done by both."""
+class Lives:
+    """A random sequence of lives, made by both."""
 
     def __init__(self, seed, library):
-        self.draw, self.both = random.Random(seed), (library, Beside())
+        self.draw, self.both = random.Random(seed), (library, Reference())
         self.seen, self.handed, self.packets = collections.Counter(), collections.Counter(), []
         self.restart(b"")
 
@@ -203,7 +204,7 @@ class Course:
         return messages.encode_state(messages.PushPull(draw.randint(0, 9), [], [], self.time(), slots, self.time()))
 
     def packet(self):
-        """A packet, which may be one that came already."""
+        """A packet, which may be one that was received before."""
         if self.packets and self.draw.random() < 0.4:
             return self.draw.choice(self.packets[-40:])
         self.packets.append(self.event() if self.draw.random() < 0.75 else self.asked())
@@ -225,7 +226,7 @@ class Course:
         return ("save",) if draw < 0.88 else ("restart",)
 
     def left(self):
-        """The text of the next life: as it is, with a tail, or torn, by an append that nobody heard of."""
+        """The text of the next life: unchanged, with a tail, or torn by an append that wasn't confirmed."""
         draw, text = self.draw, self.both[1].text()
         kind = draw.random()
         if kind < 0.5:
@@ -238,7 +239,7 @@ class Course:
         return text + lines[: draw.randint(1, len(lines))]
 
     def step(self):
-        """Does a call by both. Gives what differs, or None."""
+        """Makes a call on both. Returns what differs, or None."""
         call = self.next()
         if call[0] == "restart":
             self.restart(self.left())
@@ -250,7 +251,7 @@ class Course:
             self.handed.update(answers[0][1])
         looks = [one.look() for one in self.both]
         self.seen["worth"] += looks[0][-1]
-        return None if looks[0] == looks[1] else f"behind {call}, {self.opened}: the library {looks[0]}, the agent in Python {looks[1]}"
+        return None if looks[0] == looks[1] else f"after {call}, {self.opened}: the library {looks[0]}, the agent in Python {looks[1]}"
 
 
 def run(count, binding, asked):
@@ -259,17 +260,17 @@ def run(count, binding, asked):
     with tempfile.TemporaryDirectory(dir="/dev/shm" if os.access("/dev/shm", os.W_OK) else None) as folder:
         for seed in range(int(first), int(last) + 1):
             library = Library(binding, os.path.join(folder, "snapshot"))
-            course = Course(seed, library)
-            fault = next(filter(None, (course.step() for _ in range(asked.steps))), None)
+            lives = Lives(seed, library)
+            fault = next(filter(None, (lives.step() for _ in range(asked.steps))), None)
             library.agent.close()
             count.check(f"seed {seed}", not fault, fault)
-            twice = [line for line, times in course.handed.items() if times > 1]
+            twice = [line for line, times in lives.handed.items() if times > 1]
             count.check(f"seed {seed}: nothing is handed out twice", not twice, twice)
-            seen.update(course.seen)
-            handed += course.handed.total()
+            seen.update(lives.seen)
+            handed += lives.handed.total()
     print(f"{handed:,} hand-outs; " + ", ".join(f"{seen[name]} {name}" for name in LEAST))
     for name, least in LEAST.items():
-        count.check(f"{name} came often enough", seen[name] >= least, f"{seen[name]}, and {least} are wanted")
+        count.check(f"{name} occurred often enough", seen[name] >= least, f"{seen[name]}, and {least} are needed")
 
 
 def main():
@@ -293,7 +294,7 @@ def main():
 
 
 def binding_for_python():
-    """The package of bindings/python. The agent of conformance/ has a package of the same name, so it is taken out of the way."""
+    """The package of bindings/python. The agent of conformance/ has a package of the same name, which is set aside meanwhile."""
     own = {name: sys.modules.pop(name) for name in list(sys.modules) if name.partition(".")[0] == "serf_agent"}
     sys.path.insert(0, os.path.join(checks.TOP, "bindings", "python"))
     try:

@@ -1,8 +1,7 @@
-"""What must not compile: a handed query that is answered twice, or cloned. Answering spends it.
+"""What must not compile: a handed query that is answered twice, or cloned. Answering it uses it up.
 
-A scratch crate over the repository's own, which `rt try` compiles without a proof: each must have one error, in its
-last line. That a query which is answered once compiles is a test of tests/library/units, in calls.rattle, which answers
-it.
+A scratch crate over the repository's crates, which `rt try` compiles without a proof: each case must have one error, in its
+last line. A test of tests/library/units, in calls.rattle, answers a query once, which shows that this compiles.
 """
 
 import os
@@ -38,7 +37,7 @@ ERROR = re.compile(r"^src/lib\.rt:(\d+):\d+: (error\[.*)$", re.M)
 
 
 def is_refused(last, error):
-    """Whether the code with this last line has this error there alone, and what the toolchain said."""
+    """Whether the code with this last line has this error and no other, and what the toolchain printed."""
     with scratch.crate("moved_query", ["serf_agent"]) as source:
         scratch.write(source, "lib.rt", CODE + last + "}\n")
         status, said = scratch.tried(source)

@@ -34,18 +34,18 @@ import host_lines
 
 BINDINGS = os.path.join(TOP, "bindings")
 
-# What a copy of a file in a binding's own folder is the copy of.
+# Copies of files in the bindings' own folders, and the originals.
 COPIES = {"go/serfagent/serf_agent.h": "../include/serf_agent.h", "go/serfagent/serf_agent_heap.c": "c/serf_agent_heap.c", "rust/LICENSE": "../LICENSE"}
 
-# A user who isn't root, and may read what stands in root's folders (where compilers stand), without a network.
+# The words that run a command as a user who isn't root, can read root's folders (with the compilers), and has no network.
 OFF_LINE = ["unshare", "--net"] if os.geteuid() == 0 and c_library.ran(["unshare", "--net", "true"])[0] == 0 else []
 NOBODY = [*OFF_LINE, "setpriv", "--reuid=65534", "--regid=65534", "--clear-groups", "--inh-caps=+dac_read_search", "--ambient-caps=+dac_read_search"]
 AS_USER = NOBODY if os.geteuid() == 0 else []
 
-# Where Debian has Go's packages.
+# The folder of Debian's Go packages.
 GO_CODE = "/usr/share/gocode"
 
-# Where the machine says that it is another one.
+# The words with which the machine reports another type.
 ELSEWHERE = ["setarch", "i686"]
 
 
@@ -54,7 +54,7 @@ class NotRun(Exception):
 
 
 class NoAgent:
-    """What stands for the agent's package where it can't be built."""
+    """A stand-in for the agent's package if it can't be built."""
 
     program = b"#!/bin/sh\nexit 3\n"
 
@@ -63,7 +63,7 @@ class NoAgent:
 
 
 class Archive:
-    """A release's archive, unpacked where users can't write, and the user's own folders."""
+    """A release's archive, unpacked in a place in which users can't write, and the user's own folders."""
 
     def __init__(self, root, library, program):
         self.root, self.top = root, os.path.join(root, "archive")
@@ -118,12 +118,12 @@ def env_of(home, **more):
 
 
 def by_user(folder, *words, home=None, **env):
-    """What the user's command answers and says."""
+    """The status of the user's command, and what it prints."""
     return c_library.ran([*AS_USER, *words], cwd=folder, env=env_of(home or folder, **env))
 
 
 def well(count, name, answer, said=None):
-    """A command that has to end well, and to say just this."""
+    """A command that has to end well, and to print exactly this."""
     holds = answer[0] == 0 and (said is None or answer[1] == said)
     count.check(name, holds, f"{answer[0]}: {answer[1][-1500:]}")
     return holds
@@ -154,7 +154,7 @@ def given(folder, name, text):
 
 
 def aged(path, to):
-    """A copy of a library or a program that wants a C library of the future, as one of today does on an old system."""
+    """A copy of a library or a program that needs a future C library, as today's one does on an old system."""
     with open(path, "rb") as file:
         text = file.read()
     newest = max(re.findall(rb"GLIBC_2\.(\d\d)\0", text), key=int)
@@ -162,7 +162,7 @@ def aged(path, to):
 
 
 def files(count, archive):
-    """What stands twice is the same, the manual page is the header's, and the versions are one."""
+    """Copies are the same as their originals, the manual page is the header's, and all have one version."""
     for copy, of in COPIES.items():
         count.check(f"bindings/{copy} is a copy of bindings/{of}", filecmp.cmp(os.path.join(BINDINGS, copy), os.path.join(BINDINGS, of), shallow=False))
     count.check("docs/serf_agent.3 is the header's: tools/manual_of_header.py writes it", manual_of_header.main(["--check"]) == 0)
@@ -173,7 +173,7 @@ def files(count, archive):
 
 
 def in_c(count, archive):
-    """make install, and hosts by pkg-config, by CMake and by the static library."""
+    """make install, and hosts that use pkg-config, CMake and the static library."""
     home = archive.home()
     make = ["make", "-s", "-C", archive.path("bindings", "c")]
     prefix, source = os.path.join(home, "prefix"), archive.path("bindings", "c", "example.c")
@@ -181,7 +181,7 @@ def in_c(count, archive):
         return
     shared = os.path.join(prefix, "lib", "libserf_agent.so")
     exported = re.findall(r" T (\w+)$", c_library.ran(["nm", "-D", "--defined-only", shared])[1], re.M)
-    count.check("it exports the agent's calls alone", len(exported) > 30 and all(name.startswith("serf_agent_") for name in exported), exported)
+    count.check("it exports only the agent's calls", len(exported) > 30 and all(name.startswith("serf_agent_") for name in exported), exported)
     held = re.findall(r" [A-Z] (\w+)$", c_library.ran(["nm", "-g", "--defined-only", os.path.join(prefix, "lib", "libserf_agent.a")])[1], re.M)
     count.check("so does the static library", sorted(held) == sorted(exported), held)
     count.check("its SONAME", "libserf_agent.so.0\n" in c_library.ran(["objdump", "-p", shared])[1])
@@ -201,11 +201,11 @@ def in_c(count, archive):
     refused(count, "no compiler", by_user(home, *make, "CC=none"), "there is no C compiler none on PATH")
     refused(count, "no library", by_user(home, *make, "LIBRARY=/none"), "the agent's library isn't there")
     refused(count, "a folder that can't be written", by_user(home, *make, "install", "PREFIX=/proc/none"), "/proc/none can't be written")
-    refused(count, "another machine", by_user(home, *ELSEWHERE, *make, "install", f"PREFIX={prefix}"), "for Linux on x86-64, and this is Linux i686")
+    refused(count, "another machine", by_user(home, *ELSEWHERE, *make, "install", f"PREFIX={prefix}"), "for Linux on x86-64, but this system is Linux i686")
 
 
 def by_tools(count, archive, home, prefix, source):
-    """Hosts by pkg-config and by CMake."""
+    """Hosts that use pkg-config and CMake."""
     found = {"PKG_CONFIG_PATH": os.path.join(prefix, "lib", "pkgconfig"), "LD_LIBRARY_PATH": os.path.join(prefix, "lib")}
     if shutil.which("pkg-config"):
         line = f"cc -o by_pkg_config {source} $(pkg-config --cflags --libs serf_agent)"
@@ -224,14 +224,14 @@ def by_tools(count, archive, home, prefix, source):
 
 
 def in_python(count, archive):
-    """The wheel, installed into an environment of the user's; and built from the sources."""
+    """The wheel, installed into an environment of the user's; and a wheel built from the sources."""
     home, python = archive.home(), os.path.realpath(sys.executable)
     if not well(count, "an environment", by_user(home, python, "-m", "venv", "own")):
         return
     python = os.path.join(home, "own", "bin", "python")
     own = {"PATH": f"{os.path.dirname(python)}:{os.environ['PATH']}", "PIP_NO_INDEX": "1"}
     for shown in as_shown("python"):
-        # the first one installs the wheel
+        # (the first command installs the wheel)
         answer = by_user(archive.top, "sh", "-ec", shown.text, home=home, **own)
         if not well(count, shown.name(), answer, None if shown.text.startswith("pip ") else archive.example):
             return
@@ -247,7 +247,7 @@ def in_python(count, archive):
     count.check("it is the archive's, byte by byte", len(wheels) == 1 and filecmp.cmp(wheels[0], archive.wheel, shallow=False), wheels)
     refused(count, "no library in Python", by_user(home, python, "-m", "serf_agent", SERF_AGENT_LIBRARY="/none"), "^serf_agent: the library can't be loaded: /none: ")
     refused(count, "a folder that isn't there", by_user(home, python, "-m", "serf_agent", "/none"), "^/none/alpha.snapshot: No such file or directory$")
-    refused(count, "another machine in Python", by_user(home, *ELSEWHERE, python, "-m", "serf_agent"), "^serf_agent: the library is for Linux on x86-64, and this is Linux on i686$")
+    refused(count, "another machine in Python", by_user(home, *ELSEWHERE, python, "-m", "serf_agent"), "^serf_agent: the library is for Linux on x86-64, and this system is Linux on i686$")
     old = aged(archive.path("lib", "libserf_agent.so"), os.path.join(home, "libserf_agent.so"))
     refused(count, "an old C library in Python", by_user(home, python, "-m", "serf_agent", SERF_AGENT_LIBRARY=old), "is older than the one that it was linked with")
     builder = [python, archive.path("bindings", "python", "build_wheel.py"), home]
@@ -259,7 +259,7 @@ def in_python(count, archive):
 
 
 def in_rust(count, archive):
-    """`cargo package` verifies, and a crate of the user's depends on the archive's."""
+    """`cargo package` verifies, and a user's crate depends on the archive's."""
     if shutil.which("cargo") is None:
         raise NotRun("cargo is not on PATH")
     home = archive.home()
@@ -278,12 +278,12 @@ def in_rust(count, archive):
     crate = archive.copy(home, "bindings", "rust")
     answer = by_user(crate, "cargo", "package", home=home, **target)
     well(count, "cargo package verifies", answer)
-    count.check("cargo package says nothing of what is missing", "Verifying" in answer[1] and not re.search(r"warning: (?!ignoring example)", answer[1]), answer[1])
+    count.check("cargo package prints nothing about what is missing", "Verifying" in answer[1] and not re.search(r"warning: (?!ignoring example)", answer[1]), answer[1])
     for shown in as_shown("rust"):
         answer = by_user(crate, "sh", "-ec", shown.text.replace("FOLDER", archive.home_of(home, "shown")), home=home, **target)
         count.check(shown.name(), answer[0] == 0 and answer[1].endswith(archive.example), answer)
     shutil.rmtree(os.path.join(crate, "native"))
-    refused(count, "no library in Rust", by_user(crate, "cargo", "build", home=home, **target), r"serf_agent: the static library isn't in this package: SERF_AGENT_LIBRARY has to name")
+    refused(count, "no library in Rust", by_user(crate, "cargo", "build", home=home, **target), r"serf_agent: the static library isn't in this package: set SERF_AGENT_LIBRARY to")
     refused(count, "a library that isn't there", by_user(crate, "cargo", "build", home=home, SERF_AGENT_LIBRARY="/none/a.a", **target), r"serf_agent: there is no library at /none/a\.a")
     scripts = glob.glob(os.path.join(home, "target", "debug", "build", "serf_agent-*", "build-script-build"))
     elsewhere = {"CARGO_CFG_TARGET_OS": "macos", "CARGO_CFG_TARGET_ARCH": "aarch64"}
@@ -291,7 +291,7 @@ def in_rust(count, archive):
 
 
 def in_go(count, archive):
-    """The module serfagent is whole in itself: from the archive, from a vendor folder, and under another path; and a node over the
+    """The module serfagent is complete by itself: from the archive, from a vendor folder, and under another path; and a node over the
     package serf."""
     if shutil.which("go") is None:
         raise NotRun("go is not on PATH")
@@ -312,7 +312,7 @@ def in_go(count, archive):
     for shown in as_shown("go"):
         line = shown.text.replace("FOLDER", archive.home_of(home, "shown"))
         well(count, shown.name(), by_user(programs, "sh", "-ec", line, **vet), archive.example)
-    # a fork changes one line, and all that stands beside the module still builds
+    # (a fork changes one line, and everything next to the module still builds)
     fork = archive.copy(home, "bindings", "go")
     line = os.path.join(fork, "serfagent", "go.mod")
     by_user(fork, "sed", "-i", "1s,.*,module forge.example/fork/serfagent,", line, **more)
@@ -327,11 +327,11 @@ def in_go(count, archive):
 
 
 def node_in_go(count, archive, home):
-    """docs/GO.md: its program, built by its lines over the archive and Debian's packages, and run twice on one file. Its address is one
-    of this run."""
+    """docs/GO.md: its program, built by its lines over the archive and Debian's packages, and run twice on one file. Its address
+    belongs to this run."""
     needed = os.path.join(GO_CODE, "src", "github.com", "hashicorp", "serf", "coordinate")
     if not os.path.isdir(needed):
-        print(f"not run: the program of docs/GO.md, since {needed} isn't there")
+        print(f"not run: the program of docs/GO.md, since {needed} is missing")
         return
     blocks = {text.split()[0]: text for _, text in reversed(list(pages.blocks("docs/GO.md")))}
     own = archive.home_of(home, "node")
@@ -341,7 +341,7 @@ def node_in_go(count, archive, home):
     if not well(count, "the lines of docs/GO.md build its program", answer, ""):
         return
     for at in (1, 2):
-        # (where there is no network, there is no loopback address either)
+        # (without a network, there is no loopback address either)
         status, said = c_library.ran([*AS_USER[len(OFF_LINE) :], "timeout", "300", os.path.join(own, "web1")], cwd=own, env=env_of(home))
         count.check(f"it is handed its event at {at}", status == 0 and f"handled deploy v1 at {at}\n" in said, f"{status}: {said[-1500:]}")
 
@@ -359,10 +359,10 @@ def installed(count, archive):
     schedule, trace = (archive.path("examples", f"deploy_gossiped_twice.{ending}") for ending in ("schedule", "trace"))
     with open(trace, encoding="utf-8") as file:
         well(count, "the program that was installed", by_user(home, os.path.join(prefix, "bin", "serf-replay"), "replay", schedule), file.read())
-    refused(count, "an installation on another machine", by_user(home, *ELSEWHERE, archive.path("install"), prefix), "^install: the program is for Linux on x86-64, and this is Linux i686$")
-    refused(count, "an installation where nobody may write", by_user(home, archive.path("install"), "/proc/none"), "^install: /proc/none can't be written; name another folder$")
+    refused(count, "an installation on another machine", by_user(home, *ELSEWHERE, archive.path("install"), prefix), "^install: the program is for Linux on x86-64, but this system is Linux i686$")
+    refused(count, "an installation into a folder that nobody may write", by_user(home, archive.path("install"), "/proc/none"), "^install: /proc/none can't be written; name another folder$")
     refused(count, "an installation without a folder", by_user(home, archive.path("install")), r"^usage: \./install PREFIX")
-    refused(count, "an installation of a clone", by_user(home, os.path.join(TOP, "install"), prefix) if os.access(TOP, os.X_OK) else (1, ""), "^install: this is no release's archive")
+    refused(count, "an installation of a clone", by_user(home, os.path.join(TOP, "install"), prefix) if os.access(TOP, os.X_OK) else (1, ""), "^install: this folder isn't a release")
     without_make(count, archive, home)
     copy = archive.copy(home, "install")
     os.makedirs(os.path.join(home, "bin"))
@@ -371,7 +371,7 @@ def installed(count, archive):
 
 
 def without_make(count, archive, home):
-    """What it calls is on every system: no make, no compiler."""
+    """It only calls what every system has: no make, no compiler."""
     few, prefix = archive.home_of(home, "few"), os.path.join(home, "without_make")
     for name in ("sh", "dirname", "uname", "mkdir", "install", "sed", "ln"):
         by_user(home, "ln", "-s", shutil.which(name), few)
@@ -381,7 +381,7 @@ def without_make(count, archive, home):
 
 
 def page(count, archive):
-    """docs/START.md, part by part, as it stands there: the commands of its blocks, and after `#` what they print."""
+    """docs/START.md, part by part, exactly as shown: the commands of its blocks, and after `#` what they print."""
     with open(os.path.join(TOP, "docs", "START.md"), encoding="utf-8") as file:
         parts = dict(re.findall(r"^## (.+?)\n(.*?)(?=^## |\Z)", file.read(), re.M | re.S))
     home = archive.home()
@@ -401,12 +401,12 @@ def page(count, archive):
         for line in wanted:
             at = said.find(line + "\n", at + 1)
             count.check(f"{title}: it prints {line!r}", at >= 0, said[-1500:])
-        count.check(f"{title}: what stands on the page", status == 0, f"{status}: {said[-1500:]}")
+        count.check(f"{title}: the commands on the page", status == 0, f"{status}: {said[-1500:]}")
         print(f"docs/START.md, {title}: {time.monotonic() - began:.1f} seconds")
 
 
 def aged_program(archive, to):
-    """The program as it is on an old system: it wants a newer C library, or says so where it isn't linked with one."""
+    """The program as it is on an old system: it needs a newer C library. If it isn't linked with one, a stand-in prints that error."""
     try:
         aged(archive.path("bin", "serf-replay"), to)
     except ValueError:
@@ -438,7 +438,7 @@ def main():
         print(f"{fault}\n0 passed, 1 failed")
         return 1
     if not OFF_LINE:
-        print("not run: without a network, since this user can't make a space without one; the tools are told to use none")
+        print("not run: without a network, since this user can't make a space without one; the tools are only configured to use none")
     total, root = checks.Checks(), tempfile.mkdtemp(prefix="packages-")
     os.chmod(root, 0o755)
     try:

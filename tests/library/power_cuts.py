@@ -1,26 +1,26 @@
-"""Power cuts: each one that the calls of a host allow, over the stores of C, Python, Go, Rust and `FileStore`.
+"""Power cuts: every power cut that a host's calls allow, over the stores of C, Python, Go, Rust and `FileStore`.
 
     tests/library/power_cuts.py [--seed N] [--only STORE] [--library FILE] [--over-ci]
 
 A process that is killed loses no page of the system's cache, so no kill shows what a power cut does. Here a host runs
-under strace, and the calls of the system that it made are read back, in order. Behind each of them the power is cut, in
-each way that tests/library/power_cuts/disks.py plays: a file has its bytes up to its last sync, and any prefix of the
+under strace, and the system calls that it made are read back, in order. After each of them the power is cut, in
+each way that tests/library/power_cuts/disks.py simulates: a file has its bytes up to its last sync, and any prefix of the
 rest or zeros in its place; a folder has its entries up to its last sync, and any prefix of the changes since.
 
-- Level a, a store by its lines: nothing that was answered is lost.
+- Level a, a store driven by lines: nothing that was answered is lost.
 - Level b, an agent over it: each text that a cut leaves is opened again and offered every packet again. Nothing is
-  handed out twice, and what is fired then is later than all that was handed out.
-- Level c, the order: where an event or a query is handed out, or a packet handed over, its line is on the disk.
-- Level d, an agent that keeps its events (`keep_events`): levels b and c hold of it too, each event and each query has its own line
+  handed out twice, and what is fired then is later than everything that was handed out.
+- Level c, the order: when an event or a query is handed out, or a packet handed over, its line is on the disk.
+- Level d, an agent that keeps its events (`keep_events`): levels b and c hold for it too, each event and each query has its own line
   on the disk when it is handed out, and the next life misses none of those that it is offered again. What was in flight is
-  counted apart: its line was whole, and it wasn't handed out yet. The same texts are opened without the setting too, where
-  nothing comes twice either, and more is missed. What a join that ignores old events refused stays refused.
+  counted separately: its line was whole, and it wasn't handed out yet. The same texts are also opened without the setting. Then
+  nothing is handed out twice either, and more is missed. What a join that ignores old events refused stays refused.
 
-Disks that are full and syncs that fail are played at calls that the seed draws. Then faults are planted into copies of
-the stores, each a sync that is missing or late; each has to be found.
+Full disks and failing syncs are simulated at calls that the seed selects. Then bugs are planted into copies of
+the stores, each a sync that is missing or late; each of them has to be found.
 
---seed takes other lines, packets and failing calls. --only takes one store. --library and --over-ci are those of
-tests/library/embed.py. A language that isn't there is left out, which is printed.
+--seed selects other lines, packets and failing calls. --only tries one store. --library and --over-ci are those of
+tests/library/embed.py. A language that isn't installed is left out, and the script prints that.
 """
 
 import argparse
@@ -45,35 +45,35 @@ import scripts
 import simulated
 import traces
 
-# Where nothing of a file has to reach a real disk, the system's syncs take no time.
+# If nothing of a file has to reach a real disk, the system's syncs take no time.
 MEMORY = "/dev/shm"
 
-# How many failing calls are played in the lines of a store, and in a life of an agent.
+# How many failing calls are tried in the lines of a store, and in a life of an agent.
 FAILING = 3
 
-# How many of the texts that cuts leave are opened again where a fault is planted.
+# How many of the texts that cuts leave are opened again if a bug is planted.
 OPENED = 40
 
-# How many cuts have to be looked at in each store and level.
+# The minimum number of cuts that have to be tried for each store and level.
 LEAST = {"a": 150, "b": 150, "c": 100, "d": 150}
 
 
 class Count(checks.Checks):
-    """Checks; how many cuts were looked at, by store and level; and how many texts were opened again, by store."""
+    """Checks; how many cuts were tried, by store and level; and how many texts were opened again, by store."""
 
     def __init__(self):
         super().__init__()
         self.cuts, self.opened = {}, {}
-        # of each store, what lives that keep their events missed, and what others missed on the same texts
+        # for each store, what lives that keep their events missed, and what others missed on the same texts
         self.missed, self.missed_without = {}, {}
 
     def seen(self, store, level, name, seen):
-        """What was looked at in a run: it has no fault."""
+        """Checks that a run has no error, and adds its cuts."""
         self.cuts[store, level] = self.cuts.get((store, level), 0) + seen.cuts
         self.check(
             f"{store}, level {level}, {name}",
             not seen.faults,
-            f"{len(seen.faults)} faults in {seen.cuts} cuts: {seen.faults[:2]}",
+            f"{len(seen.faults)} errors in {seen.cuts} cuts: {seen.faults[:2]}",
         )
 
 
@@ -90,7 +90,7 @@ class Trial:
         return lives.Run(self.store, lines, beginning, self.room, **more)
 
     def failing(self, run, drawn):
-        """Some of the calls that can fail, of as many kinds as there are."""
+        """Some of the calls that can fail, of as many kinds as possible."""
         places = run.failing_places()
         kinds = sorted(places)
         drawn.shuffle(kinds)
@@ -103,16 +103,16 @@ class Trial:
             drawn = self.drawn("store", beginning)
             lines = lives.store_lines(drawn)
             run = self.run(lines, beginning)
-            self.count.check(f"{name}: no fault, {beginning}", run.faults() == 0, run.answered)
+            self.count.check(f"{name}: no error, {beginning}", run.faults() == 0, run.answered)
             self.count.seen(name, "a", beginning, lives.of_store(run))
         for words in self.failing(run, drawn):
             ran = self.run(lines, beginning, failing=words)
-            self.count.check(f"{name}: {words} is a fault once", ran.faults() == 1, ran.answers())
+            self.count.check(f"{name}: {words} is an error once", ran.faults() == 1, ran.answers())
             self.count.seen(name, "a", words, lives.of_store(ran))
         self.of_full_disk()
 
     def of_full_disk(self):
-        """Level a with a disk on which a line has room in part alone, until the text is replaced by a shorter one."""
+        """Level a with a disk that has room for only a part of a line, until the text is replaced by a shorter one."""
         lines = [line for line in lives.store_lines(self.drawn("full")) if not line.startswith("replace ")]
         lines[-1:-1] = ["replace 610a", "append 620a"]
         size = len(scripts.OLD) + len(bytes.fromhex(lines[1].split()[1])) + 5
@@ -138,40 +138,40 @@ class Trial:
         self.count.seen(self.store.name, "c", name, order)
 
     def of_agent(self):
-        """Levels b and c: lives from each beginning, one that compacts behind each call, some with failing calls."""
+        """Levels b and c: lives from each beginning, one that compacts after each call, some with failing calls."""
         for beginning in scripts.BEGINNINGS:
             drawn = self.drawn("life", beginning)
             lines = lives.agent_lines(scripts.of_an_agent(drawn))
             run = self.run(lines, beginning)
-            self.count.check(f"{self.store.name}: a life with no fault, {beginning}", run.faults() == 0, run.answered)
+            self.count.check(f"{self.store.name}: a life without an error, {beginning}", run.faults() == 0, run.answered)
             self.of_life(f"a life from {beginning}", run, drawn)
         for words in self.failing(run, drawn):
             ran = self.run(lines, beginning, failing=words)
-            self.count.check(f"{self.store.name}: {words} is a fault once in a life", ran.faults() == 1, ran.answers())
+            self.count.check(f"{self.store.name}: {words} is an error once in a life", ran.faults() == 1, ran.answers())
             self.of_life(f"a life with {words}", ran, drawn)
         drawn = self.drawn("compacting")
         self.of_life(
-            "a compaction behind each call", self.run(lives.agent_lines(scripts.compacting(drawn)), "a file"), drawn
+            "a compaction after each call", self.run(lives.agent_lines(scripts.compacting(drawn)), "a file"), drawn
         )
         if self.store.has_bursts:
             self.of_bursts()
 
     def of_bursts(self):
-        """Levels b and c: a life in bursts, and the same with a call of the system that fails."""
+        """Levels b and c: a life in bursts, and the same life with a system call that fails."""
         drawn = self.drawn("bursting")
         lines = lives.agent_lines(scripts.bursting(drawn))
         run = self.run(lines, "a file")
-        self.count.check(f"{self.store.name}: bursts with no fault", run.faults() == 0, run.answered)
+        self.count.check(f"{self.store.name}: bursts without an error", run.faults() == 0, run.answered)
         flushes = run.syncs_of_lines()
         self.count.check(f"{self.store.name}: one flush of each burst", max(flushes) == 1 and sum(flushes) > 5, flushes)
         self.of_life("bursts", run, drawn)
         syncs = [words for name, places in run.failing_places().items() if name == "fdatasync" for words in places]
         ran = self.run(lines, "a file", failing=drawn.choice(syncs))
-        self.count.check(f"{self.store.name}: a failed sync of a burst is a fault once", ran.faults() == 1, ran.answers())
+        self.count.check(f"{self.store.name}: a failed sync of a burst is an error once", ran.faults() == 1, ran.answers())
         self.of_life("bursts with a failed sync", ran, drawn)
 
     def of_keeping(self):
-        """Level d: lives that keep their events, from each beginning, some with failing calls, one that compacts behind each call, one
+        """Level d: lives that keep their events, from each beginning, some with failing calls, one that compacts after each call, one
         with joins that ignore old events, and one in bursts."""
         missed, without = kept.Missed(), kept.Missed()
         self.count.missed[self.store.name], self.count.missed_without[self.store.name] = missed, without
@@ -200,19 +200,19 @@ class Trial:
         drawn = self.drawn("keeping and joining")
         lines = lives.agent_lines(scripts.joining(drawn), "O")
         run = self.run(lines, "a file")
-        self.count.check(f"{self.store.name}: joins set a least time", max(run.least_after()) > 0, run.answered)
+        self.count.check(f"{self.store.name}: joins set a minimum time", max(run.least_after()) > 0, run.answered)
         yield "joins", run, drawn
         for words in self.failing(run, drawn):
             yield f"joins with {words}", self.run(lines, "a file", failing=words), drawn
         drawn = self.drawn("keeping and compacting")
         lines = lives.agent_lines(scripts.compacting(drawn), "O")
-        yield "a compaction behind each call", self.run(lines, "a file"), drawn
+        yield "a compaction after each call", self.run(lines, "a file"), drawn
         if self.store.has_bursts:
             drawn = self.drawn("keeping and bursting")
             yield "bursts", self.run(lives.agent_lines(scripts.bursting(drawn), "O"), "a file"), drawn
 
     def found(self, fault):
-        """How much is wrong in each level where this fault is on: in a store's lines, and in an agent's life."""
+        """How much is wrong in each level if this bug is on: in a store's lines, and in an agent's life."""
         began = "a file that was never synced" if fault == "opened_text" else "no file"
         drawn = self.drawn("planted", fault)
         store = lives.of_store(self.run(lives.store_lines(drawn), began, fault=fault))
@@ -222,12 +222,12 @@ class Trial:
         return {level: len(seen.faults) for level, seen in zip("abc", (store, whole, order))}
 
     def plants(self):
-        """Each fault that can be planted is found; and none is, where none is on."""
+        """Each bug that can be planted is found; and if none is on, nothing is found."""
         for fault in self.store.plants:
             found = self.found(fault)
             if fault == faults.NONE:
                 self.count.check(
-                    f"{self.store.name}: nothing is found where no fault is on", not any(found.values()), found
+                    f"{self.store.name}: nothing is found if no bug is on", not any(found.values()), found
                 )
                 continue
             print(f"planted in {self.store.name}, {faults.FAULTS[fault]}: found by {found}", flush=True)
@@ -240,13 +240,13 @@ class Trial:
         for level, least in LEAST.items():
             looked = self.count.cuts[self.store.name, level]
             self.count.check(
-                f"{self.store.name}, level {level}: enough cuts", looked >= least, f"{looked}, and {least} are wanted"
+                f"{self.store.name}, level {level}: enough cuts", looked >= least, f"{looked}, and {least} are needed"
             )
         self.plants()
 
 
 def try_store(count, name, places, seed, room):
-    """All of one store; what it took is printed."""
+    """All parts of one store; the time that it took is printed."""
     kind, command = hosts.STORES[name]
     if command and shutil.which(command) is None:
         print(f"not run: {name}, since {command} isn't on PATH")
@@ -292,11 +292,11 @@ def main():
     asked = words.parse_args()
     count = Count()
     simulated.try_all(count)
-    fault = None if shutil.which("strace") else "strace isn't on PATH, and nothing can be looked at without it"
+    fault = None if shutil.which("strace") else "strace isn't on PATH, and nothing can be traced without it"
     if not fault and not asked.library:
         fault = c_library.fault_of_library(asked.over_ci)
     if fault:
-        count.check("there is what it needs", False, fault)
+        count.check("everything that it needs is installed", False, fault)
         return count.finish()
     room = MEMORY if os.access(MEMORY, os.W_OK) else None
     with tempfile.TemporaryDirectory(prefix="power-cuts-") as folder:

@@ -1,17 +1,17 @@
-"""Programs on the agent's RPC, over two stock agents and over two of `kitchenrue-agent`: what they get is the same.
+"""Programs on the agent's RPC, over two stock agents and over two of `kitchenrue-agent`: they get the same answers.
 
     tests/library/rpc_client.py [--library FILE] [--over-ci] [--agent PROGRAM]
 
-- A program on Serf's own client in Go (`rpc_client/driver`) calls each method of it, and prints what came, with the types. The
-  two texts are compared line by line. What differs has a row in DIFFERENT, with the reason.
-- Serf's own tests of that client and of its commands, as Debian's package has them, run over a process (`rpc_client/shim`). What
-  passes at a stock agent passes at ours.
+- A program on Serf's own client in Go (`rpc_client/driver`) calls each method of it, and prints the results, with their types. The
+  two texts are compared line by line. A difference has a row in DIFFERENT, with the reason.
+- Serf's own tests of that client and of its commands, from Debian's package, run over a process (`rpc_client/shim`). A test that
+  passes with a stock agent passes with ours.
 - A program in Python reads the protocol by the package msgpack, with its defaults (`rpc_client/reader.py`).
 
-Go, memberlist, Debian's package `serf`, the sources of Serf's client and the Python package have to be there, as
-`tools/packages` installs them; else it says so. Of Serf's sources nothing is kept here: they are linked into a folder of the
-run. --library takes another static library than that of crates/serf_agent_c, which else is built; --over-ci builds it over what
-`rt ci` left, as the gate does; --agent takes a built agent.
+Go, memberlist, Debian's package `serf`, the sources of Serf's client and the Python package have to be installed, as
+`tools/packages` does; otherwise the script prints what is missing. Nothing of Serf's sources is kept here: they are linked into a folder of the
+run. --library names another static library than that of crates/serf_agent_c, which is built otherwise; --over-ci builds it over what
+`rt ci` left, as the gate does; --agent names a built agent.
 """
 
 import argparse
@@ -38,51 +38,51 @@ import serf_package
 OWN = os.path.join(TOP, "tests", "library", "rpc_client")
 SERF = os.path.join("src", "github.com", "hashicorp", "serf")
 
-# The files of Serf's own that have the tests, and what these share.
+# The files of Serf's own that have the tests, and the files that these share.
 TESTS = ("rpc_client_test.go", "util_test.go")
 
-# The kinds of agents, and how far behind the others the addresses of each begin.
+# The kinds of agents, and at which offset the addresses of each begin.
 STOCK, OURS = "stock", "ours"
 FIRST = {STOCK: 0, OURS: 100}
 
-# The number of the net of the commands' tests, which run one after another: each of the client's has one before. And the last number of
-# the address of the agent that Python reads, behind those of the driver.
+# The number of the net of the commands' tests, which run one after another: each of the client's tests has a smaller one. And the
+# last number of the address of the agent that Python reads, which is after those of the driver.
 COMMANDED, READ = 100, 95
 
 # How long one program may run, in seconds.
 LIMIT = 900
 
-# How many facts the driver prints at least.
+# The minimum number of facts that the driver prints.
 LEAST_FACTS = 600
 
-# What is false at a stock agent, as it has to be. All other facts that can hold do.
+# What is false for a stock agent, as expected. All other facts that can hold do.
 FALSE = (
     *("stopped stream has it", "coordinate of nobody is there", "client is closed before", "monitor of errors has others"),
     "stats, serf encrypted",
 )
 
-# How long a pause of Serf's tests is, in seconds, try by try: they look once behind a pause, which may be too short for a process,
+# How long a pause of Serf's tests is, in seconds, try by try: they check once after a pause, which may be too short for a process,
 # or too long for a query that it waits for.
 PAUSES = (0.1, 0.4, 1.6, 0.1, 0.4, 5, 0.2, 0.4, 15, 0.3)
 
-# The pauses that are tried first, where a test looks for what takes its time: a failure is seen, or a coalesced event comes.
+# The pauses that are tried first if a test waits for something slow: until a failure is seen, or a coalesced event arrives.
 FIRST_PAUSE = {"TestRPCClientForceLeave": 5, "TestRPCClientForceLeave_prune": 5, "TestRPCClientStream_Member": 1.6}
 
-# How many tests of the client and of the commands have to be there.
+# The minimum number of tests of the client and of the commands.
 LEAST_TESTS, LEAST_OF_COMMANDS = 19, 43
 
-# The token that an agent asks of its clients, where a test is about that.
+# The token that an agent requires from its clients, if a test is about that.
 TOKENS = {"TestRPCClientAuth": "foobar"}
 
 # The tests that can't pass over a process, and why.
 NOT_TRIED = {"TestRPCClientMonitor": "its first line of the log has to be of a client, and an agent that is a process has begun before"}
 
-# The tests that pass at a stock agent alone, and why.
+# The tests that only pass with a stock agent, and why.
 FAILING = {}
 
 
 class Row:
-    """Facts that differ: their names, what a stock agent gives and what ours gives, as expressions, and why. None is no such fact."""
+    """Facts that differ: their names, the values of a stock agent and of ours, as expressions, and why. None means no such fact."""
 
     def __init__(self, names, stock, ours, why):
         self.names, self.stock, self.ours, self.why = names, stock, ours, why
@@ -93,18 +93,18 @@ class Row:
 
 
 DIFFERENT = (
-    Row("stats, agent (program|handlers_waiting|queries_waiting)|stats, serf (dropped(_far|_kept)?|events_waiting)", None, ".+", "ours says more of itself"),
+    Row("stats, agent (program|handlers_waiting|queries_waiting)|stats, serf (dropped(_far|_kept)?|events_waiting)", None, ".+", "ours reports more about itself"),
     Row("members by a bad expression of a .*, error", "client closed", "Failed to compile regex: .*", "a stock agent ends the client"),
     Row("answer that is too long, error", "failed to respond to key query: (response exceeds .*)", "response exceeds .*", "a stock agent calls each query one of keys"),
     Row("second answer, error", ".*response already sent", "No pending queries matching ID", "ours forgets a query that was answered"),
-    Row("second monitor of a client, error", "Monitor already exists", "<nil>", "ours takes more than one"),
+    Row("second monitor of a client, error", "Monitor already exists", "<nil>", "ours allows more than one"),
     Row(r'stream of .*, (none|quiet|behind) "", Payload', "<nil> <nil>", r'\[\]uint8 ""', "what is fired without a payload has an empty one"),
     Row("member-update comes again, behind what came of others", "true", "false", "a stock agent repeats a change of tags with each later event of a member"),
 )
 
 
 def missing():
-    """What isn't there of what is needed, or None."""
+    """What is missing of what is needed, or None."""
     found = [name for name in [kit.needed()] if name]
     if not os.path.isfile(os.path.join(kit.GOCODE, SERF, "client", "rpc_client.go")):
         found.append("sources of Serf's client")
@@ -141,7 +141,7 @@ def built(folder):
 
 
 def agent_of(count, asked, folder):
-    """The agent: the one that was asked for, or one that is built as its page says."""
+    """The agent: the one that an option names, or one that is built as its page says."""
     if asked.agent:
         return os.path.abspath(asked.agent)
     fault = None if asked.library else c_library.fault_of_library(asked.over_ci)
@@ -155,7 +155,7 @@ def agent_of(count, asked, folder):
 
 
 class Side:
-    """Agents of a kind: the words that start one, and their addresses, which are of this process."""
+    """Agents of a kind: the words that start one, and their addresses, which depend on this process."""
 
     def __init__(self, kind, words, folder):
         self.kind, self.words, self.first = kind, words, FIRST[kind]
@@ -169,7 +169,7 @@ class Side:
 
 
 def ended(words, **more):
-    """A program's status, its text and its faults, or that it took too long."""
+    """A program's status, its output and its errors, or that it took too long."""
     try:
         done = subprocess.run(words, stdin=subprocess.DEVNULL, capture_output=True, text=True, errors="replace", timeout=LIMIT, **more)
     except subprocess.TimeoutExpired:
@@ -178,7 +178,7 @@ def ended(words, **more):
 
 
 def driven(side, driver):
-    """What the driver says of a side."""
+    """What the driver prints for a side."""
     return ended([driver, side.net, str(side.first), side.folder, *side.words])
 
 
@@ -188,7 +188,7 @@ def facts(text):
 
 
 def compare(count, stock, ours):
-    """Checks that each fact of both is the same, but for those that have a row."""
+    """Checks that each fact of both is the same, except for those that have a row."""
     used = set()
     for name in {**stock, **ours}:
         theirs, own = stock.get(name), ours.get(name)
@@ -196,32 +196,32 @@ def compare(count, stock, ours):
         used.add(row)
         count.check(name, theirs == own or row, f"stock: {theirs}, ours: {own}")
     for row in DIFFERENT:
-        count.check(f"a difference: {row.names}", row in used, f"it isn't there any more: {row.why}")
+        count.check(f"a difference: {row.names}", row in used, f"it no longer exists: {row.why}")
 
 
 def check_driven(count, said):
-    """Checks what the driver said of both sides, where it ended well on both."""
+    """Checks what the driver printed for both sides, if it ended well on both."""
     for kind, (status, text, fault) in said.items():
         count.check(f"the driver ends well, {kind}", status == 0, f"{status}: {fault}")
     if any(status != 0 for status, _, _ in said.values()):
         return
     for kind, (_, text, _) in said.items():
         lines = text.splitlines()
-        count.check(f"each fact has a name of its own, {kind}", len(facts(text)) == len(lines), len(lines) - len(facts(text)))
+        count.check(f"each fact has its own name, {kind}", len(facts(text)) == len(lines), len(lines) - len(facts(text)))
     stock = facts(said[STOCK][1])
     count.check("there are as many facts as ever", len(stock) >= LEAST_FACTS, len(stock))
     wrong = [name for name, value in stock.items() if "never came" in value or value == "false" and name not in FALSE]
-    count.check("all that is waited for comes at a stock agent", not wrong, wrong)
+    count.check("all that the driver waits for happens with a stock agent", not wrong, wrong)
     compare(count, stock, facts(said[OURS][1]))
 
 
 def names_of(tests, beginning):
-    """The names of Serf's tests that begin so."""
+    """The names of Serf's tests that begin with this."""
     return sorted(line for line in ended([tests, "-test.list", f"^{beginning}"])[1].splitlines() if line.startswith("Test"))
 
 
 def tried(side, tests, name, number, pauses):
-    """Runs a test of Serf's until it passes: whether it did, and what it said last."""
+    """Runs a test of Serf's until it passes: whether it did, and what it printed last."""
     said = ""
     for pause in pauses:
         env = {
@@ -236,7 +236,7 @@ def tried(side, tests, name, number, pauses):
 
 
 def tested(side, tests, names):
-    """How each of Serf's tests ends at a side. One that is known to fail is tried once."""
+    """How each of Serf's tests ends with a side. A test that is known to fail is tried once."""
     found = {}
     for number, name in enumerate(names):
         fails = side.kind == OURS and name in FAILING
@@ -247,15 +247,15 @@ def tested(side, tests, names):
 
 
 def commanded(side, tests, names):
-    """How each of Serf's tests of its commands ends at a side."""
+    """How each of Serf's tests of its commands ends with a side."""
     return {name: tried(side, tests, name, COMMANDED, PAUSES) for name in names}
 
 
 def check_tested(count, names, least, ended_so):
     """Checks how Serf's tests ended."""
-    count.check(f"Serf's tests are there, such as {names[:1]}", len(names) >= least, names)
+    count.check(f"Serf's tests exist, such as {names[:1]}", len(names) >= least, names)
     for name, why in {**NOT_TRIED, **FAILING}.items() if least == LEAST_TESTS else ():
-        count.check(f"{name} is there ({why})", name in names, names)
+        count.check(f"{name} exists ({why})", name in names, names)
     for kind, found in ended_so.items():
         for name, (passed, said) in found.items():
             fails = kind == OURS and name in FAILING
@@ -271,7 +271,7 @@ def reader():
 
 
 def read(side, python):
-    """What Python reads of an agent."""
+    """What Python reads from an agent."""
     agent = kit.Agent(side.folder, side.words, "read", side.first + READ, net=side.net)
     try:
         agent.start()
@@ -281,7 +281,7 @@ def read(side, python):
 
 
 def check_read(count, sides, said):
-    """Checks what Python read of both: bytes are bytes, and all else is the same."""
+    """Checks what Python read from both: bytes are bytes, and all else is the same."""
     found = {}
     for side in sides:
         (status, text, fault), address = said[side.kind]
@@ -325,7 +325,7 @@ def main():
     count = checks.Checks()
     lacks = missing()
     if lacks:
-        print(f"not run: programs on Serf's client, since there is no {lacks}")
+        print(f"not run: programs on Serf's client, since {lacks} is missing")
         return count.finish()
     unformatted = c_library.ran(["gofmt", "-l", OWN])[1]
     count.check("the programs in Go are formatted", not unformatted, unformatted)

@@ -3,15 +3,16 @@ over it, killed under a flood.
 
     tests/library/serf_package.py [--library FILE] [--over-ci] [--kills N]
 
-- What `go doc -all` of Debian's package names is named by ours too, with the same types, but for what docs/GO.md says (LEFT_OUT).
+- Everything that `go doc -all` of Debian's package names is named by ours too, with the same types, except what docs/GO.md lists
+  (LEFT_OUT).
 - Debian's `cmd/serf`, unchanged, is compiled with our package under the import path of Serf's, and passes its own tests.
-- The tests of Serf's package that compile over ours pass, but for those that FAILING names with a reason.
+- The tests of Serf's package that compile over ours pass, except those that FAILING names with a reason.
 - `cmd/serf` over ours, on a file, is killed again and again while another one fires events: no handler runs twice. On a full disk it
   ends, and its log and the others say so.
 
-Of Serf's sources nothing is kept here: they are linked, or copied, into a folder of the run. Go and Debian's package
-golang-github-hashicorp-serf-dev have to be there, as `tools/packages` installs them; else it says so. --library takes another static
-library than that of crates/serf_agent_c, which else is built; --over-ci builds it over what `rt ci` left, as the gate does.
+Nothing of Serf's sources is kept here: they are linked, or copied, into a folder of the run. Go and Debian's package
+golang-github-hashicorp-serf-dev have to be installed, as `tools/packages` does; otherwise the script prints what is missing. --library names another
+static library than that of crates/serf_agent_c, which is built otherwise; --over-ci builds it over what `rt ci` left, as the gate does.
 """
 
 import argparse
@@ -43,24 +44,24 @@ OWN = os.path.join(TOP, "bindings", "go", "serf")
 # What ours doesn't export: docs/GO.md says why.
 LEFT_OUT = {"Snapshotter", "NewSnapshotter"}
 
-# Where the tests of Serf's program and of its package stand, and how many have to end well at least.
+# The folders of the tests of Serf's program and of its package, and the minimum number of tests that have to end well.
 PLACES = {"agent": ("cmd/serf/command/agent", 59), "command": ("cmd/serf/command", 43), "serf": ("serf", 45)}
 
 # The tests that Debian's sources skip.
 SKIPPED = {"TestCommandRun_mDNS"}
 
 # Tests of Serf's package that compile over ours and can't pass, and why.
-FAILING = {"TestSerf_Query_sizeLimitIncreased": "it changes the configuration behind Create, which has no effect"}
+FAILING = {"TestSerf_Query_sizeLimitIncreased": "it changes the configuration after Create, which has no effect"}
 
-# How long a pause of Serf's tests is, try by try: they look once behind a pause, which may be too short on a busy machine. Serf's own
-# is 10 milliseconds, and where a test waits for some probes of memberlist's it is added to them: three of them are hardly as long as
-# it takes to see that a node has failed, so that such a test fails over Serf's own package too.
+# How long a pause of Serf's tests is, try by try: they check once after a pause, which may be too short on a busy machine. Serf's own
+# is 10 milliseconds. If a test waits for some probes of memberlist's, the pause is added to them: three probes are hardly as long as
+# it takes to see that a node has failed, so that the test fails over Serf's own package too.
 PAUSES = ("10ms", "100ms", "400ms", "10ms", "1600ms")
 WAIT = re.compile(r"(\t)(time\.Sleep\(\w+\.MemberlistConfig\.ProbeInterval \* \d+\))")
 
 TEST = re.compile(r"^--- (PASS|FAIL|SKIP): (\S+)", re.M)
 
-# How long something may take that has to come, in seconds.
+# How long it may take until something that has to happen happens, in seconds.
 LIMIT = 60
 
 # How many events are fired in a second, and how many bytes a full disk has.
@@ -68,8 +69,8 @@ RATE, ROOM = 300, 200
 
 
 def named(text):
-    """What a package exports, of the text of `go doc -all`: its functions, types, methods, variables and the fields of its types, each
-    with its type, where the text has one."""
+    """What a package exports, from the text of `go doc -all`: its functions, types, methods, variables and the fields of its types, each
+    with its type, if the text has one."""
     found, kind = {}, None
     for line in text.splitlines():
         line = line.split(" //")[0].rstrip()
@@ -91,12 +92,12 @@ def named(text):
 
 
 def types_of(text):
-    """A signature without the names of its parameters, which say nothing to who calls."""
+    """A signature without the names of its parameters, which don't matter to a caller."""
     bare = re.sub(r"\b(?!chan\b|map\b|struct\b|interface\b)\w+ (?=[\w*\[<.])", "", " ".join(text.split()))
     return re.sub(r" \(([^(),]+)\)$", r" \1", bare)
 
 
-# What stands in a run for Serf's own of this name: whose addresses are of the run, and whose pauses are as long as it says.
+# In a run, this replaces Serf's own package of this name: its addresses belong to the run, and its pauses are as long as the run says.
 YIELD = """package testutil
 
 import (
@@ -115,7 +116,7 @@ func Yield() {
 
 
 def with_own_addresses(testutil):
-    """Has a copy of Serf's package for tests give addresses of the run's own."""
+    """Has a copy of Serf's package for tests return addresses of this run."""
     path = os.path.join(testutil, "addr.go")
     with open(path, encoding="utf-8") as file:
         text = file.read()
@@ -128,7 +129,7 @@ def with_own_addresses(testutil):
 
 
 def laid(folder, library):
-    """A folder of Go's in which Serf's packages are Debian's, and the package serf is ours: its settings for Go."""
+    """A folder of Go's in which Serf's packages are Debian's, and the package serf is ours: returns its settings for Go."""
     source = os.path.join(folder, "go", "src")
     serf, agent = os.path.join(folder, "go", SERF), os.path.join(source, "kitchenrue.example", "serfagent")
     for path in (os.path.join(serf, "serf"), agent):
@@ -147,7 +148,7 @@ def laid(folder, library):
 
 
 def check_names(count, env):
-    """All that Serf's package exports is there, and of the same type."""
+    """Everything that Serf's package exports exists in ours, with the same type."""
     found = {}
     for whose, path in (("stock", GOCODE), ("ours", env["GOPATH"])):
         status, text = c_library.ran(["go", "doc", "-all", f"{PATH}/serf"], env={**env, "GOPATH": path})
@@ -158,7 +159,7 @@ def check_names(count, env):
     for name, is_of in sorted(found["stock"].items()):
         if name not in left:
             own = found["ours"].get(name)
-            count.check(f"{name} is there", own == is_of, f"Serf's: {is_of}, ours: {own}")
+            count.check(f"{name} exists", own == is_of, f"Serf's: {is_of}, ours: {own}")
 
 
 def start_of(line):
@@ -213,14 +214,14 @@ def tests_of_package(count, env, folder):
 
 
 def tried(program, where, env, pause, name=None):
-    """Runs a program's tests, or one of them: how each ended, and all that was said."""
+    """Runs a program's tests, or one of them: how each ended, and everything that was printed."""
     words = [program, "-test.v", "-test.timeout", "10m", *(["-test.run", f"^{name}$"] if name else [])]
     said = c_library.ran(words, cwd=where, env={**env, "SERF_PACKAGE_PAUSE": pause})[1]
     return {name: end for end, name in TEST.findall(said)}, said
 
 
 def ran_tests(program, where, env):
-    """How each test of a program ends: its last end, and what was said. One that doesn't end well is tried again alone."""
+    """How each test of a program ends: its final end, and what was printed. A test that doesn't end well is tried again alone."""
     names = [line for line in c_library.ran([program, "-test.list", "."], env=env)[1].splitlines() if line.startswith("Test")]
     ended, said = tried(program, where, env, PAUSES[0])
     found = {name: (ended.get(name, "it never ended"), said) for name in names}
@@ -267,7 +268,7 @@ class Node:
         self.client = None
         end = time.monotonic() + LIMIT
         while self.client is None and time.monotonic() < end:
-            # (one that didn't start is started again, as a supervisor does: a handler that was just begun may have its file)
+            # (a node that didn't start is started again, as a supervisor does: a handler that was just started may have its file)
             if self.process is None or self.process.poll() is not None:
                 with open(os.path.join(self.folder, f"{self.name}.log"), "a", encoding="utf-8") as log:
                     self.process = subprocess.Popen([*self.words, *more], stdin=subprocess.DEVNULL, stdout=log, stderr=log, **how)
@@ -280,7 +281,7 @@ class Node:
         return self
 
     def ask(self, command, body):
-        """Asks, and says whether it was done."""
+        """Sends a request, and returns whether it was done."""
         self.client.sendall(packed({"Command": command, "Seq": 1}) + packed(body))
         return b"\xa5Error\xa0" in self.client.recv(4096)
 
@@ -292,7 +293,7 @@ class Node:
 
 
 class Flood(threading.Thread):
-    """Fires events at a node until it is told to end: event by event its number."""
+    """Fires events at a node until it is stopped: each has its number as its text."""
 
     def __init__(self, node):
         super().__init__(daemon=True)
@@ -316,8 +317,8 @@ def lines_of(path):
 
 
 def check_kills(count, program, folder, net, kills):
-    """A node that is killed in a flood of another's events, and joins it again by its file each time. The other one has all events of
-    the last times, and says them anew."""
+    """A node that is killed in a flood of another's events, and joins it again by its file each time. The other node has all events of
+    the last times, and sends them again."""
     ran, snapshot = os.path.join(folder, "ran"), os.path.join(folder, "snapshot")
     peer = Node(program, folder, "peer", net, 8, "-log-level=err").start()
     node = Node(program, folder, "killed", net, 9, "-log-level=err", f"-snapshot={snapshot}", f"-event-handler=user:x=read -r n; echo $n >>{ran}")
@@ -327,14 +328,14 @@ def check_kills(count, program, folder, net, kills):
     flood.start()
     for life in range(kills):
         before = len(lines_of(ran))
-        count.check(f"cmd/serf over ours, killed {life} times: it goes on", until(lambda: len(lines_of(ran)) > before), before)
+        count.check(f"cmd/serf over ours, killed {life} times: it continues", until(lambda: len(lines_of(ran)) > before), before)
         time.sleep(0.05 * (life % 7))
         node.end()
         node.start()
     flood.is_over.set()
     flood.join()
     last = str(flood.fired)
-    count.check("cmd/serf over ours: the last event comes", until(lambda: last in lines_of(ran)), last)
+    count.check("cmd/serf over ours: the last event arrives", until(lambda: last in lines_of(ran)), last)
     node.end()
     found = lines_of(ran)
     count.check("cmd/serf over ours, killed: handlers ran", len(found) > 5 * kills, (len(found), flood.fired))
@@ -363,7 +364,7 @@ def check_full_disk(count, program, folder, net, peer):
     try:
         status = node.process.wait(LIMIT)
     except subprocess.TimeoutExpired:
-        status = "it goes on"
+        status = "it continues"
     node.end()
     with os.fdopen(reads, encoding="utf-8", errors="replace") as file:
         said = file.read()
@@ -420,7 +421,7 @@ def main():
     asked = words.parse_args()
     count = checks.Checks()
     if shutil.which("go") is None or not os.path.isdir(os.path.join(GOCODE, SERF, "cmd")):
-        print("not run: Serf's own tests over the package serf, since Go or Serf's sources aren't there")
+        print("not run: Serf's own tests over the package serf, since Go or Serf's sources are missing")
         return count.finish()
     fault = None if asked.library else c_library.fault_of_library(asked.over_ci)
     count.check("the library is built", fault is None, fault)

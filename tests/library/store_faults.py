@@ -1,12 +1,12 @@
-"""Wrong bodies of the five stores: two at least of each step, each found by the check that is named of it.
+"""Wrong bodies of the five stores: at least two for each step, each found by the check that is named for it.
 
     tests/library/store_faults.py [--only LANGUAGE] [--library FILE] [--over-ci]
 
 They are planted into a copy of each store (store_faults/planted.py), which the drivers of tests/library/embed run. The
-copy passes every check where none is on. Where one is, the check that is named of it fails. Calls of the system that
-fail are injected by strace. Of `FileStore` the wrong bodies are of its file of the system, of which no contract speaks, and
+copy passes every check if none is on. If one is on, the check that is named for it fails. Failing system calls
+are injected by strace. The wrong bodies of `FileStore` are in its file of the system, which no contract describes, and
 its driver is compiled without a proof. --library and --over-ci are those of tests/library/embed.py. A language that isn't
-there is left out, which is printed.
+installed is left out, and the script prints that.
 """
 
 import argparse
@@ -50,7 +50,7 @@ class Failures:
 
 
 class Places:
-    """Where what is built and run here stands."""
+    """The places of what is built and run here."""
 
     def __init__(self, folder, library):
         self.folder, self.library = folder, library
@@ -87,7 +87,7 @@ def in_c(places):
 
 def in_python(places):
     faults.edit(places.copy("python", "bindings", "python"), languages.PYTHON)
-    # the driver finds the package from its own place
+    # (the driver finds the package from its own place)
     driver = places.of("tests", "library", "embed", "store_driver.py")
     os.makedirs(os.path.dirname(driver))
     return [sys.executable, shutil.copyfile(os.path.join(EMBED, "store_driver.py"), driver)]
@@ -115,7 +115,7 @@ def in_rattle(places):
 
 
 class Language:
-    """A store: how its driver is built, the command that has to be there for that, and what is tried over it."""
+    """A store: how its driver is built, the command that has to be installed for that, and what is tried over it."""
 
     parts, faults, cases = failing.PARTS, planted.FAULTS, stores.Cases
 
@@ -123,7 +123,7 @@ class Language:
         self.build, self.command = build, command
 
     def words(self, built, fault):
-        """The words of the driver with this fault on: here the environment says which it is."""
+        """The words of the driver with this wrong body on: in these languages the environment selects it."""
         return built
 
 
@@ -144,13 +144,13 @@ LANGUAGES = {
 
 
 def found(language, places, built, name, fault):
-    """The checks that fail in a fault's part where it is on."""
+    """The checks that fail in a wrong body's part while it is on."""
     failures, of = Failures(), LANGUAGES[language]
     os.environ[planted.FAULT_NAME] = name
     try:
         of.parts[fault.part](of.cases(failures, language, places, of.words(built, name)))
     except OSError as error:
-        # a file that a part reads isn't there
+        # (a file that a part reads doesn't exist)
         failures.names.append(str(error))
     finally:
         del os.environ[planted.FAULT_NAME]
@@ -188,7 +188,7 @@ def main():
     if not fault and not asked.library:
         fault = c_library.fault_of_library(asked.over_ci)
     if fault:
-        count.check("there is what it needs", False, fault)
+        count.check("everything that it needs is installed", False, fault)
         return count.finish()
     library = os.path.abspath(asked.library or c_library.LIBRARY)
     for language in asked.only or LANGUAGES:

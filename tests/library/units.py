@@ -1,7 +1,7 @@
 """The tests of tests/library/units: the libraries' calls with values from outside, and what no clause says.
 
 They make a scratch crate outside the repository, over its crates' sources. `rt try --test` compiles it once, without a
-proof, and runs each test in a process of its own.
+proof, and runs each test in a separate process.
 """
 
 import os
@@ -45,7 +45,7 @@ def written():
 
 
 def outcomes(said):
-    """Each test that ran, how it came out, and the lines behind that."""
+    """Each test that ran, its result, and the lines after that."""
     ran, own = {}, []
     for line in said.splitlines():
         found = TEST.match(line)

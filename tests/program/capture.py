@@ -1,5 +1,8 @@
-"""`examples/capture/schedule_of.py`: the capture that stands there, against its handlers' log, and pictures of it with its
-senders; frames, connections and files that the test makes itself; and captures that are cut or changed.
+"""`examples/capture/schedule_of.py`: the capture next to it, compared with its handlers' log, and pictures of it with its senders;
+frames, connections and files that the test makes itself; and captures that are cut or changed.
+
+Its parts in `capture/`: `incidents.py` has captures of stock agents on one machine, which tests/by_hand/captures.py makes,
+`calling.py` which node called, `logs.py` the logs of handlers, and `options.py` the other options.
 """
 
 import os
@@ -9,90 +12,24 @@ import struct
 import subprocess
 import sys
 import tempfile
-import zlib
 
 sys.dont_write_bytecode = True
 sys.path.insert(0, os.path.dirname(os.path.dirname(os.path.abspath(__file__))))
 import checks
 import pages
 
-FOLDER = os.path.join(checks.EXAMPLES, "capture")
-SCRIPT, CAPTURE = os.path.join(FOLDER, "schedule_of.py"), os.path.join(FOLDER, "gossip.pcap")
-DOWN = ("--down", "beta=6.3-9.3", "--ignore", "beta")
+sys.path.insert(0, os.path.join(checks.TOP, "tests", "program", "capture"))
+from made import ALPHA, BETA, BOTH, CAPTURE, EVENT, FOLDER, NAMES
+from made import capture, compound, ip, node, packed, raw, read, script, state, summed, tcp, udp
+import calling
+import incidents
+import logs
+import options
 
 sys.path.insert(0, FOLDER)
 import memberlist
 
-EVENT = b"\x03\x84\xa5LTime\x01\xa4Name\xa6deploy\xa7Payload\xa2v1\xa2CC\xc2"
-ALPHA, BETA = "10.0.0.1", "10.0.0.2"
-NAMES = ("--node", f"alpha={ALPHA}", "--node", f"beta={BETA}")
-BOTH = f'agent "alpha"\nagent "beta"\ngive "alpha" {EVENT.hex()} at 0us # its own\ngive "beta" {EVENT.hex()} at 0us # from "alpha"\n'
-
-
-def script(path, *words, given=""):
-    done = subprocess.run([sys.executable, SCRIPT, path, *words], input=given, capture_output=True, text=True, timeout=checks.LIMIT)
-    return done.returncode, done.stdout, done.stderr
-
-
-# A capture of frames
-
-
-def ip(sender, receiver, protocol, payload):
-    ends = bytes(int(part) for end in (sender, receiver) for part in end.split("."))
-    return struct.pack(">BBHHHBBH", 0x45, 0, 20 + len(payload), 0, 0, 64, protocol, 0) + ends + payload
-
-
-def udp(payload, sender=ALPHA, receiver=BETA):
-    return ip(sender, receiver, 17, struct.pack(">4H", 7946, 7946, 8 + len(payload), 0) + payload)
-
-
-def tcp(payload, sequence, flags=16, sender=ALPHA, receiver=BETA, port=40000):
-    return ip(sender, receiver, 6, struct.pack(">2H2IBBHHH", port, 7946, sequence, 0, 0x50, flags, 0, 0, 0) + payload)
-
-
-def capture(packets, link=1, order="<", magic=0xA1B2C3D4):
-    head = {1: bytes(12) + b"\x08\x00", 113: bytes(14) + b"\x08\x00", 101: b""}[link]
-    data = struct.pack(order + "IHHiIII", magic, 2, 4, 0, 0, 65535, link)
-    for time, packet in packets:
-        data += struct.pack(order + "4I", time // 1_000_000, time % 1_000_000, len(head + packet), len(head + packet)) + head + packet
-    return data
-
-
-def read(data, *words, given=""):
-    with tempfile.TemporaryDirectory() as folder:
-        path = os.path.join(folder, "it.pcap")
-        with open(path, "wb") as file:
-            file.write(data)
-        return script(path, *words, given=given)
-
-
-# memberlist's frames
-
-
-def raw(data):
-    return b"\xc6" + struct.pack(">I", len(data)) + data
-
-
-def packed(data):
-    """LZW in codes of 9 bits that stand for a byte each, with the table cleared before it would grow over them."""
-    codes = []
-    for at, byte in enumerate(data):
-        codes += ([256] if at % 200 == 0 else []) + [byte]
-    bits = sum(code << (9 * at) for at, code in enumerate([*codes, 257]))
-    return b"\x09\x82\xa4Algo\x00\xa3Buf" + raw(bits.to_bytes((9 * len(codes) + 16) // 8, "little"))
-
-
-def summed(data):
-    return b"\x0c" + struct.pack(">I", zlib.crc32(data)) + data
-
-
-def compound(*parts):
-    return b"\x07" + bytes([len(parts)]) + b"".join(struct.pack(">H", len(part)) for part in parts) + b"".join(parts)
-
-
-def state(content, is_join=True):
-    return b"\x06\x83\xa5Nodes\x00\xa4Join" + (b"\xc3" if is_join else b"\xc2") + b"\xacUserStateLen" + b"\xcd" + struct.pack(">H", len(content)) + content
-
+DOWN = ("--down", "beta=7.1-9.3", "--ignore", "beta")
 
 USER = b"\x08" + EVENT
 FRAMES = (
@@ -104,11 +41,11 @@ FRAMES = (
     ("a label", b"\xf4\x02dc" + summed(USER)),
 )
 FAULTS = (
-    ("another checksum", b"\x0c\x00\x00\x00\x00" + USER, "a checksum is another one"),
+    ("another checksum", b"\x0c\x00\x00\x00\x00" + USER, "the checksum differs"),
     ("a compound message that ends", compound(USER)[:-1], "it ends too early"),
     ("LZW without an end", packed(USER)[:-4], "it ends too early"),
     ("nothing", b"", "it ends too early"),
-    ("frames without end", b"\x0c" + b"\x07\x01\x00\xff" * 3, "a checksum is another one"),
+    ("frames without end", b"\x0c" + b"\x07\x01\x00\xff" * 3, "the checksum differs"),
 )
 
 
@@ -169,6 +106,10 @@ def connections(count):
     count.check("a second connection of the same ends", got[0] == 0 and got[1].count("take ") == 2, got)
     got = read(capture([(0, first), (3, second)]), *NAMES)
     count.check("a connection without its beginning", got[:2] == (0, "") and "beginning" in got[2], got)
+    answered = ip(BETA, ALPHA, 6, struct.pack(">2H2IBBHHH", 7946, 40000, 49, 100, 0x50, 18, 0, 0, 0))
+    answer = ip(BETA, ALPHA, 6, struct.pack(">2H2IBBHHH", 7946, 40000, 50, 100, 0x50, 16, 0, 0, 0) + sent)
+    got = read(capture([(0, answered), (1, answer)]), *NAMES)
+    count.check("a connection of which only the answer is there", got[0] == 0 and 'take "alpha"' in got[1] and 'from "beta"' in got[1], got)
     got = read(capture([opening, (1, first)]), *NAMES)
     count.check("a connection with a gap", got[:2] == (1, "") and "too early" in got[2], got)
     got = read(capture([opening, (1, tcp(sent[:-2], 100)), (3, tcp(sent[-2:], 100 + len(sent)))]), *NAMES)
@@ -182,7 +123,7 @@ def keys(count):
     got = read(capture([(5, udp(payload))]), *NAMES)
     count.check("an encrypted packet without a key", got[1] == "", got)
     got = read(capture([(5, udp(payload))]), *NAMES, "--key", "AAAAAAAAAAAAAAAAAAAAAA==")
-    said = ("the key opens nothing", "no package `cryptography`")
+    said = ("the key doesn't decrypt it", "no package `cryptography`")
     count.check("a key that isn't the right one", got[:2] == (1, "") and any(one in got[2] for one in said), got)
     try:
         from cryptography.hazmat.primitives.ciphers.aead import AESGCM
@@ -196,7 +137,6 @@ def keys(count):
 
 def restarted(count):
     """When a node was down by its log's times of day, and on which file it was started again."""
-    zone = {**os.environ, "TZ": "UTC"}
     packets = [(1_000_000 * at, udp(USER, receiver=BETA)) for at in (0, 3, 5, 9)]
     with tempfile.TemporaryDirectory() as folder:
         path, file = os.path.join(folder, "it.pcap"), os.path.join(folder, "snapshot")
@@ -204,11 +144,11 @@ def restarted(count):
             to.write(capture([(at + 20 * 3600_000_000, packet) for at, packet in packets]))
 
         def run(*words):
-            done = subprocess.run([sys.executable, SCRIPT, path, "--node", f"beta={BETA}", *words], capture_output=True, text=True, timeout=checks.LIMIT, env=zone)
-            return done.returncode, done.stdout, done.stderr
+            return script(path, "--node", f"beta={BETA}", *words)
 
         by_seconds, by_day = run("--down", "beta=2.5-6"), run("--down", "beta=20:00:02.5-20:00:06")
-        count.check("a time of day", by_day == by_seconds and by_day[1].count("give") == 2 and 'restart "beta" # at 6000000us' in by_day[1], by_day)
+        is_read = by_day[1].count("give") == 2 and 'restart "beta" # at 6000000us' in by_day[1]
+        count.check("a time of day", by_day == by_seconds and is_read, by_day)
         with open(path, "wb") as to:
             to.write(capture([(at + 86_398_000_000, packet) for at, packet in packets]))
         over = run("--down", "beta=23:59:59.5-00:00:04")
@@ -219,22 +159,21 @@ def restarted(count):
             ("a file", b"event-clock: 1\n", (), b"event-clock: 1\n"),
             ("an empty file", b"", (), b""),
             ("a file with a leave", b"event-clock: 1\nleave\nevent-clock: 0\n", (), b"event-clock: 0\n"),
-            ("the same with -rejoin", b"event-clock: 1\nleave\n", ("--rejoin", "beta"), b"event-clock: 1\nleave\n"),
+            ("the same with -rejoin", b"event-clock: 1\nleave\n", ("--rejoin", "beta"), b"event-clock: 1\n"),
         ):
             with open(file, "wb") as to:
                 to.write(text)
             got = run("--down", "beta=2.5-6", "--kept", f"beta={file}", *words)
-            wanted = f'agent "beta"\nrestart "beta" tail {tail.hex() or "-"} # at 6000000us\ngive "beta" {EVENT.hex()} at 9000000us # from "{ALPHA}:7946"\n'
-            count.check(f"started on {name}", got[:2] == (0, wanted), got)
-        got = run("--kept", f"beta={file}")
-        count.check("a file of a node that was never down", got[0] == 1 and "--kept wants" in got[2], got)
+            wanted = [
+                'agent "beta"',
+                'agent "beta again"',
+                f'give "beta" {EVENT.hex()} at 0us # from "{ALPHA}:7946"',
+                f'restart "beta again" tail {tail.hex() or "-"} # at 6000000us',
+                f'give "beta again" {EVENT.hex()} at 9000000us # from "{ALPHA}:7946"',
+            ]
+            count.check(f"started on {name}", got[0] == 0 and got[1].splitlines() == wanted, got)
         got = run("--down", "beta=2.5-6", "--kept", "beta=/nowhere")
         count.check("no such file", got[0] == 2 and "No such file" in got[2], got)
-
-
-def node(name, host, port):
-    """A node of a whole state, as memberlist writes one."""
-    return b"\x83\xa4Name" + bytes([0xA0 | len(name)]) + name + b"\xa4Addr" + raw(bytes(map(int, host.split(".")))) + b"\xa4Port\xcd" + struct.pack(">H", port)
 
 
 def one_address(count):
@@ -242,12 +181,17 @@ def one_address(count):
     content, host = b"\x02\x81\xaaEventLTime\x09", "127.0.0.1"
     alone = b"\x06\x83\xa5Nodes\x01\xa4Join\xc3\xacUserStateLen" + bytes([len(content)]) + node(b"beta", "127.0.0.52", 7946) + content
     ends = {"sender": host, "receiver": "127.0.0.51"}
-    back = {"sender": "127.0.0.51", "receiver": host}
     packets = [(0, tcp(b"", 99, flags=2, **ends)), (1, tcp(alone, 100, **ends))]
-    answer = [(2, ip(back["sender"], back["receiver"], 6, struct.pack(">2H2IBBHHH", 7946, 40000, seq, 0, 0x50, flags, 0, 0, 0) + part)) for seq, flags, part in ((49, 18, b""), (50, 16, state(content)))]
+    answer = []
+    for seq, flags, part in ((49, 18, b""), (50, 16, state(content))):
+        answer.append((2, ip("127.0.0.51", host, 6, struct.pack(">2H2IBBHHH", 7946, 40000, seq, 0, 0x50, flags, 0, 0, 0) + part)))
     got = read(capture(packets + answer), "--node", "alpha=127.0.0.51")
-    wanted = f'agent "alpha"\nagent "beta"\ntake "alpha" {content.hex()} join # at 1us from "beta"\ntake "beta" {content.hex()} join # at 2us from "alpha"\n'
-    count.check("several nodes on one address", got[:2] == (0, wanted), got)
+    wanted = [
+        *('agent "alpha"', 'agent "beta"'),
+        f'take "alpha" {content.hex()} join # at 1us from "beta"',
+        f'take "beta" {content.hex()} join # at 2us from "alpha"',
+    ]
+    count.check("several nodes on one address", got[0] == 0 and got[1].splitlines() == wanted, got)
 
 
 def handed(trace, names):
@@ -354,4 +298,5 @@ def changed(count):
 
 
 if __name__ == "__main__":
-    sys.exit(checks.over_program(frames, files, connections, restarted, one_address, keys, story, senders, shown, changed))
+    parts = (frames, files, connections, restarted, one_address, keys, story, senders, shown, changed)
+    sys.exit(checks.over_program(*parts, *incidents.PARTS, *calling.PARTS, *logs.PARTS, *options.PARTS))

@@ -1,17 +1,16 @@
-"""The command line: the commands of the documents, run, and what `--help` and the manual page say beside
-docs/COMMANDS.md.
+"""The command line: runs the commands of the documents, and compares `--help` and the manual page with docs/COMMANDS.md.
 
-`command_line.py read` compares the pages alone, and needs no built program.
+`command_line.py read` only compares the pages, and needs no built program.
 
-- Each command of a page that begins with `serf-replay` (or `cut`, `grep`) is run in the page's folder, or at the top where
-  the page is in docs/: its status is 0, or 1 for `judge`, and it writes something. Where lines stand under it that are no
-  commands, they are what it writes.
-- docs/COMMANDS.md has a section for each command of `--help`, README names each, and the options of a section's table
-  are those of the command's help.
-- The examples of the table of statuses give just these statuses.
-- docs/serf-replay.1 has the commands, options, statuses and examples of docs/COMMANDS.md, and groff reads it without a
-  warning, where groff is there.
-- Words that no command takes are refused, and a write that fails is a fault, whatever is written.
+- Each command of a page that begins with `serf-replay` (or `cut`, `grep`) is run in the page's folder, or at the top if the page
+  is in docs/: its status is 0, or 1 for `judge`, and it prints something. If the page has lines under it that are no commands,
+  they are its output.
+- docs/COMMANDS.md has a section for each command of `--help`, README names each, and a section's table has the options of
+  the command's help.
+- The examples in the table of statuses end with these statuses.
+- docs/serf-replay.1 has the commands, options, statuses and examples of docs/COMMANDS.md. If groff is installed, it reads the
+  page without a warning.
+- Words that no command accepts are refused, and a write that fails is an error for each command.
 """
 
 import os
@@ -37,7 +36,7 @@ MANUAL_STATUS = re.compile(r"^\.TP\n\.B (\d)\n([^\n]*)$", re.M)
 
 
 def run(command, folder):
-    """Runs a line of a page, with the program in place of its name, by a shell that fails where a part of it fails."""
+    """Runs a line of a page in a shell that fails if a part of the line fails, with the program in place of its name."""
     line = re.sub(r"(^|\| |; do )(?:\./)?serf-replay\b", lambda found: found[1] + checks.COMMAND, command)
     # (a script of examples/ calls the program by its name)
     env = {**os.environ, "PATH": TOP + os.pathsep + os.environ["PATH"]}
@@ -71,7 +70,7 @@ def help_of(count, words):
 
 
 def parts_of(text, head, name):
-    """The parts of a page behind their heads, by the name that each begins with; a part without a name is left out."""
+    """The parts of a page after their heads, by the name that each begins with; a part without a name is left out."""
     parts = re.split(head, text, flags=re.M)[1:]
     return {found[1]: part for part in parts if (found := re.match(name, part))}
 
@@ -82,7 +81,7 @@ def sections():
 
 
 def manual_and_page(count):
-    """What COMMANDS.md says of each command, the manual says, and nothing else."""
+    """The manual says what COMMANDS.md says about each command, and nothing else."""
     page, told = text_of("docs", "COMMANDS.md"), sections()
     parts = parts_of(text_of(MANUAL).replace("\\-", "-"), r"^\.SH ", r"([A-Z ]+)\n")
     commands = parts_of(parts.get("COMMANDS", ""), r"^\.SS ", r"([a-z-]+)\n")
@@ -120,11 +119,11 @@ def manual_and_page(count):
 
 
 def help_and_page(count):
-    """What --help names, COMMANDS.md and README name, and nothing else."""
+    """COMMANDS.md and README name what --help names, and nothing else."""
     readme, told = text_of("README.md"), sections()
     commands = [name for name in HELP_COMMAND.findall(help_of(count, [])) if name != "help"]
     count.check("a section for each command, in one order", list(told) == commands, (list(told), commands))
-    count.check("what is counted from where", "Actions count from 1, agents from 0." in help_of(count, []))
+    count.check("from which number actions and agents count", "Actions count from 1, agents from 0." in help_of(count, []))
     for name in commands:
         own = help_of(count, [name])
         options = set(HELP_OPTION.findall(own)) - {"help"}
@@ -150,20 +149,20 @@ def refused(count):
 
 
 def bad_words(count):
-    """What may stand for an option is told."""
+    """The program prints which values an option accepts."""
     for words, may in (
-        (["draw", "--as", "png"], "--as: here may stand svg or mermaid"),
-        (["conform", "x", "--save", "y"], "--save: here may stand a file, where --shrink is given too"),
-        (["conform", "x", "--go-on", "2"], "--go-on: here may stand a number, where --random is given and --shrink isn't"),
+        (["draw", "--as", "png"], "--as accepts svg or mermaid"),
+        (["conform", "x", "--save", "y"], "--save accepts a file, and only with --shrink"),
+        (["conform", "x", "--go-on", "2"], "--go-on accepts a number, and only with --random and without --shrink"),
     ):
-        told = (2, b"", f"error: a bad word for {may}\n".encode())
+        told = (2, b"", f"error: {may}\n".encode())
         count.exactly("a bad word: " + " ".join(words), words, *told)
     for words in (["random", "1"], ["random", "1", "--agents", "0"]):
         count.check("as many agents as the seed says: " + " ".join(words), checks.ran(words) == checks.ran(["random", "1"]))
 
 
 def full_device(count):
-    """A write that fails is a fault, whatever is written."""
+    """A write that fails is an error for each command."""
     given = {"replay": checks.read("examples", "deploy_gossiped_twice.schedule"), "clocks": b"clock: 1\n"}
     there = os.path.exists("/dev/full")
     count.check("there is a full device", there)
@@ -173,11 +172,11 @@ def full_device(count):
         command = [checks.PROGRAM, *words]
         with open("/dev/full", "wb") as full:
             ran = subprocess.run(command, input=given.get(words[0], b""), stdout=full, stderr=subprocess.PIPE, timeout=checks.LIMIT)
-        count.check("a full device: " + " ".join(words), (ran.returncode, ran.stderr) == (3, b"write fault: No space left on device (os error 28)\n"), ran)
+        count.check("a full device: " + " ".join(words), (ran.returncode, ran.stderr) == (3, b"write failed: No space left on device (os error 28)\n"), ran)
 
 
 def reader_that_went(count):
-    """A pipe that nobody reads any more, as behind `head`: the command ends, and says nothing of it."""
+    """If nobody reads the pipe any more, as after `head`, the command ends and reports nothing."""
     schedule = checks.read("examples", "deploy_gossiped_twice.schedule")
     given = {"replay": schedule, "explain": schedule, "draw": schedule, "decode": b"06ff\n", "encode": b"foreign 6\n\n", "clocks": b"clock: 1\n"}
     for words in (["replay"], ["replay", "--stream"], ["replay", "--summary"], ["explain"], ["draw"], ["random", "1"], ["decode"], ["decode", "06ff"], ["encode"], ["clocks", "-"]):
@@ -185,7 +184,7 @@ def reader_that_went(count):
         os.close(reader)
         with os.fdopen(writer, "wb") as gone:
             ran = subprocess.run([checks.PROGRAM, *words], input=given.get(words[0], b""), stdout=gone, stderr=subprocess.PIPE, timeout=checks.LIMIT)
-        count.check("a reader that went: " + " ".join(words), (ran.returncode, ran.stderr) == (3, b""), ran)
+        count.check("a reader that closed the pipe: " + " ".join(words), (ran.returncode, ran.stderr) == (3, b""), ran)
 
 
 def main(words):

@@ -1,6 +1,6 @@
-"""docs/completions: each file is what tools/completions.py makes of the program's help, and the shells complete by it.
+"""docs/completions: each file is what tools/completions.py generates from the program's help, and the shells complete by it.
 
-bash has to be there; zsh and fish are asked where they are on PATH.
+bash has to be installed; zsh and fish are tried if they are on PATH.
 """
 
 import os
@@ -17,7 +17,7 @@ import completions
 
 FOLDER = os.path.join(TOP, "docs", "completions")
 
-# Asks bash's function for the words behind a line, whose last word is being typed.
+# Calls bash's function for the words that can follow a line, whose last word is being typed.
 IN_BASH = """
 source "$1"; shift
 COMP_WORDS=("$@"); COMP_CWORD=$(($# - 1)); COMPREPLY=()
@@ -25,7 +25,7 @@ _serf_replay
 printf '%s\\n' "${COMPREPLY[@]}"
 """
 
-# Runs zsh's file with stand-ins for its helpers, which print what they are given.
+# Runs zsh's file with stand-ins for its helpers, which print their arguments.
 IN_ZSH = """
 compdef() { : }
 _describe() { print -l -- ${(P)2} }
@@ -36,7 +36,7 @@ source "$1"
 
 
 def said_by(words, folder):
-    """The lines that a shell says; one that fails says why."""
+    """The lines that a shell prints, also the reason if it fails."""
     ran = subprocess.run(words, cwd=folder, stdin=subprocess.DEVNULL, capture_output=True, text=True, timeout=checks.LIMIT)
     return [line for line in (ran.stdout + ran.stderr).split("\n") if line]
 
@@ -45,8 +45,8 @@ def flags(command):
     return [f"--{option.name}" for option in command.options]
 
 
-def behind(shell, line, folder=TOP):
-    """What a shell completes behind a line; the part behind its last space is being typed."""
+def completed_after(shell, line, folder=TOP):
+    """What a shell completes after a line; the user is still typing the part after its last space."""
     words = line.split(" ")
     if shell == "bash":
         return said_by(["bash", "--norc", "-c", IN_BASH, "bash", os.path.join(FOLDER, "serf-replay.bash"), *words], folder)
@@ -54,29 +54,29 @@ def behind(shell, line, folder=TOP):
 
 
 def completed(count, shell, all_commands, outer):
-    """The commands, each command's options, the words of those that have some, and files where there may be one."""
+    """The commands, each command's options, the words of those that have some, and files if a command accepts one."""
     names = [one.name for one in all_commands]
     wanted = sorted(names + ([f"--{one.name}" for one in outer] if shell == "bash" else []))
-    count.check(f"{shell}: the commands", sorted(behind(shell, "serf-replay ")) == wanted, behind(shell, "serf-replay "))
+    count.check(f"{shell}: the commands", sorted(completed_after(shell, "serf-replay ")) == wanted, completed_after(shell, "serf-replay "))
     examples = os.path.join(TOP, "examples", "snapshots")
     for command in all_commands:
         if command.name == "help":
             continue
-        own = behind(shell, f"serf-replay {command.name} --")
+        own = completed_after(shell, f"serf-replay {command.name} --")
         count.check(f"{shell}: the options of {command.name}", sorted(own) == sorted(flags(command)), own)
-        offered = behind(shell, f"serf-replay {command.name} after", examples)
+        offered = completed_after(shell, f"serf-replay {command.name} after", examples)
         count.check(f"{shell}: files of {command.name}", ("after_a_crash.clocks" in offered) == command.takes_file, offered)
         for option in command.options:
             if option.words():
-                own = behind(shell, f"serf-replay {command.name} --{option.name} ")
+                own = completed_after(shell, f"serf-replay {command.name} --{option.name} ")
                 count.check(f"{shell}: the words of {command.name} --{option.name}", sorted(own) == sorted(option.words()), own)
 
 
 def in_bash(count, all_commands, outer):
     completed(count, "bash", all_commands, outer)
-    kept = behind("bash", "serf-replay judge --kept b = after", os.path.join(TOP, "examples", "snapshots"))
-    count.check("bash: a snapshot behind NODE=", "after_a_crash.snapshot" in kept, kept)
-    count.check("bash: nothing behind a number's option", behind("bash", "serf-replay random --agents ") == [])
+    kept = completed_after("bash", "serf-replay judge --kept b = after", os.path.join(TOP, "examples", "snapshots"))
+    count.check("bash: a snapshot after NODE=", "after_a_crash.snapshot" in kept, kept)
+    count.check("bash: nothing after an option for a number", completed_after("bash", "serf-replay random --agents ") == [])
 
 
 def in_zsh(count, all_commands, _):
@@ -99,7 +99,7 @@ def whole(count):
     found = completions.commands()
     for name, form in completions.FORMS.items():
         made = checks.text_of("docs", "completions", name) == form(*found)
-        count.check(f"{name} is what the help gives: tools/completions.py makes it", made)
+        count.check(f"{name} is up to date: tools/completions.py generates it", made)
     in_bash(count, *found)
     for shell, part in (("zsh", in_zsh), ("fish", lambda *words: completed(words[0], "fish", *words[1:]))):
         if shutil.which(shell):

@@ -1,10 +1,10 @@
-"""`conform` on schedules: agents that reply as they should, or otherwise, and agents that don't reply at all.
+"""`conform` on schedules: agents that reply as they should, agents that reply something else, and agents that don't reply at all.
 
     tests/program/conform.py [PROGRAM]
 
-The subject is made from a trace: it gives, call after call, what the trace shows, in the words of docs/SPEC.md, "The pipe". Each
-case turns one thing of that. Where conformance/python/agent.py is there, it is held against all examples too. What
-docs/CONFORMANCE.md and docs/SPEC.md show of agents is compared with what comes.
+The subject is made from a trace: for each call it replies what the trace shows, in the words of docs/SPEC.md, "The pipe". Each
+case changes one thing of that. If conformance/python/agent.py exists, it is compared on all examples too. What
+docs/CONFORMANCE.md and docs/SPEC.md show of agents is compared with the real output.
 """
 
 import os
@@ -64,7 +64,7 @@ def by_meaning(cases):
         cases.replies(
             name, replies, schedule, 1, [f"action {number}, line {number + 7}: deliver ", "  wanted: ", *got], words
         )
-    returns = ["agent 1: open ", "  got: opened 1 1 1?\n", "  a carriage return: lines end by a newline alone\n"]
+    returns = ["agent 1: open ", "  got: opened 1 1 1?\n", "  a carriage return: lines end with a newline alone\n"]
     crlf = [reply.replace(b"\n", b"\r\n") for reply in good]
     cases.replies("carriage returns", crlf, schedule, 1, returns, words)
     returns[0] = "action 2, line 9: deliver "
@@ -84,7 +84,7 @@ def by_meaning(cases):
     )
     cases.replies("not even open", [b"unsupported\n\n"], schedule, 1, ["no call but open was compared"], words)
     cases.replies(
-        "unsupported behind a call",
+        "unsupported after a call",
         [*good[:2], b"unsupported\n\n"],
         schedule,
         0,
@@ -103,7 +103,7 @@ def by_meaning(cases):
     cases.run("an agent that isn't there", ["false"], schedule, 3, ["the agent ended before its first reply\n"], words)
     cases.run("no agent", None, schedule, 3, [], words)
     if programs.IS_UNPROVED:
-        print("not run: a reply that is too long, over a program that was compiled with checks")
+        print("not run: a reply that is too long, since the program was compiled with checks")
     else:
         cases.replies(
             "a reply that is too long", [good[0], b"a" * 67_200_000], schedule, 1, ["the reply is too long"], words
@@ -111,7 +111,7 @@ def by_meaning(cases):
 
 
 def ends_between_calls(cases):
-    """An agent that takes no more calls has ended, at the next one, which the reports have."""
+    """An agent that accepts no more calls has ended by the next one, and the reports have that call."""
     schedule = os.path.join(checks.EXAMPLES, "deploy_gossiped_twice.schedule")
     agent = ["sh", "-c", r"read call; exec 0<&-; printf 'opened 1 1 1\n\n'; sleep 0.5"]
     said = [": look\n", "  wanted: looked 1 1 1 1 1\n", "the agent ended\n"]
@@ -120,7 +120,7 @@ def ends_between_calls(cases):
     found = {"report": "ended", "seed": None, "agent": 1, "agreed": 1, "action": 0, "line": 0, "call": "look"}
     found |= {"wanted": "looked 1 1 1 1 1\nkept -", "got": ""}
     sums = {"report": "end", "schedules": 1, "calls": 1, "disagreements": 1, "status": 3}
-    cases.machine_told("a report of that", agent, [schedule, "--agent", "1"], 3, [found, sums])
+    cases.machine_report("a report of that", agent, [schedule, "--agent", "1"], 3, [found, sums])
 
 
 def states(cases):
@@ -133,7 +133,7 @@ def states(cases):
 
 
 def whole_reports(cases):
-    """Calls and replies are told whole, and of packets that differ the lines of `decode` that do."""
+    """Reports have whole calls and replies. Of packets that differ, they have the lines of `decode` that differ."""
     path = os.path.join(checks.EXAMPLES, "deploy_gossiped_twice")
     words, schedule = ["--agent", "1"], path + ".schedule"
     good = text_of(turns_of(path)[1])
@@ -175,12 +175,12 @@ def refused(cases):
     cases.run("no such agent", ["cat"], good, 2, [counted], ["--agent", "7"])
 
 
-# What `look` is answered behind the opening.
+# The reply to `look` after the opening.
 NEW = b"looked 1 1 1 1 1\nkept -\n\n"
 
 
 def looked(cases, name, looks, status, said, words=()):
-    """Agent 1 of the example replies well, and to its looks so: behind the opening, and behind its last call."""
+    """Agent 1 of the example replies well, and to each `look` by one of these: after the opening, and after its last call."""
     path = os.path.join(checks.EXAMPLES, "deploy_gossiped_twice")
     replies, given = os.path.join(cases.folder, "replies"), os.path.join(cases.folder, "looks")
     for file_name, parts in ((replies, text_of(turns_of(path)[1])), (given, looks)):
@@ -191,14 +191,14 @@ def looked(cases, name, looks, status, said, words=()):
 
 
 def looks(cases):
-    """What an agent has, behind its calls: agents that have it, or something else, and that end at a look."""
+    """What an agent holds after its calls: agents that hold it, agents that hold something else, and agents that end at a `look`."""
     last = b"looked 1 2 1 1 1\nkept 6576656e742d636c6f636b3a20310a\n\n"
     agrees, serf = ["agent 1: 3 calls agree"], ["--rules", "serf"]
     looked(cases, "looks that agree", [NEW, last], 0, agrees)
     looked(cases, "no looks", [b"unsupported\n\n"] * 2, 0, [*agrees, "2 looks are unsupported"])
     looked(cases, "one look", [NEW, b"unsupported\n\n"], 0, [*agrees, "1 looks are unsupported"])
     opened = ["agent 1: look\n", "  wanted: looked 1 1 1 1 1\n", "kept -\n", "  got: "]
-    behind = ["agent 1: behind its last call: look\n", "  wanted: looked 1 2 1 1 1\n", "  got: "]
+    after_last_call = ["agent 1: after its last call: look\n", "  wanted: looked 1 2 1 1 1\n", "  got: "]
     changes = {
         "another clock": last.replace(b"1 2 1", b"1 3 1"),
         "another least time": last.replace(b"1 1 1\n", b"1 2 1\n"),
@@ -208,13 +208,13 @@ def looks(cases):
         "an answer of another call": b"saved\n\n",
     }
     for name, reply in changes.items():
-        looked(cases, f"a look: {name}", [NEW, reply], 1, behind)
-        looked(cases, f"a look by Serf's rules: {name}", [NEW, reply], 1, behind, serf)
+        looked(cases, f"a look: {name}", [NEW, reply], 1, after_last_call)
+        looked(cases, f"a look by Serf's rules: {name}", [NEW, reply], 1, after_last_call, serf)
         looked(cases, f"the first look: {name}", [reply, last], 1, opened)
     same = last.replace(b"kept ", b"kept 636c6f636b3a20300a")
-    looked(cases, "a text of the same clocks", [NEW, same], 1, behind)
+    looked(cases, "a text of the same clocks", [NEW, same], 1, after_last_call)
     looked(cases, "a text of the same clocks, by Serf's rules", [NEW, same], 0, agrees, serf)
-    looked(cases, "it ends at a look", [NEW], 3, ["agent 1: behind its last call: look\n", "the agent ended"])
+    looked(cases, "it ends at a look", [NEW], 3, ["agent 1: after its last call: look\n", "the agent ended"])
     for name in switches.ONLY_BY_LOOK:
         agent = [sys.executable, PYTHON_AGENT, "--wrong", name]
         saved = os.path.join(cases.folder, f"{name}.schedule")
@@ -233,23 +233,23 @@ def rules(cases):
     cases.replies("all rules", replies, path + ".schedule", 0, said, ["--agent", "1", "--rules", "own"])
 
 
-# Two agents, the second of which is restarted, and handed an event again whose time its file is past.
+# Two agents. The second one is restarted, and gets an event again whose time is below its file's clock.
 RESTARTED = "agent 61 4 4 512 8 keep\nagent 62 8 4 512 8 keep%s\nfire 0 78 - 0\nfire 0 79 - 0\ndeliver 1 1 0\nrestart 1 -\ndeliver 1 0 0\n"
 
 
 def rules_of_keeping(cases):
-    """By Serf's rules an agent that keeps no events is blamed for no turn of one that does, and is held up to its restart."""
+    """By Serf's rules, an agent that keeps no events is blamed for no turn of one that does, and is compared up to its restart."""
     plain = ["sh", "-c", f"sed -u s/+events// | {sys.executable} {PYTHON_AGENT}"]
     path = os.path.join(cases.folder, "restarted.schedule")
     own = "agent 1: 2 calls agree; action 4 rests on an own rule\n"
-    for setting, said, differs in (("", "agent 1: 4 calls agree\n", None), ("+events", own, "agent 1: behind action 4, line 6: look\n")):
+    for setting, said, differs in (("", "agent 1: 4 calls agree\n", None), ("+events", own, "agent 1: after action 4, line 6: look\n")):
         with open(path, "w") as file:
             file.write(RESTARTED % setting)
         cases.run(f"Serf's rules and keep{setting}", plain, path, 0, ["agent 0: 3 calls agree\n", said], ["--rules", "serf"])
         cases.run(f"all rules and keep{setting}", plain, path, 1 if differs else 0, [differs or said])
 
 
-# The words of an agent's line behind its name, and those of `open`: the limits of packets stand there where one isn't 1,024.
+# The words of an agent's line after its name, and those of `open`, which has the limits of packets only if one isn't 1,024.
 OPENED = {
     "4 4 512 8 keep": "4 4 512 8 keep 1024",
     "4 4 512 8 keep 7": "4 4 512 8 keep 7",
@@ -263,7 +263,7 @@ OPENED = {
 
 
 def limits(cases):
-    """The call that opens an agent, and agents with limits of packets of their own."""
+    """The call that opens an agent, and agents with their own limits of packets."""
     path = os.path.join(cases.folder, "opened.schedule")
     for said, call in OPENED.items():
         with open(path, "w") as file:
@@ -278,13 +278,13 @@ def limits(cases):
 
 
 def machine_reports(cases):
-    """A report for machines: where replies differ, where an agent ends, of seeds, and where all agree."""
+    """A report for machines: if replies differ, if an agent ends, for seeds, and if all agree."""
     path = os.path.join(checks.EXAMPLES, "deploy_gossiped_twice")
     schedule, turns = path + ".schedule", turns_of(path)
     call = f"deliver {turns[1][1].given.hex()} 0"
     end = {"report": "end", "schedules": 1, "calls": 3, "disagreements": 0, "status": 0}
     good = [sys.executable, PYTHON_AGENT]
-    cases.machine_told("a report of what agrees", good, [schedule, "--agent", "1"], 0, [end])
+    cases.machine_report("a report of what agrees", good, [schedule, "--agent", "1"], 0, [end])
     strange = bytes(byte for byte in range(1, 256) if byte != 10)
     replies = os.path.join(cases.folder, "told")
     for name, last, more in (("any bytes", strange + b"\n\n", "differs"), ("no more", b"", "ended")):
@@ -295,26 +295,26 @@ def machine_reports(cases):
         status = 1 if last else 3
         sums = end | {"calls": 1, "disagreements": 1, "status": status}
         words = [schedule, "--agent", "1"]
-        cases.machine_told(f"a report, {name}", [sys.executable, cases.subject, replies], words, status, [found, sums])
+        cases.machine_report(f"a report, {name}", [sys.executable, cases.subject, replies], words, status, [found, sums])
     sums = end | {"schedules": 2, "calls": 0, "status": 0}
     agreed = compare(["--random", "1-2", "--actions", "40"], good)[1].split()
-    cases.machine_told(
+    cases.machine_report(
         "a report of seeds",
         good,
         ["--random", "1-2", "--actions", "40"],
         0,
         [sums | {"calls": int(agreed[3])}],
     )
-    cases.run("a report to a folder", good, schedule, 3, ["write fault: Is a directory (os error 21)"], ["--report", cases.folder])
+    cases.run("a report to a folder", good, schedule, 3, ["write failed: Is a directory (os error 21)"], ["--report", cases.folder])
 
 
 def listings(page):
-    """What a page shows that is no command."""
+    """The blocks of a page that are no commands."""
     return [block for _, block in pages.blocks(page) if not pages.COMMAND.match(block)]
 
 
 def reports(cases):
-    """The reports of docs/CONFORMANCE.md, and its one find from start to end."""
+    """The reports of docs/CONFORMANCE.md, and one of its examples from start to end."""
     page, wrong = os.path.join("docs", "CONFORMANCE.md"), [sys.executable, PYTHON_AGENT, "--wrong"]
     report, of_seeds, of_find, saved = listings(page)
     example = os.path.join(checks.EXAMPLES, "deploy_gossiped_twice.schedule")
@@ -336,7 +336,7 @@ def reports(cases):
 
 
 def shares(cases):
-    """How seeds are spread: `hold` is the reader's script, which here notes the seeds that it is given."""
+    """How the commands share the seeds: `hold` is the reader's script, which here prints the seeds that it gets."""
     with open(os.path.join(cases.folder, "hold"), "w") as file:
         file.write('echo "$1"\n')
     for command in pages.of(pages.CONFORM):
@@ -349,7 +349,7 @@ def shares(cases):
 
 
 def calls_of(text):
-    """The calls of docs/SPEC.md's examples, and the reply of each."""
+    """The calls of docs/SPEC.md's examples, and the reply to each."""
     found, is_call = [], True
     for line in text.split("\n")[:-1]:
         if is_call:
@@ -361,7 +361,7 @@ def calls_of(text):
 
 
 def pipe(cases):
-    """The calls of docs/SPEC.md, and the replies that it shows, by the agent in Python."""
+    """The calls of docs/SPEC.md, and that the agent in Python replies as it shows."""
     page = os.path.join("docs", "SPEC.md")
     (shown,) = listings(page)
     calls, wanted = calls_of(shown)

@@ -1,9 +1,9 @@
-"""`conform` on seeds: of one kind and of all, up to one disagreement or more, how far a hunt is, and the fewer calls that
-`--shrink` leaves.
+"""`conform` on seeds: of one kind and of all kinds, up to one disagreement or more, the progress of a search, and the calls that
+`--shrink` keeps.
 
     tests/program/conform_seeds.py [PROGRAM]
 
-The agents are conformance/python/agent.py and its wrong bodies, and one that ends on the way.
+The agents are conformance/python/agent.py and its wrong bodies, and one that ends in the middle.
 """
 
 import json
@@ -19,7 +19,7 @@ import traced_agents
 from piped_agents import LIMIT, PYTHON_AGENT, compare
 from traced_agents import turns_of
 
-# A subject that has a clock of 2 behind `open`, and ends at the second one.
+# A subject that has a clock of 2 after `open`, and ends at the second call.
 ENDS = """import sys
 call = sys.stdin.readline()
 sys.stdout.write("opened 1 1 2\\n\\n")
@@ -27,7 +27,7 @@ sys.stdout.flush()
 sys.stdin.readline()
 """
 
-# Passes each call on, a little later, or as many as it is told.
+# Passes each call on, a little later; with a number, only so many calls.
 DELAY = """import sys, time
 for number, line in enumerate(sys.stdin.buffer):
     if [str(number)] == sys.argv[1:]:
@@ -37,7 +37,7 @@ for number, line in enumerate(sys.stdin.buffer):
     sys.stdout.buffer.flush()
 """
 
-# Runs the program with a terminal as its standard error, and passes on what this shows.
+# Runs the program with a terminal as its standard error, and passes on what it writes there.
 ON_A_TERMINAL = """import os, pty, subprocess, sys
 ours, theirs = pty.openpty()
 ran = subprocess.Popen(sys.argv[1:], stderr=theirs)
@@ -69,7 +69,7 @@ def seeds(cases):
     )
     cases.run("no agent for a seed", ["false"], "--random", 3, ["the agent ended before its first reply\n"], ["1-2"])
     for word in ("x", "3-1", "1-", "-1", "1-2-3", "0-18446744073709551615"):
-        said = ["--random: here may stand seeds as A-B, from the less to the greater\n"]
+        said = ["--random accepts seeds as A-B, from the smaller to the larger\n"]
         cases.run(f"seeds {word}", ["cat"], f"--random={word}", 2, said)
     cases.run("seeds of no kind", ["cat"], "--random", 2, ["--kind"], ["1-2", "--kind", "mixd"])
     cases.run("one agent of seeds", ["cat"], "--random", 2, ["--agent"], ["1-2", "--agent", "0"])
@@ -78,29 +78,29 @@ def seeds(cases):
         ["cat"],
         os.path.join(checks.EXAMPLES, "deploy_gossiped_twice.schedule"),
         2,
-        ["error: a schedule and --random: give one of them\n"],
+        ["error: both a schedule and --random are given: give only one of them\n"],
         ["--random", "1"],
     )
     ran = subprocess.run([checks.PROGRAM, "conform"], stdin=subprocess.DEVNULL, capture_output=True, timeout=LIMIT)
-    said = b"error: no calls: give a schedule, or seeds as --random A-B\n"
+    said = b"error: no schedule: give a file, or seeds as --random A-B\n"
     cases.count.check("neither", (ran.returncode, ran.stdout, ran.stderr) == (2, b"", said), ran)
 
 
 def found_in(report):
-    """The kind and the seed of each find of a report, and the lines that tell of its agent."""
+    """The kind and the seed of each disagreement in a report, and the lines about its agent."""
     parts = re.split(r"(?m)^(?:kind (\S+): )?seed (\d+): .* agree before\n", report)
     return [(parts[at], int(parts[at + 1]), parts[at + 2]) for at in range(1, len(parts), 3)]
 
 
 def kinds(cases):
-    """All kinds, one after another: what is told of each, and which kind and seed find a wrong agent."""
+    """All kinds, one after another: the report of each, and which kind and seed find a wrong agent."""
     good, words = [sys.executable, PYTHON_AGENT], ["--random", "3-4", "--kind", "all", "--actions", "30"]
     status, said = compare(words, good)
     told = re.findall(r"(?m)^kind (\S+): 2 seeds and (\d+) calls agree$", said)
     cases.count.check("all kinds", status == 0 and [kind for kind, _ in told] == list(checks.KINDS), (status, said))
     sums = {"report": "end", "schedules": 2 * len(told), "calls": sum(int(calls) for _, calls in told)}
     sums |= {"disagreements": 0, "status": 0}
-    cases.machine_told("all kinds, for machines", good, words, 0, [sums])
+    cases.machine_report("all kinds, for machines", good, words, 0, [sums])
     wrong, path = [*good, "--wrong", "ack_counts_twice"], os.path.join(cases.folder, "kinds.jsonl")
     status, said = compare(["--random", "1-2", "--kind", "all", "--report", path], wrong)
     (kind, seed, lines), *more = found_in(said)
@@ -110,11 +110,11 @@ def kinds(cases):
     cases.count.check("a wrong agent, by all kinds", holds and list(told[0])[:3] == ["report", "seed", "kind"], (status, said, told))
     again = compare(["--random", str(seed), "--kind", kind], wrong)
     cases.count.check("once more, by its kind", again[0] == 1 and again[1].endswith(lines), (said, again))
-    cases.run("a kind that isn't there", ["cat"], "--random", 2, ["--kind: here may stand mixed", " or all\n"], ["1", "--kind", "al"])
+    cases.run("a kind that isn't there", ["cat"], "--random", 2, ["--kind accepts mixed", " or all\n"], ["1", "--kind", "al"])
 
 
 def goes_on(cases):
-    """More than one disagreement: each is what its seed alone gives, and all are found, up to as many as are asked for."""
+    """More than one disagreement: each is reported as a run of its seed alone reports it, up to the requested number."""
     wrong, path = [sys.executable, PYTHON_AGENT, "--wrong", "never_seen"], os.path.join(cases.folder, "on.jsonl")
     words = ["--random", "1-12", "--actions", "60"]
     alone = {seed: compare(["--random", str(seed), *words[2:]], wrong) for seed in range(1, 13)}
@@ -130,26 +130,26 @@ def goes_on(cases):
             cases.count.check("the last line", said.endswith(tail) and end in said.splitlines()[-1], said)
             found[-1] = (*found[-1][:2], "".join(found[-1][2].splitlines(keepends=True)[:-1]))
         lines = [(None, seed, alone[seed][1].partition("\n")[2]) for seed in wanted]
-        cases.count.check(f"it goes on, {most}", (status, found) == (1, lines), (status, said))
+        cases.count.check(f"it continues, {most}", (status, found) == (1, lines), (status, said))
         with open(path) as file:
             *told, sums = [json.loads(line) for line in file]
         held = 12 if most == 100 else wanted[-1]
         holds = [one["seed"] for one in told] == wanted and "kind" not in told[0]
         holds = holds and (sums["schedules"], sums["disagreements"]) == (held - len(wanted), len(wanted))
-        cases.count.check(f"it goes on, {most}, for machines", holds, (told, sums))
+        cases.count.check(f"it continues, {most}, for machines", holds, (told, sums))
     status, said = compare(["--random", "1-3", "--kind", "all", "--actions", "60", "--go-on", "4"], wrong)
     found = [(checks.KINDS.index(kind), seed) for kind, seed, _ in found_in(said)]
     cases.count.check("over kinds", status == 1 and len(found) == 4 and found == sorted(found), said)
     status, said = compare(["--random", "1-12", "--go-on", "9"], [sys.executable, "-c", ENDS])
-    cases.count.check("it ends on the way", status == 3 and "\n  got: opened 1 1 2\n" in said and said.endswith("the agent ended\n"), said)
+    cases.count.check("ends in the middle", status == 3 and "\n  got: opened 1 1 2\n" in said and said.endswith("the agent ended\n"), said)
     example = os.path.join(checks.EXAMPLES, "deploy_gossiped_twice.schedule")
     for name, more in (("none", ["--random", "1", "--go-on", "0"]), ("a schedule", [example, "--go-on", "2"])):
-        cases.run(f"it goes on: {name}", ["cat"], more[0], 2, ["--go-on"], more[1:])
-    cases.run("it goes on: fewer calls", ["cat"], "--random", 2, ["--go-on"], ["1", "--go-on", "2", "--shrink"])
+        cases.run(f"refused: --go-on, {name}", ["cat"], more[0], 2, ["--go-on"], more[1:])
+    cases.run("refused: --go-on with fewer calls", ["cat"], "--random", 2, ["--go-on"], ["1", "--go-on", "2", "--shrink"])
 
 
 def progress(cases):
-    """How far a hunt is, and trials of fewer calls: on a terminal, once a second, and nowhere else."""
+    """How far a search is, and how many trials of fewer calls it made: once a second on a terminal, and nowhere else."""
     delay, program = os.path.join(cases.folder, "delay.py"), os.path.join(cases.folder, "on_a_terminal")
     with open(delay, "w") as file:
         file.write(DELAY)
@@ -161,7 +161,7 @@ def progress(cases):
     for words, wrong, line in (
         (["--random", "3-6", "--actions", "60"], "", r"[1-3] of 4 seeds"),
         (["--random", "3-6", "--actions", "60", "--kind", "all"], "", r"kind mixed: [1-3] of 4 seeds"),
-        (["--random", "2", "--shrink"], " --wrong never_seen", r"(?:\d|1[0-7]) of 18 calls are left out"),
+        (["--random", "2", "--shrink"], " --wrong never_seen", r"(?:\d|1[0-7]) of 18 calls left out"),
     ):
         agent = ["sh", "-c", f'"{sys.executable}" "{delay}" | "{sys.executable}" "{PYTHON_AGENT}"{wrong}']
         if "all" in words:
@@ -176,7 +176,7 @@ def progress(cases):
 
 
 def shrinks(cases):
-    """Fewer calls: where they go, that they fail once more, that no single one can be left out, and agents that end."""
+    """Fewer calls: where they are written, that they fail again, that no single one can be left out, and agents that end."""
     saved = os.path.join(cases.folder, "saved.schedule")
     for name, kind in (
         ("never_seen", "mixed"), ("merge_takes_first_of_slot", "merges"), ("ack_counts_twice", "queries")
@@ -207,7 +207,7 @@ def shrinks(cases):
     example = os.path.join(checks.EXAMPLES, "deploy_gossiped_twice.schedule")
     cases.run("of a schedule", agent, example, 1, ["shrunk to "], ["--shrink"])
     cases.run("of an agent that agrees", [sys.executable, PYTHON_AGENT], example, 0, ["calls agree"], ["--shrink"])
-    cases.run("a folder", agent, example, 3, ["write fault: Is a directory (os error 21)"], ["--shrink", "--save", cases.folder])
+    cases.run("a folder", agent, example, 3, ["write failed: Is a directory (os error 21)"], ["--shrink", "--save", cases.folder])
     cases.run("a file alone", agent, example, 2, ["--save"], ["--save", saved])
     turns = turns_of(example[: -len(".schedule")])[1]
     bad = [turns[0].text(), b"seen\n\n"]
@@ -215,7 +215,7 @@ def shrinks(cases):
         "ends at the first trial", bad, example, 1, ["don't fail by themselves"], ["--agent", "1", "--shrink"]
     )
     cases.replies(
-        "ends behind it",
+        "ends after it",
         bad * 2,
         example,
         1,
@@ -225,7 +225,7 @@ def shrinks(cases):
 
 
 def fails_without_one(cases, agent, path):
-    """Whether a schedule still shows a wrong agent where some call is left out."""
+    """Whether a schedule still shows a wrong agent if some call is left out."""
     with open(path) as file:
         lines = file.read().splitlines(keepends=True)
     less = os.path.join(cases.folder, "less.schedule")
@@ -240,7 +240,7 @@ def fails_without_one(cases, agent, path):
 
 
 def seed_told(cases):
-    """The report of a seed that finds a wrong agent says what standard error does."""
+    """The report of a seed that finds a wrong agent has what standard error has."""
     path = os.path.join(cases.folder, "told.jsonl")
     agent = [sys.executable, PYTHON_AGENT, "--wrong", "never_seen"]
     status, said = compare(["--random", "1-60", "--shrink", "--report", path], agent)

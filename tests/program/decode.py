@@ -1,6 +1,6 @@
 """`decode`: one packet as an argument, and packets line by line on standard input.
 
-Every value was worked out by hand from the formats (docs/SPEC.md), or belongs to an agent of Serf 0.9.4.
+Every value was computed by hand from the formats (docs/SPEC.md), or was sent by an agent of Serf 0.9.4.
 """
 
 import os
@@ -11,7 +11,7 @@ sys.dont_write_bytecode = True
 sys.path.insert(0, os.path.dirname(os.path.dirname(os.path.abspath(__file__))))
 import checks
 
-# Packets as Serf sends them, one a line, and what they say, with an empty line behind each.
+# Packets as Serf sends them, one on each line, and the texts of their messages, with an empty line after each.
 SENT = os.path.join(checks.EXAMPLES, "packets.hex")
 MEANT = os.path.join(checks.EXAMPLES, "packets.text")
 
@@ -66,7 +66,7 @@ STATE_OF_DEPLOY = (
     b"\xc0\x82\xa5LTime\x01\xa6Events\x91\x82\xa4Name\xa6deploy\xa7Payload\xa2v1\xaaQueryLTime\x01"
 )
 
-# A query for one node that asks for acks, an ack and a response.
+# A query for one node that requests acks, an ack and a response.
 QUERY = (
     b"\x04\x8b\xa5LTime\x01\xa2ID\x07\xa4Addr\xa0\xa4Port\x00\xaaSourceNode\xa1a\xa7Filters\x91\xa4\x00\x91\xa1b"
     b"\xa5Flags\x01\xabRelayFactor\x00\xa7Timeout\xcd\x03\xe8\xa4Name\xa4load\xa7Payload\xa0"
@@ -74,10 +74,10 @@ QUERY = (
 ACK = b"\x05\x85\xa5LTime\x01\xa2ID\x07\xa4From\xa1b\xa5Flags\x01\xa7Payload\xa0"
 RESPONSE = b"\x05\x85\xa5LTime\x01\xa2ID\x07\xa4From\xa1b\xa5Flags\x00\xa7Payload\xa2ok"
 
-# The greatest number, of eight bytes.
+# The largest number, of eight bytes.
 GREATEST = b"\xcf" + b"\xff" * 8
 
-# A list of more than fifteen says its length in two bytes; nineteen of these slots are nil.
+# A list of more than fifteen items has its length in two bytes; nineteen of these slots are nil.
 TWENTY_SLOTS = (
     b"\x02\x81\xa6Events\xdc\x00\x14"
     + b"\xc0" * 19
@@ -102,17 +102,17 @@ PACKETS = (
     (b"\x03\x81\xa5LTime\xce\xc8\x01\x00\x02", event(0xC8010002)),
     (b"\x03\x81\xa5LTime\xcf\xc8\x01\x00\x02\x00\x00\x00\x03", event(0xC801000200000003)),
     (b"\x03\x81\xa5LTime\xcf\xff\xff\xff\xff\xff\xff\xff\xfe", event(18446744073709551614)),
-    # wide keys, a wide length and a time with a sign; an unknown key may come twice, with any value
+    # wide keys, a wide length and a time with a sign; an unknown key may appear twice, with any value
     (b"\x03\xde\x00\x02\xc4\x02CC\xc3\xda\x00\x05LTime\xd3\x00\x00\x00\x00\x00\x00\x00\x07", event(7, coalesce=1)),
     (b"\x03\x82\xa1X\x90\xa1X\x80", event()),
-    # a text has its length in its first byte, or in two bytes or four behind it
+    # a text has its length in its first byte, or in the two or four bytes after that
     (b"\x03\x81\xa4Name\xa6deploy", event(name=b"deploy")),
     (b"\x03\x81\xa4Name\xda\x00\x06deploy", event(name=b"deploy")),
     (b"\x03\x81\xa4Name\xdb\x00\x00\x00\x06deploy", event(name=b"deploy")),
     # eight containers inside one another
     (b"\x03\x81\xa1X" + b"\x91" * 7 + b"\xc0", event()),
     (QUERY, query(1, 7, source=b"a", filters=[b"\x00\x91\xa1b"], flags=1, timeout=1000, name=b"load")),
-    # numbers in any width that holds them, up to the greatest and down to the least
+    # numbers in any width that holds them, up to the largest and down to the smallest
     (b"\x04\x81\xa4Port\xd3\x00\x00\x00\x00\x00\x00\x00\x01", query(port=1)),
     (b"\x04\x81\xa4Port\xcd\xff\xff", query(port=65535)),
     (b"\x04\x81\xa2ID\xce\xff\xff\xff\xff", query(id=4294967295)),
@@ -125,7 +125,7 @@ PACKETS = (
     (b"\x05\x81\xa5LTime" + GREATEST, answer(18446744073709551615)),
     (TWO_SLOTS, state(1, 9, 1, slots=[(8, [(b"a", b"")]), None, None, (7, [(b"b", b"1")])])),
     (STATE_OF_DEPLOY, state(1, 2, 1, slots=[None, (1, [(b"deploy", b"v1")])])),
-    # a clock, unlike a time, may be the greatest number
+    # a clock, unlike a time, may be the largest number
     (b"\x02\x81\xa5LTime" + GREATEST, state(18446744073709551615)),
     (b"\x02\x81\xaaEventLTime" + GREATEST, state(0, 18446744073709551615)),
     (b"\x02\x81\xaaQueryLTime" + GREATEST, state(0, 0, 18446744073709551615)),
@@ -188,13 +188,13 @@ PACKETS = (
     (b"\x01\xc1", "foreign 1\n"),
 )
 
-# The place of the first missing part of the event above, cut after so many bytes.
+# The offset of the first missing part of the event above, if it is cut after so many bytes.
 CUTS = (
     *(1, 2, 2, 2, 2, 2, 2, 8, 9, 9, 9, 9, 9, 14, 14, 14, 14, 14),
     *(14, 14, 21, 21, 21, 21, 21, 21, 21, 21, 29, 29, 29, 32, 32, 32, 35),
 )
 
-# Packets that are refused, and the words of their first fault.
+# Packets that are refused, and the words of their first error.
 REFUSED = (
     (b"", "Empty"),
     *((DEPLOY[: length + 1], f"Truncated {place}") for length, place in enumerate(CUTS)),
@@ -208,20 +208,20 @@ REFUSED = (
     (b"\x03\x81\xa2CC\x01", "WrongKind 5"),
     (b"\x03\x81\xa1x\xca\x00\x00\x00\x00", "Unsupported 202 4"),
     (b"\x03\xc1", "Unsupported 193 1"),
-    # a second key, also where the first value was nil, and where it is spelled in another way
+    # a second key, also if the first value was nil, and if it is spelled in another way
     (b"\x03\x82\xa2CC\xc2\xa2CC\xc3", "Twice 6"),
     (b"\x03\x82\xa2CC\xc0\xc4\x02CC\xc3", "Twice 6"),
     (b"\x03\x82\xa5LTime\x01\xa5LTime\x02", "Twice 9"),
     (b"\x02\x82\xa6Events\x90\xa6Events\x90", "Twice 10"),
     (b"\x02\x81\xa6Events\x91\x82\xa5LTime\x01\xa5LTime\x02", "Twice 18"),
-    # one more than a field's greatest number, or one less than its least
+    # one more than a field's largest number, or one less than its smallest
     (b"\x03\x81\xa5LTime\xff", "OutOfRange 8"),
     (b"\x04\x81\xa4Port\xce\x00\x01\x00\x00", "OutOfRange 7"),
     (b"\x04\x81\xa2ID\xcf\x00\x00\x00\x01\x00\x00\x00\x00", "OutOfRange 5"),
     (b"\x05\x81\xa2ID\xd0\x80", "OutOfRange 5"),
     (b"\x04\x81\xabRelayFactor\xcd\x01\x00", "OutOfRange 14"),
     (b"\x04\x81\xa7Timeout\xcf\x80\x00\x00\x00\x00\x00\x00\x00", "OutOfRange 10"),
-    # eight containers stand inside one another, and not nine
+    # eight containers may be nested, and not nine
     (b"\x03" + b"\x91" * 8 + b"\xc0", "NotAMap"),
     (b"\x03" + b"\x91" * 9 + b"\xc0", "TooDeep 9"),
     (b"\x03\x81\xa1X" + b"\x91" * 8 + b"\xc0", "TooDeep 11"),
@@ -230,7 +230,7 @@ REFUSED = (
     (b"\x04\x81\xa5LTime" + GREATEST, "GreatestTime 8"),
     (b"\x02\x81\xa6Events\x91\x81\xa5LTime" + GREATEST, "GreatestTime 17"),
     (b"\x02\x81\xa6Events\x91\x82\xa5LTime" + GREATEST + b"\xa6Events\x90", "GreatestTime 17"),
-    # faults inside lists: a filter that is no text, a key of the status times that is none, an event that is no map
+    # errors inside lists: a filter that is no text, a key of the status times that is none, an event that is no map
     (b"\x04\x81\xa7Filters\x92\xa0\x01", "WrongKind 12"),
     (b"\x02\x81\xacStatusLTimes\x81\x01\x01", "BadKey 16"),
     (b"\x02\x81\xacStatusLTimes\x81\xc0\x05", "BadKey 16"),
@@ -238,7 +238,7 @@ REFUSED = (
     (TWENTY_SLOTS[:30], "Truncated 30"),
     (b"\x02\x81\xa6Events\x90\x90", "Trailing 10"),
     (b"\x03\x80\xc0", "Trailing 2"),
-    # an array that says it has four billion items, in a few bytes
+    # an array of a few bytes whose length is given as four billion items
     (b"\x02\x81\xa6Events\xdd\xff\xff\xff\xff", "Truncated 14"),
     (b"\x03\x81\xa6Events\xdd\xff\xff\xff\xff", "Truncated 14"),
 )
@@ -256,15 +256,15 @@ def refused(count):
     for digits, why in (
         ("0", "an odd number of digits, 1"),
         ("038", "an odd number of digits, 3"),
-        ("0x00", "character 2 is no hex digit"),
-        ("0g", "character 2 is no hex digit"),
-        ("00 00", "character 3 is no hex digit"),
-        ("0\u00e90", "character 2 is no hex digit"),
-        ("--", "character 1 is no hex digit"),
+        ("0x00", "character 2 is not a hex digit"),
+        ("0g", "character 2 is not a hex digit"),
+        ("00 00", "character 3 is not a hex digit"),
+        ("0\u00e90", "character 2 is not a hex digit"),
+        ("--", "character 1 is not a hex digit"),
     ):
         words = ["decode", *(["--"] if digits == "--" else []), digits]
         count.exactly(f"decode {digits}", words, 1, b"", f"bad hex: {why}\n".encode())
-    said = f"bad hex: character 1 is no hex digit\na file? serf-replay decode < {SENT}\n".encode()
+    said = f"bad hex: character 1 is not a hex digit\nto decode a file, run: serf-replay decode < {SENT}\n".encode()
     count.exactly("a file in place of a packet", ["decode", SENT], 1, b"", said)
     lines = checks.read(SENT)
     count.check("`-` is standard input", checks.ran(["decode", "-"], lines) == checks.ran(["decode"], lines) and lines)
@@ -306,22 +306,22 @@ def long_lines(count):
 
 
 def framing(count):
-    """What begins as a packet of memberlist's framing, or is its own, is told, beside its answer."""
+    """A packet that begins like memberlist's framing, or is a message of memberlist, is reported next to its answer."""
     ack, alive = b"0282a75061796c6f6164a0a55365714e6f01", b"0482ab496e6361726e6174696f6e01a44e616d65a178"
     for digits, status, said, kind in (
-        (b"0c00000000", 1, b"refused UnknownType 12", b"begins as memberlist's framing: 12, a checksum"),
-        (b"0803", 0, b"foreign 8", b"begins as memberlist's framing: 8, a user message"),
-        (b"0700", 0, b"foreign 7", b"begins as memberlist's framing: 7, a compound message"),
-        (b"09", 0, b"foreign 9", b"begins as memberlist's framing: 9, a compressed message"),
-        (b"0182a55365714e6f01", 0, b"foreign 1", b"looks like memberlist's own: a ping or an ack"),
-        (b"0381ab496e6361726e6174696f6e", 1, b"refused Truncated 14", b"looks like memberlist's own: that a node is suspect, alive or dead"),
+        (b"0c00000000", 1, b"refused UnknownType 12", b"begins like memberlist's framing: 12, a checksum"),
+        (b"0803", 0, b"foreign 8", b"begins like memberlist's framing: 8, a user message"),
+        (b"0700", 0, b"foreign 7", b"begins like memberlist's framing: 7, a compound message"),
+        (b"09", 0, b"foreign 9", b"begins like memberlist's framing: 9, a compressed message"),
+        (b"0182a55365714e6f01", 0, b"foreign 1", b"looks like a message of memberlist: a ping or an ack"),
+        (b"0381ab496e6361726e6174696f6e", 1, b"refused Truncated 14", b"looks like a message of memberlist: a node is suspect, alive or dead"),
     ):
         out, err = b"foreign 6\n\n" + said + b"\n\n", b"line 3 " + kind + b"\n"
         count.exactly(f"framing {digits.decode()}", ["decode"], status, out, err, b"06\n\n" + digits + b"\n")
     for digits, kind in (
-        (ack, b"looks like memberlist's own: a ping or an ack"),
-        (alive, b"looks like memberlist's own: that a node is suspect, alive or dead"),
-        (b"09", b"begins as memberlist's framing: 9, a compressed message"),
+        (ack, b"looks like a message of memberlist: a ping or an ack"),
+        (alive, b"looks like a message of memberlist: a node is suspect, alive or dead"),
+        (b"09", b"begins like memberlist's framing: 9, a compressed message"),
     ):
         made = subprocess.run([checks.PROGRAM, "decode", digits.decode()], capture_output=True, timeout=checks.LIMIT)
         count.check(f"alone {digits.decode()}", made.stderr.startswith(b"the packet " + kind + b"\n"), made.stderr)

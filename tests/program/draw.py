@@ -1,9 +1,9 @@
-"""`draw`: each example beside its stored picture, any bytes in names and payloads, what leaves actions out, what a merge
-handed out, the name of what is left of all lanes, and that no labels overlap and none covers an arrow.
+"""`draw`: each example is compared with its stored picture. Also any bytes in names and payloads, the options that leave actions
+out, what a merge handed out, the name of the place left of all lanes, and that no labels overlap and none covers an arrow.
 
 A label's box is an estimate: 45 units a character, which is 0.6 of the size of the font. Mermaid itself is not run
-here: its text is held against the part of its grammar of sequence diagrams that is used, as Mermaid's documents have
-it. `tests/by_hand/mermaid.py` gives such texts to Mermaid's own parser.
+here: its text is compared with the part of its grammar of sequence diagrams that is used, as Mermaid's documents have
+it. `tests/by_hand/mermaid.py` passes these texts to Mermaid's own parser.
 """
 
 import os
@@ -20,7 +20,7 @@ SVG = "{http://www.w3.org/2000/svg}"
 GLYPH = 45
 NAMED_ROWS = 40
 
-# Where what has no lane is.
+# The place of what has no lane.
 OUTSIDE = "-500"
 PLACE = re.compile(r"translate\((-?\d+) (\d+)\)")
 
@@ -38,7 +38,7 @@ def drawn(words, schedule=b""):
 
 
 def paths(root):
-    """The arrows: each one's class and its two places."""
+    """The arrows: the class and the two ends of each."""
     found = [(path.get("class"), path.get("d")) for path in root.findall(f"{SVG}path")]
     return [
         (kind, tuple(tuple(map(int, place.split())) for place in line[1:].split("L")))
@@ -48,7 +48,7 @@ def paths(root):
 
 
 def dots(root):
-    """The groups of what stands where an agent acts."""
+    """The groups of the shapes at which an agent acts."""
     return [group for group in root.findall(f"{SVG}g") if group.get("class")]
 
 
@@ -58,7 +58,7 @@ def labels(root):
 
 
 def heads(root):
-    """The lanes' names, by their lines."""
+    """The names of the lanes, by the lines that they are on."""
     found = {}
     for text in root.findall(f"{SVG}text[@class='h']"):
         if text.get("x") != OUTSIDE:
@@ -67,12 +67,12 @@ def heads(root):
 
 
 def outside_heads(root):
-    """What stands above the place left of all lanes, and on which lines."""
+    """The texts above the place left of all lanes, and the line of each."""
     return [(int(text.get("y")), text.text) for text in root.findall(f"{SVG}text[@class='h']") if text.get("x") == OUTSIDE]
 
 
 def has_outside(root):
-    """Whether a dot, a cross or the begin of an arrow is left of all lanes."""
+    """Whether a dot, a cross or the start of an arrow is left of all lanes."""
     places = [group.get("transform") for group in dots(root)] + crosses(root)
     begins = [f"translate({x} {y})" for _, ((x, y), _) in paths(root)]
     return any(place.startswith(f"translate({OUTSIDE} ") for place in places + begins)
@@ -87,12 +87,12 @@ def crosses(root):
 
 
 def shown(text):
-    """A text of Mermaid's, its entity codes as what they stand for."""
+    """A text of Mermaid's, with its entity codes decoded."""
     return re.sub(r"#(\d+);", lambda code: chr(int(code[1])), text)
 
 
 def mermaid_is_sound(count, name, words, schedule, root):
-    """The diagram is in the grammar, and says what the picture of the same run says."""
+    """The diagram follows the grammar, and has the same content as the picture of the same run."""
     ran = drawn(["--as", "mermaid", *words], schedule)
     head, *lines, end = ran.stdout.decode("ascii").split("\n")
     count.check(f"{name}: a sequence diagram", (ran.returncode, head, end) == (0, "sequenceDiagram", ""), ran)
@@ -108,7 +108,7 @@ def mermaid_is_sound(count, name, words, schedule, root):
 
 
 def boxes(root):
-    """The boxes of all texts: left, right, and the foot of the line."""
+    """The boxes of all texts: left, right, and the bottom of the line."""
     for text in root.findall(f"{SVG}text"):
         x, width = int(text.get("x")), GLYPH * len(text.text or "")
         at = x - width // 2 if text.get("class") == "h" else x
@@ -136,12 +136,12 @@ def nothing_overlaps(count, name, root):
 
 
 def line_of(row):
-    """The line of a row, counted from 0: behind each 40 rows one line is for the names."""
+    """The line of a row, counted from 0: after each 40 rows one line is for the names."""
     return 1 + row + row // NAMED_ROWS
 
 
 def lines_are_sound(count, name, root):
-    """A line for each row, in order, and the names above each 40."""
+    """There is a line for each row, in order, and the names are above each 40."""
     numbers = root.findall(f"{SVG}text[@class='n']")
     lines = [line_of(row) for row in range(len(numbers))]
     count.check(f"{name}: a line for each row", [int(text.get("y")) for text in numbers] == [100 * line + 75 for line in lines])
@@ -150,7 +150,7 @@ def lines_are_sound(count, name, root):
     count.check(f"{name}: the names above each 40 rows", list(found) == (above if lanes_of(root) else []), list(found))
     count.check(f"{name}: all names each time", all(names == found[65] for names in found.values()), found)
     wanted = [(y, "outside") for y in above] if has_outside(root) else []
-    count.check(f"{name}: outside is named where something is there, and nowhere else", outside_heads(root) == wanted, outside_heads(root))
+    count.check(f"{name}: outside is named if something is there, and only then", outside_heads(root) == wanted, outside_heads(root))
     legend = [group for group in root.findall(f"{SVG}g") if not group.get("class")]
     wanted = f"translate(-680 {line_of(len(numbers))}50)"
     count.check(f"{name}: the legend below", [group.get("transform") for group in legend] == [wanted], wanted)
@@ -176,7 +176,7 @@ def examples(count):
 
 
 def colours(count):
-    """Each colour stands as it is in light before its variable: librsvg, and what is built on it, knows no variables."""
+    """Each light colour is written in full before its variable: librsvg, and what is built on it, knows no variables."""
     style = checks.text_of(checks.EXAMPLES, "deploy_gossiped_twice.svg").partition("<style>")[2].partition("</style>")[0]
     light = dict(re.findall(r"--(\w+):(#\w+)", style.partition("@media")[0]))
     wanted = re.findall(r"(\w+):var\(--(\w+)\)", style)
@@ -191,7 +191,7 @@ AGENTS = b"agent 61 4 4 512 8 keep\nagent 62 4 4 512 8 keep\n"
 
 
 def bad_bytes(count):
-    """Any bytes stay in their place."""
+    """Names and payloads of any bytes don't break out of their place."""
     for name in (
         b"\x00\x1f\x7f\xff",
         b"#;\n%%{end}\r: end",
@@ -207,7 +207,7 @@ def bad_bytes(count):
         ran = drawn([], text)
         root = tree.fromstring(ran.stdout)
         count.check(
-            f"{name[:8]} leaves its place",
+            f"{name[:8]} breaks out of its place",
             ran.returncode == 0 and not root.findall(f".//{SVG}script") and not root.findall(f".//{SVG}b"),
             ran.stdout,
         )
@@ -220,7 +220,7 @@ def bad_bytes(count):
         mermaid_is_sound(count, f"{name[:8]}", [], text, root)
     ran = drawn([], AGENTS + b"fire 0 61 %s 0\ninject %s\ndeliver 1 0 0\n" % (b"41" * 400, b"ff" * 9216))
     count.check(
-        "long ones are told with their length",
+        "long texts are shown with their length",
         b"AAAAAAAA..(400)" in ran.stdout and b">9216 bytes injected<" in ran.stdout,
         ran.stdout,
     )
@@ -237,7 +237,7 @@ def root_of(words, schedule):
 
 
 def outsides(count, text):
-    """The place left of all lanes has a name where something is there: in the run of `arrows`, and in others."""
+    """The place left of all lanes has a name if something is there: in the run of `arrows`, and in others."""
     late = AGENTS + b"fire 0 78 79 0\n" * 45 + b"inject ff\n" + b"fire 0 78 79 0\n" * 40
     for name, words, schedule, lines in (
         ("what is injected, and what was never sent", [], text, [65]),
@@ -273,10 +273,10 @@ def arrows(count):
         ("r", ((-500, 450), (500, 550))),
         ("r", ((-500, 650), (500, 650))),
     ]
-    count.check("arrows go from senders to getters", paths(root) == wanted, paths(root))
+    count.check("arrows go from senders to receivers", paths(root) == wanted, paths(root))
     count.check("a restart breaks the lane", len(root.findall(f"{SVG}g/{SVG}path[@class='g']")) == 1)
     wanted_crosses = ["translate(1500 250)"]
-    count.check("a packet that nobody gets has a cross", crosses(root) == wanted_crosses, crosses(root))
+    count.check("a packet that nobody receives has a cross", crosses(root) == wanted_crosses, crosses(root))
     mermaid_is_sound(count, "arrows", [], text, root)
     outsides(count, text)
     root = tree.fromstring(drawn(["--from", "2", "--to", "3"], text).stdout)
@@ -291,7 +291,7 @@ def arrows(count):
     )
     ran = drawn(["--from", "100"], text)
     count.check(
-        "a range behind the end",
+        "a range after the end",
         (ran.returncode, ran.stderr, paths(tree.fromstring(ran.stdout))) == (0, b"no action is drawn\n", []),
         ran,
     )
@@ -308,7 +308,7 @@ def arrows(count):
     for words, empty in (([], b""), (["--as", "mermaid"], b"# nothing\n")):
         ran = drawn(words, empty)
         told = b"the schedule has no agents: the picture is empty\n"
-        count.check("an empty schedule is told", ran.stdout and (ran.returncode, ran.stderr) == (0, told), ran)
+        count.check("an empty schedule is reported", ran.stdout and (ran.returncode, ran.stderr) == (0, told), ran)
     ran = drawn(["--agent", "0"], b"")
     told = b"error: --agent 0: the schedule has 0 agents, counted from 0\n"
     count.check("an agent of an empty schedule", (ran.returncode, ran.stdout, ran.stderr) == (2, b"", told), ran)
@@ -319,10 +319,10 @@ def arrows(count):
     told = b"error: --agent B: no agent of the schedule has this name, as it is or in hex\n"
     ran = drawn(["--agent", "a", "--agent", "B"], text)
     count.check("a name that isn't there", (ran.returncode, ran.stdout, ran.stderr) == (2, b"", told), ran)
-    count.check("an SVG where it is asked for", drawn(["--as", "svg"], text).stdout == drawn([], text).stdout)
+    count.check("an SVG if an option requests it", drawn(["--as", "svg"], text).stdout == drawn([], text).stdout)
 
 
-# a fires three events, b merges them, and again; c gets the second twice, and the third behind a restart.
+# a fires three events, b merges them, and again; c gets the second one twice, and the third one after a restart.
 STORY = (
     b"agent 61 4 4 512 8 keep\nagent 62 4 4 512 8 keep\nagent 63 4 4 512 8 keep\n"
     b"fire 0 61 31 0\nfire 0 62 32 0\nfire 0 63 - 0\nstate 0\nmerge 1 3 join\nmerge 1 3 join\n"
@@ -331,7 +331,7 @@ STORY = (
 
 
 def merges(count):
-    """A merge names what it handed out."""
+    """The label of a merge names what it handed out."""
     told = [label for label in labels(root_of([], STORY)) if "merged" in label]
     count.check("two, and how many more", told == ["state @4 merged: a 1 @1, b 2 @2, +1, clock 4", "state @4 merged: nothing of 3"], told)
     for number, wanted in ((1, ": e1  @1"), (2, ": e1  @1, e2  @2"), (3, ": e1  @1, e2  @2, +1"), (12, ": e1  @1, e2  @2, +10")):
@@ -348,8 +348,8 @@ def merges(count):
 
 
 def passed_over(count):
-    """A merge that handed nothing out is grey and says how much it brought, and why where that is one reason for all; one
-    that brought nothing is as it was. A restart says from which time on events are taken."""
+    """A merge that handed nothing out is grey. It has the number of events of the state, and the reason if it is the same for all.
+    A merge of a state without events looks as before. A restart shows from which time on events are accepted."""
     text = b"agent 61 4 4 512 8 keep\nagent 62 4 4 512 8 ignore\nagent 63 8 4 512 8 keep+events\nstate 0\nmerge 1 0 join\n"
     text += b"fire 0 61 31 0\nfire 0 62 32 0\nstate 0\nmerge 1 3 join\nmerge 2 3 sync\nrestart 2 -\nmerge 2 3 sync\nfire 0 63 - 0\nstate 0\nmerge 1 5 sync\nrestart 1 -\n"
     root = root_of([], text)
@@ -371,7 +371,7 @@ def passed_over(count):
 
 
 def choices(count):
-    """What --taken and --event leave out; the numbers of what is left stay."""
+    """What --taken and --event leave out; the remaining rows keep their numbers."""
     whole = root_of([], STORY)
     every = list(zip([text.text for text in whole.findall(f"{SVG}text[@class='n']")], labels(whole)))
     for words, numbers in (
@@ -393,12 +393,12 @@ def choices(count):
         lines_are_sound(count, name, root)
         nothing_overlaps(count, name, root)
         mermaid_is_sound(count, name, words, STORY, root)
-    count.check("ignored ones are left out", {kind for kind, _ in paths(root_of(["--taken"], STORY))} == {"t"})
+    count.check("ignored packets are left out", {kind for kind, _ in paths(root_of(["--taken"], STORY))} == {"t"})
     text = AGENTS + b"inject 0384a54c54696d6501a44e616d65a178a75061796c6f6164a0a24343c2\ndeliver 1 0 0\ninject 06\n"
     found = labels(root_of(["--event", "x"], text))
     count.check("an injected event has its name", found == ["x  @1 injected", "x  @1 new, clock 2"], found)
     lost = crosses(root_of(["--event", "b"], STORY + b"fire 1 62 33 0\nfire 1 63 33 0\n"))
-    count.check("crosses of what is drawn alone", lost == ["translate(2500 350)", "translate(1500 550)"], lost)
+    count.check("only crosses of what is drawn", lost == ["translate(2500 350)", "translate(1500 550)"], lost)
 
 
 def many(count):

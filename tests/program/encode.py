@@ -1,4 +1,4 @@
-"""`encode`: texts of messages to packets, and back by `decode`; texts that are refused, each in its place."""
+"""`encode`: encodes texts of messages to packets, which `decode` reads back; and texts that are refused, each in its place."""
 
 import os
 import sys
@@ -39,10 +39,10 @@ Payload -
 EVENT = b"userEvent\nLTime 18446744073709551614\nName 61\nPayload -\nCC 1\n\n"
 FOREIGN = b"foreign 6\n\n"
 
-# What is wrong with a text, the text, and the line of its fault.
+# What is wrong with a text, the text, and the line of its error.
 REFUSED = (
     ("a leading zero", EVENT.replace(b"LTime ", b"LTime 0"), 2),
-    ("the greatest time", EVENT.replace(b"614", b"615"), 2),
+    ("a time that is too large", EVENT.replace(b"614", b"615"), 2),
     ("no payload", EVENT.replace(b"Payload -\n", b""), 4),
     ("fields in another order", EVENT.replace(b"Name 61\nPayload -\n", b"Payload -\nName 61\n"), 3),
     ("a slot without events", STATE.replace(b"slot 2 nil", b"slot 2 5"), 11),

@@ -1,7 +1,7 @@
-"""`explain`: each trace with its reasons is taken apart again, and what the reasons say is held against the trace's
-other lines; the incident's last lines; ranges; bytes that could leave their place; what is refused; and the same line by line.
+"""`explain`: parses each trace with its reasons again, and compares what the reasons say with the other lines of the trace. Also the
+incident's last lines, ranges, bytes that could break out of their place, what is refused, and the same line by line.
 
-What takes a trace apart is in `explain/stories.py`, and what single reasons say in `explain/particular.py`.
+The parser of a trace is in `explain/stories.py`, and the checks of single reasons are in `explain/particular.py`.
 """
 
 import os
@@ -46,7 +46,7 @@ def random_schedules(count):
 
 
 def incident(count):
-    """The page of the incident has the last lines as they are, and so has a file; its pictures are the program's."""
+    """The page of the incident has the last lines exactly, and so has a file; its pictures are the program's."""
     page = read("examples", "incident", "README.md").decode()
     for name in ("as_flushed", "as_serf_kept"):
         schedule = ran(["write"], read("examples", "incident", name + ".written"))[1]
@@ -56,17 +56,17 @@ def incident(count):
         at = 1 + next(place for place, words in enumerate(actions_of(schedule)[0]) if words[0] == b"restart")
         status, text, said = ran(["explain", "--agent", "1", "--from", str(at)], schedule)
         count.check(
-            f"{name}: the last lines stand in a file", text == read("examples", "incident", name + ".reasons"), text
+            f"{name}: the last lines are in a file", text == read("examples", "incident", name + ".reasons"), text
         )
         shown = "".join("    " + line + "\n" for line in text.decode().split("\n")[:-1])
         count.check(f"{name}: its picture", ran(["draw"], schedule)[1] == read("examples", "incident", name + ".svg"))
         count.check(
-            f"{name}: the last lines stand in the page", (status, said) == (0, b"") and shown and shown in page, text
+            f"{name}: the last lines are on the page", (status, said) == (0, b"") and shown and shown in page, text
         )
 
 
 def partition(count):
-    """The schedule of the other night hands out what its log has; its picture is what the program draws."""
+    """The schedule of the other incident hands out what its log has; its picture is what the program draws."""
     schedule = ran(["write"], read("examples", "partition", "as_it_ran.written"))[1]
     story = taken_apart(count, "partition", schedule)
     if story:
@@ -101,13 +101,13 @@ def ranges(count):
     for words, is_shown in cases:
         wanted = b"".join(line + b"\n" for line in whole.split(b"\n")[:-1] if is_shown(int(line.split()[0])))
         count.check(f"range {words}", ran(["explain", *words], schedule) == (0, wanted, b""))
-    said = b"nothing to show: the schedule has %d actions\n" % len(actions)
-    count.check("a range behind the end", ran(["explain", "--from", "100"], schedule) == (0, b"", said))
+    said = b"nothing to explain: the schedule has %d actions\n" % len(actions)
+    count.check("a range after the end", ran(["explain", "--from", "100"], schedule) == (0, b"", said))
     for words, said in (
-        (["--from", "3", "--to", "2"], b"nothing to show: action 2 comes before action 3\n"),
+        (["--from", "3", "--to", "2"], b"nothing to explain: action 2 is before action 3\n"),
     ):
         count.exactly(f"a range of nothing: {words}", ["explain", *words], 0, b"", said, schedule)
-    # (of an agent `1`, `beta`, `J` and a name of two bytes that are no text: the number first, then the name as it is)
+    # (for agents `1`, `beta`, `J` and a name of two bytes that are no text: the number is tried first, then the name as it is)
     names = b"".join(b"agent %s 4 4 512 2 keep\n" % name for name in (b"31", b"62657461", b"4a", b"fffe"))
     names += b"".join(b"fire %d 61 - 0\n" % agent for agent in range(4))
     for word, agent in (("1", 1), ("31", 0), ("0", 0), ("beta", 1), ("62657461", 1), ("J", 2), ("4a", 2), ("4A", 2), ("FFfe", 3)):
@@ -134,7 +134,7 @@ def refusals(count):
 
 
 def streamed(count, name, schedule):
-    """Line by line the text is the same; of a schedule that is refused it is the text of the lines before the bad one."""
+    """Line by line the text is the same; for a refused schedule it is the text of the lines before the bad one."""
     wanted, got = ran(["explain"], schedule), ran(STREAM, schedule)
     if wanted[0] == 0:
         count.check(f"{name}, line by line", got == wanted, str((wanted, got))[:400])
@@ -172,7 +172,7 @@ def streams(count):
 
 
 def while_it_runs(count):
-    """An action's reasons are written before more is read, and a reader that goes ends the run."""
+    """An action's reasons are written before more is read, and a reader that closes the pipe ends the run."""
     with subprocess.Popen([checks.PROGRAM, *STREAM], stdin=subprocess.PIPE, stdout=subprocess.PIPE) as run:
         run.stdin.write(AGENTS + b"save 1\n")
         run.stdin.flush()
@@ -187,14 +187,14 @@ def while_it_runs(count):
             run.stdin.close()
         except BrokenPipeError:
             pass
-        count.check("a reader that goes", run.wait(60) == 3)
+        count.check("a reader that closes the pipe", run.wait(60) == 3)
 
 
 def to_full_device(count):
     """A write that fails ends the run."""
     with open("/dev/full", "wb") as full:
         run = subprocess.run([checks.PROGRAM, *STREAM], input=AGENTS + b"state 0\n", stdout=full, stderr=subprocess.PIPE, timeout=checks.LIMIT)
-        count.check("a full device", (run.returncode, run.stderr) == (3, b"write fault: No space left on device (os error 28)\n"), run)
+        count.check("a full device", (run.returncode, run.stderr) == (3, b"write failed: No space left on device (os error 28)\n"), run)
 
 
 def memory_of(lines):
@@ -210,7 +210,7 @@ def memory_of(lines):
 
 
 def long_runs(count):
-    """2,000 merges of 512 slots are explained in little memory, which is that of 200; and more than 16 MiB of lines too."""
+    """2,000 merges of 512 slots are explained in little memory, no more than 200 need; and more than 16 MiB of lines too."""
     front = [b"agent 61 512 512 512 8 keep\nagent 62 512 512 512 8 keep\n"]
     front += [b"fire 0 6465706c6f79 76 0\n"] * 512 + [b"state 0\n"]
     few, many = (memory_of(front + [b"merge 1 512 sync\n"] * merges) for merges in (200, 2000))

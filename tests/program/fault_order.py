@@ -1,4 +1,4 @@
-"""The order of faults that docs/SPEC.md has, asked of the program: for each pair of faults that one action can have at
+"""The order of errors that docs/SPEC.md has, checked on the program: for each pair of errors that one action can have at
 once, a schedule whose last action has both.
 """
 
@@ -15,7 +15,7 @@ EXHAUSTED = deliver(event(GREATEST - 1))
 EXHAUSTED_QUERIES = deliver(query(GREATEST - 1))
 LARGE = "fire 78 " + "00" * 600 + " 0"
 
-# Of each pair of faults that one action can have at once, the calls, the last of which has both.
+# For each pair of errors that one action can have at once, the calls, the last of which has both.
 STOP = [BREAK, FIRE]
 PAIRS = {
     ("fire", "Stopped", "TooLarge"): [*STOP, LARGE],
@@ -38,7 +38,7 @@ PAIRS = {
 # No schedule has a list or a text of 2^32 items or bytes.
 OUT_OF_REACH = {("state", "Stopped", "TooLong")}
 
-# What each action is where its agent isn't there.
+# Each action of an agent that doesn't exist.
 NOBODY = {
     "fire": "fire 9 78 - 0",
     "query": "query 9 0 1 71 - 0 0",
@@ -55,8 +55,8 @@ NOBODY = {
 
 
 def orders():
-    """The faults of each action, in the order that SPEC has."""
-    page = checks.text_of("docs", "SPEC.md").partition("| Action | Its faults")[2].partition("\n\n")[0]
+    """The errors of each action, in the order that SPEC has."""
+    page = checks.text_of("docs", "SPEC.md").partition("| Action | Its errors")[2].partition("\n\n")[0]
     for cells in rows_of(page):
         if cells[0].startswith("`"):
             for action in re.findall(r"`(\w+)`", cells[0]):

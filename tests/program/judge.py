@@ -1,7 +1,7 @@
-"""`judge`: logs of handlers and traces, what in them comes twice, from nowhere or too late, what a snapshot leaves open, and
-faults of their lines.
+"""`judge`: logs of handlers and traces, what is in them twice, from nowhere or too late, what a snapshot leaves open, and
+errors in their lines.
 
-That no worked row and no example repeats anything is in rows.py.
+rows.py checks that no worked row and no example repeats anything.
 """
 
 import os
@@ -22,12 +22,12 @@ NO_FIRINGS = b"Fired: not asked: no fired lines\nLater: not asked: no fired line
 
 
 def read(events, queries, nodes):
-    """The line that says how much was read."""
+    """The line with how much was read."""
     return b"read: %d events, %d queries, %d nodes\n" % (events, queries, nodes)
 
 
 def holds(events, nodes):
-    """The verdicts on a log of events alone that has no repeat."""
+    """The verdicts on a log that has only events, and no repeat."""
     return read(events, 0, nodes) + ONCE + NO_QUERIES + NO_FIRINGS
 
 
@@ -46,7 +46,7 @@ def repeats(count):
     tally = b"a was handed a query again on 2 lines: times 7 to 7, lines 3 to 4\n1 other node was handed each query once\n"
     said = read(0, 4, 2) + NO_EVENTS + b"QueryOnce: line 3 repeats line 1: a 7 9\n" + tally + NO_FIRINGS
     count.exactly("a query twice", ["judge"], 1, said, b"", b"query a 7 9\nquery b 7 9\nquery a 7 9\nquery a 7 9\n")
-    # A query without an ID is another than any with one, and than that of another time or node.
+    # A query without an ID differs from any with one, and from one of another time or node.
     log = b"query a 7 -\nquery b 7 -\nquery a 7 0\nquery a 8 -\n"
     count.exactly("queries without an ID", ["judge"], 0, read(0, 4, 2) + NO_EVENTS + QUERY_ONCE + NO_FIRINGS, b"", log)
     tally = b"a was handed a query again on 1 line: time 8, line 5\n1 other node was handed each query once\n"
@@ -58,7 +58,7 @@ def repeats(count):
 
 
 def lines_again(log, word):
-    """What `judge` says behind the first repeat, by this script's own count."""
+    """What `judge` prints after the first repeat, by this script's own count."""
     had, rows, nodes = set(), {}, []
     for number, line in enumerate(log.splitlines(), 1):
         what, node, time = line.split(b" ")[:3]
@@ -86,7 +86,7 @@ def lines_again(log, word):
 
 
 def every_repeat(count):
-    """Each node with repeats has its line, in the order of their first ones."""
+    """Each node with repeats has its line, in the order of their first repeats."""
     burst = b"".join(b"event gamma %d burst n%d\n" % (time, time) for time in range(10, 21))
     one = burst.replace(b"gamma", b"alpha") + burst + b"event beta 10 burst n10\n" + burst
     turned = b"".join(reversed(burst.splitlines(keepends=True)))
@@ -105,7 +105,7 @@ def every_repeat(count):
 
 
 def missed(count):
-    """Which nodes never had an event."""
+    """Which nodes never got an event."""
     path = os.path.join(checks.EXAMPLES, "partition", "handlers.log")
     said = b'Missed: 2 "deploy" "v2" never came to delta\nMissed: 1 of 4 events were missed by a node\n'
     count.exactly("an event missed", ["judge", path, "--missed"], 0, holds(15, 4) + said, b"")
@@ -113,11 +113,11 @@ def missed(count):
     count.exactly("nothing missed", ["judge", "--missed"], 0, holds(2, 2) + b"Missed: each of 2 nodes had each of 1 events\n", b"", log)
     none = read(0, 1, 1) + NO_EVENTS + QUERY_ONCE + NO_FIRINGS + b"Missed: not asked: no event lines\n"
     count.exactly("no event to miss", ["judge", "--missed"], 0, none, b"", b"query a 7 9\n")
-    # A node that fired and had nothing is no receiver; of one content each payload and time is an event of its own.
+    # A node that fired and got nothing is no receiver. With the same name, each payload and each time makes another event.
     log = b"fired z 1 x y\nevent a 1 x y\nevent b 1 x z\nevent a 2 x y\nevent c 1 x y\nevent a 1 x y\n"
     said = b'Missed: 1 "x" "y" never came to b\nMissed: 1 "x" "z" never came to a, c\nMissed: 2 "x" "y" never came to b, c\n'
     got = checks.ran(["judge", "--missed"], log)
-    count.check("each event of its own", got[1].endswith(said + b"Missed: 3 of 3 events were missed by a node\n"), got)
+    count.check("each event by itself", got[1].endswith(said + b"Missed: 3 of 3 events were missed by a node\n"), got)
     for nodes in (17, 18):
         log = b"event n0 1 x y\n" + b"".join(b"event n%d 2 x y\n" % node for node in range(nodes))
         names = b", ".join(b"n%d" % node for node in range(1, 17))
@@ -127,7 +127,7 @@ def missed(count):
 
 
 def leave(count):
-    """A night with a kill and a leave: each node's repeats, and that delta's second life ran each event just once."""
+    """An incident with a kill and a leave: each node's repeats, and that delta's second life ran each event just once."""
     log = checks.read("examples", "leave", "handlers.log")
     got = checks.ran(["judge"], log)
     count.check("a leave: each repeat", got[0] == 1 and got[1].split(b"\n", 2)[2] == lines_again(log, b"event") + NO_QUERIES + NO_FIRINGS, got)
@@ -138,7 +138,7 @@ def leave(count):
 
 
 def long_logs(count):
-    """20,000 lines, each node's and each event's own, are judged in a time that goes with the lines, not with their pairs."""
+    """20,000 lines, each with another node and event, are judged in a time that grows with the lines, not with their pairs."""
     log = b"".join(b"event n%d %d x y\n" % (line, line) for line in range(10000)) * 2
     before = checks.processor_seconds()
     got = checks.ran(["judge", "--missed"], log)
@@ -150,7 +150,7 @@ def long_logs(count):
 
 
 def not_asked(count):
-    """What the log has no lines for doesn't hold: it isn't asked."""
+    """A promise for which the log has no lines doesn't hold: it isn't checked."""
     said = read(0, 0, 0) + NO_EVENTS + NO_QUERIES + NO_FIRINGS
     count.exactly("an empty log", ["judge"], 0, said, b"")
     count.exactly("restarts alone", ["judge"], 0, said, b"", b"restarted a\n")
@@ -160,8 +160,10 @@ def not_asked(count):
     count.exactly("firings alone", ["judge"], 0, read(0, 0, 1) + NO_EVENTS + NO_QUERIES + fired, b"", b"fired a 1 x y\n")
 
 
-# Snapshots beside a log; what is said of them, and the status.
+# Snapshots with a log; what is printed about them, and the status.
 EVENTS, QUERIES = b"event b 5 d v\n", b"query a 5 7\n"
+HAS_ALL = b"b keeps its %s: nothing can be handed out again\n"
+LACKS_EVENT = b"b keeps its events up to event-clock %d, and line 1 was handed out at 5: it can be handed out again\n"
 KEPT_TEXTS = (
     ("an event clock below", EVENTS, "b", b"event-clock: 4\n", b"b keeps event-clock 4, and line 1 was handed out at 5: it can be handed out again\n", 1),
     ("an event clock at it", EVENTS, "b", b"event-clock: 5\n", b"b keeps event-clock 5: nothing was handed out above it\n", 0),
@@ -187,18 +189,54 @@ KEPT_TEXTS = (
         1,
     ),
     (
-        "an event behind two leaves",
+        "an event after two leaves",
         EVENTS,
         "b",
         b"event-clock: 7\nleave\nevent-clock: 3\nleave\nevent-clock: 6\nleave",
-        b"b with -rejoin keeps event-clock 7: nothing was handed out above it\nb without -rejoin keeps event-clock 6: nothing was handed out above it\n",
+        b"b with -rejoin keeps event-clock 6: nothing was handed out above it\nb without -rejoin keeps event-clock 6: nothing was handed out above it\n",
         0,
     ),
-    ("what our agent alone keeps", EVENTS, "b", b"#least event-clock: 8\n", b"b keeps event-clock 0, and line 1 was handed out at 5: it can be handed out again\n", 1),
-    # An agent of this project goes on from all lines.
-    ("a leave of our agent", EVENTS, "b", b"event-clock: 07\n#event 7 61 62\nleave\n", b"b keeps event-clock 7: nothing was handed out above it\n", 0),
-    ("a leave above our agent's lines", EVENTS, "b", b"event-clock: 7\nleave\n#least event-clock: 8\n", b"b keeps event-clock 7: nothing was handed out above it\n", 0),
-    ("no line of its own", EVENTS, "b", b"event-clock: 7\nleaves\n leave\nleave \n", b"b keeps event-clock 7: nothing was handed out above it\n", 0),
+    # Stock Serf restores the last line of each kind, not the largest.
+    (
+        "a life that began anew after a leave",
+        EVENTS,
+        "b",
+        b"event-clock: 6\nleave\nevent-clock: 1\n",
+        b"b with -rejoin keeps event-clock 1, and line 1 was handed out at 5: it can be handed out again\n"
+        b"b without -rejoin keeps event-clock 1, and line 1 was handed out at 5: it can be handed out again\n",
+        1,
+    ),
+    ("a smaller line last", EVENTS, "b", b"event-clock: 7\nevent-clock: 0\n", b"b keeps event-clock 0, and line 1 was handed out at 5: it can be handed out again\n", 1),
+    ("a last line that is no number", EVENTS, "b", b"event-clock: 7\nevent-clock: x\nevent-clock: 18446744073709551616\nevent-clock: 3", b"b keeps event-clock 7: nothing was handed out above it\n", 0),
+    # Serf's lowest time wraps to 0.
+    (
+        "a clock of 2^64 - 1",
+        EVENTS,
+        "b",
+        b"event-clock: 18446744073709551615\n",
+        b"b keeps event-clock 18446744073709551615, and line 1 was handed out at 5: it can be handed out again\n",
+        1,
+    ),
+    ("no line that is `leave` alone", EVENTS, "b", b"event-clock: 7\nleaves\n leave\nleave \n", b"b keeps event-clock 7: nothing was handed out above it\n", 0),
+    # An agent of this project continues from all lines. If it keeps its events, those lines decide, and not the clock.
+    ("a minimum time above it", EVENTS, "b", b"#least event-clock: 8\n", HAS_ALL % b"events up to event-clock 0", 0),
+    ("a minimum time at it", EVENTS, "b", b"#least event-clock: 5\n", b"b keeps its events up to event-clock 0, and line 1 was handed out at 5: it can be handed out again\n", 1),
+    ("the event's line", EVENTS, "b", b"#event 5 64 76\nevent-clock: 05\n", HAS_ALL % b"events up to event-clock 5", 0),
+    ("a line of another payload", EVENTS, "b", b"#event 5 64 77\nevent-clock: 05\n", LACKS_EVENT % 5, 1),
+    ("a line of another name", EVENTS, "b", b"#event 5 65 76\nevent-clock: 05\n", LACKS_EVENT % 5, 1),
+    ("a line of another time", EVENTS, "b", b"#event 6 64 76\nevent-clock: 06\n", LACKS_EVENT % 6, 1),
+    ("a line that the disk lost", EVENTS, "b", b"event-clock: 07\n#event 7 61 62\n", LACKS_EVENT % 7, 1),
+    ("a torn line", EVENTS, "b", b"#event 4 61 62\n#event 5 64 7", LACKS_EVENT % 0, 1),
+    ("a line and a leave", EVENTS, "b", b"#event 5 64 76\nevent-clock: 05\nleave\n", HAS_ALL % b"events up to event-clock 5", 0),
+    ("a clock line of a life that kept none", EVENTS, "b", b"event-clock: 7\nleave\n#least event-clock: 8\n", HAS_ALL % b"events up to event-clock 7", 0),
+    ("a time that left the window", EVENTS, "b", b"#event 600 64 76\nevent-clock: 0600\n", HAS_ALL % b"events up to event-clock 600", 0),
+    ("the first time of the window", b"event b 89 d v\n", "b", b"#event 600 64 76\nevent-clock: 0600\n", b"b keeps its events up to event-clock 600, and line 1 was handed out at 89: it can be handed out again\n", 1),
+    ("words of a handler", b"event b 5 d%20e -\n", "b", b"#event 5 642065 \nevent-clock: 05\n", HAS_ALL % b"events up to event-clock 5", 0),
+    ("the text -", b"event b 5 d %2D\n", "b", b"#event 5 64 2d\nevent-clock: 05\n", HAS_ALL % b"events up to event-clock 5", 0),
+    ("words of a trace", b"1 event b 5 6465 - 0\n", "b", b"#event 5 6465 \nevent-clock: 05\n", HAS_ALL % b"events up to event-clock 5", 0),
+    ("a query's line", QUERIES, "a", b"#query 5 9\nquery-clock: 05\n", b"a keeps its queries up to query-clock 5: nothing can be handed out again\n", 0),
+    ("another query's line", QUERIES, "a", b"#query 4 7\nquery-clock: 05\n", b"a keeps its queries up to query-clock 5, and line 1 was handed out at 5: it can be handed out again\n", 1),
+    ("no time of an agent's", b"event b 18446744073709551615 d v\n", "b", b"#event 5 64 76\n", HAS_ALL % b"events up to event-clock 0", 0),
 )
 
 
@@ -215,15 +253,23 @@ def kept(count):
         got = checks.ran(["judge", "--own", "--kept", f"b={path}"], EVENTS)
         count.check("kept: a leave of our agent that keeps no events", got[0] == 0 and got[1].endswith(b"no fired lines\nb keeps event-clock 7: nothing was handed out above it\n"), got)
         with open(path, "wb") as file:
+            file.write(b"event-clock: 7\n#event 7 61 62\nevent-clock: 4\nleave\n")
+        got = checks.ran(["judge", "--serf", "--kept", f"b={path}"], EVENTS)
+        said = (
+            b"b with -rejoin keeps event-clock 4, and line 1 was handed out at 5: it can be handed out again\n"
+            b"b without -rejoin keeps event-clock 0, and line 1 was handed out at 5: it can be handed out again\n"
+        )
+        count.check("kept: stock Serf on a file of our agent", got[0] == 1 and got[1].endswith(b"no fired lines\n" + said), got)
+        with open(path, "wb") as file:
             file.write(b"event b 5 d v\n")
         none = os.fsencode(path) + b": no line of a snapshot\n"
         count.exactly("a log for a snapshot", ["judge", "--kept", f"b={path}"], 1, b"", none, EVENTS)
-    said = b"error: --kept B=/dev/null: the log has no event and no query of a node 'B'\n"
+    said = b"error: --kept B=/dev/null: the log has no event and no query of node 'B'\n"
     count.exactly("a node that isn't there", ["judge", "--kept", "B=/dev/null"], 2, b"", said, EVENTS)
     count.exactly("a snapshot that isn't there", ["judge", "--kept", "b=/nowhere"], 3, b"", b"/nowhere: no such file\n", EVENTS)
 
 
-# What is right or wrong with firings; what is said of Fired and of Later, and the log.
+# What is right or wrong with firings; the verdicts of Fired and of Later, and the log.
 FIRINGS = (
     ("all fired", b"holds", b"holds", b"fired a 1 x y\nevent a 1 x y\nevent b 1 x y\n"),
     (
@@ -233,7 +279,7 @@ FIRINGS = (
         b"fired a 1 x y\nevent b 1 x z\n",
     ),
     (
-        "fired behind it",
+        "fired after it",
         b'line 2 hands out what no line above it fired: b 2 "x" "y"',
         b"holds",
         b"fired a 1 x y\nevent b 2 x y\nfired a 2 x y\n",
@@ -308,7 +354,7 @@ def ends_of_lines(count):
         got = checks.ran(["judge"], given)
         count.check(f"a log with {name}", said[0] == 1 and got == said, got)
     count.exactly("a mark and a comment", ["judge"], 0, holds(1, 1), b"", mark + b"# a\r\nevent a 1 x y\r\n\r\n")
-    # One return alone is passed over, and one mark, at the front of the first line.
+    # One carriage return is ignored, and one mark, at the front of the first line.
     count.exactly("two carriage returns", ["judge"], 0, holds(2, 1), b"", b"event a 1 x y\r\nevent a 1 x y\r\r\n")
     for log in (mark + mark + b"event a 1 x y\n", b"\n" + mark + b"event a 1 x y\n", mark[:2] + b"event a 1 x y\n"):
         got = checks.ran(["judge"], log)
@@ -316,7 +362,7 @@ def ends_of_lines(count):
 
 
 def dates(count):
-    """A date and a time of day in front of a line are told with the line, and are no words of it; what was a line of a trace stays one."""
+    """A date and a time of day in front of a line are printed with the line, and are no words of it; a line of a trace stays one."""
     log = b"event a 1 x y\nquery b 2 3\nfired a 2 x y\nrestarted b\n7 event 0 9 61 62 0\n8 handed 0 1 4 5 61 62\nevent a 1 x y\nx\n"
     said = checks.ran(["judge"], log)
     for date, told in ((b"2026-11-26T10:00:00Z",) * 2, (b"2026-11-26 10:00:00,125",) * 2, (b"  2026-11-26  10:00 ", b"2026-11-26 10:00"), (b"0000- 99:",) * 2):
@@ -325,7 +371,7 @@ def dates(count):
         for line in (b"line 7", b"line 1", b"line 3", b"line 8"):
             wanted = re.sub(rb"\b%s\b" % line, line + b" (%s)" % told, wanted)
         count.check(f"a log with {date}", got == (said[0], wanted, said[2]) and b"Once: line 7 (%s) repeats line 1 (%s): a 1" % (told, told) in got[1], (said, got))
-    # Of several lines the first and the last have theirs, and a line without a date has none.
+    # If there are several lines, the first and the last have theirs, and a line without a date has none.
     log = b"event a 1 x y\n2026-11-26 event a 1 x y\nevent a 1 x y\n2026-11-27 event a 1 x y\n"
     got = checks.ran(["judge"], log)
     count.check("dates of some lines", b"Once: line 2 (2026-11-26) repeats line 1: a" in got[1] and b", lines 2 (2026-11-26) to 4 (2026-11-27)\n" in got[1], got)
@@ -338,7 +384,7 @@ def dates(count):
 
 
 def several_logs(count):
-    """Several logs are judged as one, and a line is told by its log and its own number."""
+    """Several logs are judged as one, and a line is named by its log and its own number."""
     with tempfile.TemporaryDirectory() as folder:
 
         def log(name, text):
@@ -362,19 +408,19 @@ def several_logs(count):
         said += b"a keeps query-clock 1: nothing was handed out above it\n"
         count.exactly("a snapshot between two logs", ["judge", a, "--kept", "a=" + kept, b], 1, said, b"")
         got = checks.ran(["judge", b, "-"], checks.read(a))
-        count.check("standard input behind a log", got[0] == 1 and b'Once: %s:4 repeats %s:1: ' % (at_b, at_b) in got[1] and b"QueryOnce: -:3 repeats %s:3" % at_b in got[1], got)
-        # A firing in another log counts in either order; of one log it has to stand above.
+        count.check("standard input after a log", got[0] == 1 and b'Once: %s:4 repeats %s:1: ' % (at_b, at_b) in got[1] and b"QueryOnce: -:3 repeats %s:3" % at_b in got[1], got)
+        # A firing in another log counts in either order; one in the same log has to be above.
         (f, at_f), (e, at_e) = log("f", b"fired a 5 x y\nevent b 7 x y\n"), log("e", b"event b 5 x y\nfired b 6 x y\n")
         said = read(2, 0, 2) + ONCE + NO_QUERIES
         fired = b'Fired: %s:2 hands out what no line above it fired: b 7 "x" "y"\n' % at_f
         later = b'Later: %s:2 fires at 6, and %s:2 was handed out at 7: b 6 "x" "y"\n' % (at_e, at_f)
         count.exactly("firings in front", ["judge", f, e], 1, said + fired + later, b"")
         count.exactly("firings behind", ["judge", e, f], 1, said + fired + b"Later: holds\n", b"")
-        (first, at_first), (second, _) = log("first", b"event b 1 x y\n"), log("second", b"fired a 1 x y\nevent a 1 x y\n")
+        (first, _), (second, _) = log("first", b"event b 1 x y\n"), log("second", b"fired a 1 x y\nevent a 1 x y\n")
         said = read(2, 0, 2) + ONCE + NO_QUERIES + b"Fired: holds\nLater: holds\n"
         for order in ((first, second), (second, first)):
             count.exactly(f"a firing in another log: {order}", ["judge", *order], 0, said, b"")
-        # One that stands below, in the log itself or in one log for all, doesn't count.
+        # A firing below, in the log itself or in one log for all, doesn't count.
         (below, at_below), (other, _) = log("below", b"event b 1 x y\nfired c 1 x y\n"), log("other", b"event a 1 x y\n")
         said = read(2, 0, 3) + ONCE + NO_QUERIES + b'Fired: %s:1 hands out what no line above it fired: b 1 "x" "y"\nLater: holds\n' % at_below
         for order in ((below, other), (other, below)):
@@ -384,7 +430,7 @@ def several_logs(count):
         long, _ = log("long", b"\n" + b"#" * 16777217)
         count.exactly("a line too long in the second", ["judge", a, long], 1, b"", os.fsencode(long) + b": bad line 2 TooLong\n")
         count.exactly("a second that isn't there", ["judge", a, "/nowhere"], 3, b"", b"/nowhere: no such file\n")
-        # However a log is cut between two lines, the verdicts are those on the whole, but for how lines are told.
+        # If a log is cut between any two lines, the verdicts are those on the whole, except for how lines are named.
         lines = checks.read(LOG).splitlines(keepends=True)
         whole = checks.ran(["judge", LOG])
         for cut in range(1, len(lines)):
@@ -394,14 +440,14 @@ def several_logs(count):
             for number in (6, 7):
                 place = b"%s:%d" % ((at_one, number) if number <= cut else (at_two, number - cut))
                 told = told.replace(b"line %d" % number, place)
-            count.check(f"the incident cut behind line {cut}", (got[0], got[1]) == (whole[0], told), got)
+            count.check(f"the incident cut after line {cut}", (got[0], got[1]) == (whole[0], told), got)
 
 
 def traces(count):
     path = os.path.join(checks.EXAMPLES, "deploy_gossiped_twice.trace")
     count.exactly("a trace", ["judge", path], 0, holds(2, 2), b"")
     got = checks.ran(["judge"], checks.read(path) * 2)
-    count.check("a trace behind itself", got[0] == 1 and b"\nOnce: line " in got[1], got)
+    count.check("a trace after itself", got[0] == 1 and b"\nOnce: line " in got[1], got)
 
 
 if __name__ == "__main__":

@@ -1,6 +1,6 @@
-"""`examples/serf_log_handler.sh`: a date, and a word for each text, whatever is in it, and what `judge` makes of the lines.
+"""`examples/serf_log_handler.sh`: it writes a date, and a word for each text, whatever its bytes; and what `judge` makes of the lines.
 
-Each shell runs it: dash, whose `echo` reads backslashes, and bash.
+Each shell runs it: dash, whose `echo` interprets backslashes, and bash.
 """
 
 import datetime
@@ -16,7 +16,7 @@ import checks
 HANDLER = os.path.join(checks.EXAMPLES, "serf_log_handler.sh")
 SHELLS = ("dash", "bash")
 
-# Names and payloads, and their words. Serf hands a payload over with a newline behind it, where it has none and isn't empty.
+# Names and payloads, and their words. Serf appends a newline to a payload that has none and isn't empty.
 TEXTS = (
     (b"deploy", b"v2\n", b"deploy v2"),
     (b"cfg", b'{"m":"a\\nb\\tc"}\n', b'cfg {"m":"a\\nb\\tc"}'),
@@ -36,7 +36,7 @@ TEXTS = (
 
 
 def said(shell, given, **variables):
-    """The line that the handler writes for a payload, without its date, and what it says elsewhere."""
+    """The line that the handler writes for a payload, without its date, its status, and what it prints elsewhere."""
     with tempfile.TemporaryDirectory() as folder:
         log = os.path.join(folder, "log")
         held = {os.fsencode(name): value for name, value in variables.items()}
@@ -69,7 +69,7 @@ def words(count):
 
 
 def queries(count):
-    """POSIX's checksum isn't the one of zlib, so it is only looked at that it is a number, and tells texts apart."""
+    """POSIX's checksum isn't that of zlib, so the check is only that it is a number, and that it differs for different texts."""
     for shell in SHELLS:
         lines = [query(shell, *texts)[0] for texts in ((b"load", b""), (b"load", b"-\n"), (b"loads", b""))]
         count.check(f"{shell}: queries", len(set(lines)) == 3 and all(is_query(line) for line in lines), lines)
@@ -89,7 +89,7 @@ def members(count):
 
 
 def judged(count):
-    """`judge` takes each line, finds no repeat among different texts, and finds one that comes again."""
+    """`judge` accepts each line, finds no repeat among different texts, and finds a text that is repeated."""
     for shell in SHELLS:
         log = b"".join(event(shell, name, given)[0] for name, given, _ in TEXTS)
         log += query(shell, b"load", b"")[0] + query(shell, b"load", b"-\n")[0]

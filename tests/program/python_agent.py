@@ -1,18 +1,18 @@
-"""The Python agent of conformance/python, held against the traces of the built program.
+"""The Python agent of conformance/python, compared with the traces of the built program.
 
-Each schedule of examples/ and of tests/rows that is read is replayed, and random ones of each kind. Then each agent's
-calls go through the pipe's lines in turn, each packet by its bytes, and each reply has to be what the trace shows of
-that action: the answer, the packets, the events and the query that was handed out. At the end each switch is tried on
-the same schedules, and what they show of them is printed: the names of those that no schedule shows, and how many are
-shown. For a sample of the switches `conform --random 1-200 --shrink` makes the calls fewer, and their median is
+Each schedule of examples/ and of tests/rows that is accepted is replayed, and random ones of each kind. Then each agent's
+calls go through the pipe's lines in turn, each packet by its bytes, and each reply has to be what the trace shows for
+that action: the answer, the packets, the events and the query that was handed out. After that each switch is tried on
+the same schedules. The script prints the names of the switches that no schedule shows, and how many are
+shown. For a sample of the switches, `conform --random 1-200 --shrink` reduces the calls, and the median of their number is
 printed.
 
-Of random schedules only those of the kind `kept` have agents that keep their events. So the rows of such agents (`keeps_` in
+Of the random schedules, only those of the kind `kept` have agents that keep their events. So the rows of these agents (`keeps_` in
 tests/rows), and dialogues of the pipe in tests/program/python_agent/dialogues.calls, have to show each switch of this setting.
 
     tests/program/python_agent.py [--seeds FIRST-LAST] [SCHEDULE..]
 
---seeds says which random schedules of each kind there are (1-4 where left out). With files it tries just these, and no
+--seeds sets the seeds of the random schedules of each kind (1-4 if left out). With files, the script tries only these, and no
 switch.
 """
 
@@ -34,13 +34,13 @@ import kept_rows
 from serf_agent import switches
 from serf_agent.pipe import Pipe
 
-# Where the number of a packet stands in an action's words.
+# The position of a packet's number in an action's words.
 GIVES = {"deliver": 2, "merge": 2}
 
-# At least so many of 100 switches are to be shown.
+# At least so many of 100 switches have to be shown.
 SHOWN = 95
 
-# Every so many switches one is in the sample, and the median of the calls that are left is at most this.
+# One of so many switches is in the sample, and the median of the calls that are left may be at most this.
 SAMPLE = 12
 CALLS = 6
 
@@ -64,7 +64,7 @@ def lines_of(schedule):
 
 @functools.cache
 def trace_of(schedule):
-    """What is shown of each action, and the packets that were sent, by their numbers; None where it is refused."""
+    """What the trace shows for each action, and the packets that were sent, by their numbers; None if the schedule is refused."""
     status, trace, _ = checks.ran(["replay"], schedule)
     if status:
         return None
@@ -82,7 +82,7 @@ def trace_of(schedule):
 
 
 def call_of(action, packets):
-    """The call of an action, or None where its packet isn't there."""
+    """The call of an action, or None if its packet doesn't exist."""
     name, words = action[0], action[1:]
     if name == "inject":
         return None
@@ -96,7 +96,7 @@ def call_of(action, packets):
 
 
 def differs(schedule):
-    """Where the agent answers otherwise than the trace shows, or None; and how many calls were compared."""
+    """At which action the agent's answer differs from the trace, or None; and how many calls were compared."""
     agents, actions = lines_of(schedule)
     traced = trace_of(schedule)
     if traced is None:
@@ -109,14 +109,14 @@ def differs(schedule):
         for place, action in enumerate(actions, 1):
             if action[0] == "inject" or int(action[1]) != number:
                 continue
-            # (a packet that is sent later isn't there yet)
+            # (a packet that is sent later doesn't exist yet)
             if shown[place] == ["refused NoMessage"]:
                 continue
             call = call_of(action, packets)
             got = [line for line in pipe.reply(call.encode("ascii")) if not line.startswith("counted ")]
             compared += 1
             if got != shown[place]:
-                return f"action {place}, agent {number}: {call[:200]}: wanted {shown[place]}, got {got}"[
+                return f"action {place}, agent {number}: {call[:200]}: expected {shown[place]}, got {got}"[
                     :1500
                 ], compared
     return None, compared
@@ -142,7 +142,7 @@ def unshown(given):
 
 
 def calls_left(name):
-    """How many calls are left of those that show a switch, or None."""
+    """How many calls are left in the shortest list that shows a switch, or None."""
     _, report = piped_agents.compare(
         ["--random", "1-200", "--shrink"], [sys.executable, piped_agents.PYTHON_AGENT, "--wrong", name]
     )
@@ -151,7 +151,7 @@ def calls_left(name):
 
 
 def unshrunk():
-    """What is wrong with the schedules that are left of a sample of the switches, or None."""
+    """What is wrong with the shortened schedules of a sample of the switches, or None."""
     sample = [name for name in switches.SWITCHES if name not in switches.ONLY_BY_KEEPING][::SAMPLE]
     calls = [calls_left(name) for name in sample]
     calls = [count for count in calls if count is not None]
@@ -181,7 +181,7 @@ def kept(count):
 
 
 def schedules(asked):
-    """The schedules that are tried, by their names: those of files that are named, or all and random ones."""
+    """The schedules that are tried, by their names: those of the files that are named, or all of them and random ones."""
     if asked.files:
         return [(os.path.basename(path), checks.read(os.path.abspath(path))) for path in asked.files]
     folders = (checks.EXAMPLES, checks.ROWS)

@@ -1,14 +1,14 @@
 """`random`: each kind's first seeds, replayed.
 
-Of each seed the program writes the same bytes twice, which are those of this version (DIGESTS). `replay` takes them and
-answers each action, and there are as many actions as were asked for. The largest schedule ends below 16 MiB, and takes
-few processor seconds. Bad words of a command line are refused. With `--rules serf` no turn of a trace rests on a rule
-of this project's own, no agent keeps its events, and the median of the actions that are left is printed. The tails of
-`kept` have lines of each form that an agent which keeps its events writes, of events that were sent and of others.
+For each seed the program writes the same bytes twice, and these are the bytes of this version (DIGESTS). `replay` accepts them and
+answers each action, and there are as many actions as were requested. The largest schedule ends below 16 MiB, and takes
+few processor seconds. Bad words of a command line are refused. With `--rules serf`, no turn of a trace depends on one of
+this project's own rules, no agent keeps its events, and the median of the actions that are left is printed. The tails of
+`kept` have lines of each form that an agent which keeps its events writes, about events that were sent and about others.
 
     tests/program/random_schedules.py [--digests]
 
---digests prints the digests as they are now: another version of the generator gets another number, and new ones.
+--digests prints the current digests: another version of the generator gets another number, and new digests.
 """
 
 import hashlib
@@ -26,55 +26,56 @@ import checks
 SEEDS = range(1, 11)
 ACTIONS = 120
 
-# How many processor seconds a schedule of the greatest size may take.
+# How many processor seconds a schedule of the maximum size may take.
 MAX_SECONDS = 10
 
-# Of each kind the digest of the schedules of SEEDS, one behind another, at version 4; of those of COMMON_SEEDS that keep to
-# Serf's rules; and of rounds whose packets go to others than when nobody says how.
+# For each kind the digest of the schedules of SEEDS, one after another, at version 5; of those of COMMON_SEEDS that keep to
+# Serf's rules; and of rounds with other settings of fanout and loss.
 DIGESTS = {
-    "mixed": "b03320795df244bd",
-    "tiny": "5ef239a7eb3ae7ed",
-    "merges": "87949c20771d6e51",
-    "restarts": "25bf0805cb48e813",
-    "devices": "32accda91c8ceab7",
-    "injections": "4267b88a0e10ec39",
-    "queries": "51b3030c4e45222c",
-    "limits": "a624b9109999d427",
-    "exhaustion": "50eb7a6a187e9822",
-    "per-time": "a72292c18918a9ce",
-    "compactions": "1a192ce1a917804e",
-    "gossip": "53474f8d7455317c",
-    "spellings": "d15d98ff92bc8fca",
-    "kept": "b374c38b29049fc3",
-    "rounds": "496e6a96c6d36e7a",
-    "mixed, Serf's rules": "cfa62d493f8b1f36",
-    "tiny, Serf's rules": "55a1e52cdc9551bb",
-    "merges, Serf's rules": "434fb1a00dd5a684",
-    "restarts, Serf's rules": "0fceeec89f88d3f7",
-    "devices, Serf's rules": "3332665b3053245e",
-    "injections, Serf's rules": "61649376cc84d7d0",
-    "queries, Serf's rules": "39ba9fb287c72d6e",
-    "limits, Serf's rules": "fa2f9708f96d635b",
-    "exhaustion, Serf's rules": "7e1d0f0b44b943b1",
-    "per-time, Serf's rules": "f696030e328105b7",
-    "compactions, Serf's rules": "30c723d001b0e523",
-    "gossip, Serf's rules": "99e2265e08d1b99c",
-    "spellings, Serf's rules": "c298e6dff3ec767f",
-    "kept, Serf's rules": "7d14cf95a4c42cf4",
-    "rounds, Serf's rules": "f436b8ee00e5240b",
-    "fanout 1 and loss 0": "6a7699e33030d9f5",
-    "fanout 3 and loss 0": "7e3d3afc82a9f509",
-    "fanout 3 and loss 50": "a5ed3b59a8dc0277",
-    "fanout 16 and loss 99": "3d1c0a4f2b9eed7e",
+    "mixed": "0b2236d6002f13b2",
+    "tiny": "5e8ba723f32ff852",
+    "merges": "2ea25b6f94ac9bf9",
+    "restarts": "40b851ab9cfd6bf4",
+    "devices": "f78ec85dc176f45f",
+    "injections": "d883b27c402d12e2",
+    "queries": "d21389bb08529ba5",
+    "limits": "cda75c9ee7120035",
+    "exhaustion": "53a8d3a50aeac73c",
+    "per-time": "9fdc168c7b949a95",
+    "compactions": "805712ffe24eba01",
+    "gossip": "eb9ee42311210ec2",
+    "spellings": "7b148779c42204e1",
+    "kept": "5fd2f9f074b9d1da",
+    "rounds": "72259437886de4cf",
+    "mixed, Serf's rules": "5e7d9d08be1c0484",
+    "tiny, Serf's rules": "3684ff77c9523933",
+    "merges, Serf's rules": "a5804e26050ba4bc",
+    "restarts, Serf's rules": "98ace6109bef8cf8",
+    "devices, Serf's rules": "cd84167e6e30f306",
+    "injections, Serf's rules": "a0590f3188948186",
+    "queries, Serf's rules": "124618e2c8807612",
+    "limits, Serf's rules": "e330e56a396fa057",
+    "exhaustion, Serf's rules": "0ac9ce9501891f96",
+    "per-time, Serf's rules": "7c914a7b9d20854b",
+    "compactions, Serf's rules": "afef519a8ddf768c",
+    "gossip, Serf's rules": "36bd194b2f303592",
+    "spellings, Serf's rules": "bcd393444438775c",
+    "kept, Serf's rules": "1f488e731160a2e9",
+    "rounds, Serf's rules": "178d8078c3d142fb",
+    "fanout 1 and loss 0": "a80e39b3a52530c2",
+    "fanout 3 and loss 0": "dd2b6a89a3bbef2c",
+    "fanout 3 and loss 50": "35c4a35b6e56ba28",
+    "fanout 16 and loss 99": "6df58beb56300784",
 }
 
-# Of each kind the seeds whose schedules keep to Serf's rules here.
+# For each kind, the seeds whose schedules keep to Serf's rules here.
 COMMON_SEEDS = range(1, 21)
 
-# The seeds whose tails are looked at, and of how many actions.
+# The seeds whose tails are inspected, and their number of actions.
 KEPT_SEEDS, KEPT_ACTIONS = range(1, 61), 200
 
-# The answers that rest on a rule of this project's own (docs/SPEC.md, "Traces"), and a restart with a tail.
+# The answers that depend on one of this project's own rules (docs/SPEC.md, "Traces"); a restart with a tail; and what
+# agent keeps its events.
 OWN_ANSWER = re.compile(
     rb"^\d+ (?:ignored (?:Oversize|TimeFull)|refused (?:Wire|Exhausted|RespondersFull|Stopped|SinkFault)"
     rb"|broken|compacted)\b",
@@ -83,7 +84,15 @@ OWN_ANSWER = re.compile(
 TAIL = re.compile(rb"^restart \d+ [^-\n]", re.M)
 KEEPS = re.compile(rb"^agent .*\+events", re.M)
 
-# What a line of a tail is, where agents keep their events.
+# An agent's line with the number of events of one time that it accepts, and the default of that number.
+PER_TIME = re.compile(rb"^agent \S+ \d+ \d+ \d+ \d+ \S+ (\d+)", re.M)
+DEFAULT_PER_TIME = 1024
+
+# A query that entered, with the number of its action, and one that was handed out.
+ENTERED = re.compile(rb"^(\d+) (?:query|queried \d+)$", re.M)
+HANDED = re.compile(rb"^(\d+) handed ", re.M)
+
+# The forms of a tail's line, if agents keep their events.
 KEPT_LINES = {
     "event with a text of no bytes": re.compile(rb"#event [1-9]\d* (?:- [0-9a-f]+|[0-9a-f]+ -)\n"),
     "least time above 2^64 - 1": re.compile(rb"#least event-clock: 18446744073709551615\d+\n"),
@@ -128,9 +137,9 @@ def schedule_of(seed, kind, *words):
 
 
 def first_line(seed, kind, rules=""):
-    """What the first line of a schedule says: the words that it was asked for by."""
+    """The first line of a schedule: the words with which it was requested."""
     spread = " --fanout 3 --loss 20 --rounds 10" if kind == "rounds" else ""
-    return f"# random {seed} --kind {kind} --agents 0 --actions {ACTIONS}{spread}{rules} version 4".encode()
+    return f"# random {seed} --kind {kind} --agents 0 --actions {ACTIONS}{spread}{rules} version 5".encode()
 
 
 def actions_in(text):
@@ -144,8 +153,8 @@ def wrong_seed(seed, kind, made, again):
     if made.stdout != again.stdout:
         return "it has other bytes the second time"
     if made.stdout.split(b"\n")[0] != first_line(seed, kind):
-        return "its first line doesn't say what was asked for"
-    # Rounds may end before.
+        return "its first line isn't what was requested"
+    # (rounds may end before the last action)
     many = actions_in(made.stdout)
     if many > ACTIONS or many < ACTIONS and kind != "rounds":
         return f"it has {many} actions"
@@ -161,18 +170,23 @@ def wrong_common(seed, kind, made):
     if made.returncode or made.stderr:
         return f"status {made.returncode}: {made.stderr}"
     if made.stdout.split(b"\n")[0] != first_line(seed, kind, " --rules serf"):
-        return "its first line doesn't say what was asked for"
+        return "its first line isn't what was requested"
     if actions_in(made.stdout) > ACTIONS:
         return f"it has {actions_in(made.stdout)} actions"
     replayed = ran(["replay"], made.stdout)
     if replayed.returncode or replayed.stderr:
         return f"replay: status {replayed.returncode}: {replayed.stderr}"
     own = OWN_ANSWER.search(replayed.stdout) or TAIL.search(made.stdout) or KEEPS.search(made.stdout)
-    return f"an own rule: {own[0]}" if own else None
+    if own:
+        return f"an own rule: {own[0]}"
+    if any(int(number) < DEFAULT_PER_TIME for number in PER_TIME.findall(made.stdout)):
+        return "an agent accepts fewer events of one time than by default"
+    held_back = set(ENTERED.findall(replayed.stdout)) - set(HANDED.findall(replayed.stdout))
+    return f"a query is held back in action {min(held_back, key=int)}" if held_back else None
 
 
 def same_bytes(count, name, texts):
-    """These schedules are those of this version."""
+    """The schedules are those of this version."""
     short = hashlib.sha256(b"".join(texts)).hexdigest()[:16]
     if "--digests" in sys.argv:
         print(f'    "{name}": "{short}",')
@@ -215,14 +229,14 @@ def first_seeds(count):
 
 
 def largest_schedules(count):
-    """Of rounds four agents' schedule ends with the last round, far from the greatest size."""
+    """For rounds, the schedule of four agents ends with the last round, far below the maximum size."""
     for kind in checks.KINDS[:-1]:
         fault = largest(kind)
         count.check(f"{kind}, the largest", not fault, fault)
 
 
 def rounds_without_room(count):
-    """Of rounds that the greatest size ends it is said so, and of others nothing."""
+    """If the maximum size ends the rounds, the program prints that; otherwise it prints nothing."""
     for agents, said in (("10000", b"random: a schedule has at most 16777216 bytes, so the last rounds may be missing\n"), ("1000", b"")):
         made = ran(["random", "1", "--kind", "rounds", "--agents", agents, "--fanout", "16"])
         is_full = checks.LONGEST - 4096 < len(made.stdout) <= checks.LONGEST
@@ -230,7 +244,7 @@ def rounds_without_room(count):
 
 
 def sends_in(text):
-    """Of each round the packets that are delivered in it, with their agents."""
+    """For each round, the packets that are delivered in it, with their agents."""
     sends = {}
     for line in text.splitlines():
         words = line.split(b" ")
@@ -240,7 +254,7 @@ def sends_in(text):
 
 
 def rounds_spread(count):
-    """Of rounds: nobody sends more often than the options say, and without losses each agent gets each event."""
+    """In rounds, no packet is sent more often than the options allow, and without losses each agent gets each event."""
     words = ["--kind", "rounds", "--agents", "100", "--actions", "100000", "--rounds", "30"]
     for fanout, loss in ((1, 0), (3, 0), (3, 50), (16, 99)):
         made = ran(["random", "5", *words, "--fanout", str(fanout), "--loss", str(loss)])
@@ -251,25 +265,25 @@ def rounds_spread(count):
         count.check(f"{name}: rounds in order", list(sends) == sorted(sends) and max(sends, default=0) <= 30, list(sends))
         events = ran(["replay"], made.stdout).stdout.count(b" event ")
         fired = sum(line.startswith(b"fire ") for line in made.stdout.splitlines())
-        count.check(f"{name}: who got the events", (events == 100 * fired) if (fanout, loss) == (3, 0) else events >= fired, (events, fired))
+        count.check(f"{name}: which agents got the events", (events == 100 * fired) if (fanout, loss) == (3, 0) else events >= fired, (events, fired))
     said = ran(["random", "5", *words])
-    count.check("the same words give it again", ran(said.stdout.split(b" version")[0].decode().split(" ")[1:]).stdout == said.stdout)
+    count.check("the same words generate it again", ran(said.stdout.split(b" version")[0].decode().split(" ")[1:]).stdout == said.stdout)
 
 
 def all_rounds(count):
-    """Rounds go on for all that were asked for, unless a number of actions ends them; and the comment's words give them again."""
+    """All requested rounds are generated, unless a number of actions ends them; and the words of the comment generate them again."""
     for agents, rounds in ((40, 10), (300, 12)):
         words = ["random", "3", "--kind", "rounds", "--agents", str(agents), "--rounds", str(rounds)]
         made, whole, cut = (ran([*words, *more]).stdout for more in ([], ["--actions", "10000000"], ["--actions", "200"]))
-        name, behind = f"{agents} agents, {rounds} rounds", made.partition(b"\n")[2]
-        count.check(f"{name}: no limit", behind == whole.partition(b"\n")[2] and actions_in(made) > 200, actions_in(made))
+        name, body = f"{agents} agents, {rounds} rounds", made.partition(b"\n")[2]
+        count.check(f"{name}: no limit", body == whole.partition(b"\n")[2] and actions_in(made) > 200, actions_in(made))
         count.check(f"{name}: to the last round", max(sends_in(made), default=0) >= rounds - 1, list(sends_in(made)))
-        count.check(f"{name}: 200 actions", actions_in(cut) == 200 and behind.startswith(cut.partition(b"\n")[2]), actions_in(cut))
+        count.check(f"{name}: 200 actions", actions_in(cut) == 200 and body.startswith(cut.partition(b"\n")[2]), actions_in(cut))
         count.check(f"{name}: its words again", ran(made.split(b" version")[0].decode().split(" ")[1:]).stdout == made)
 
 
 def kept_lines(count):
-    """Of `kept`: agents of each MODE with small buffers, and tails of each form; events in them that were sent, and others."""
+    """Schedules of `kept`: agents of each MODE with small buffers, and tails of each form; events in them that were sent, and others."""
     modes, forms, events = Counter(), Counter(), Counter()
     for seed in KEPT_SEEDS:
         made = ran(["random", str(seed), "--kind", "kept", "--actions", str(KEPT_ACTIONS)]).stdout
@@ -301,7 +315,7 @@ def refused(count):
 
 PARTS = (first_seeds, common_schedules, rounds_spread, all_rounds, kept_lines, refused)
 
-# What makes the largest schedules: over a program that is compiled unproved it takes minutes.
+# The parts with the largest schedules: over a program that is compiled unproved they take minutes.
 PROVED_ALONE = (largest_schedules, rounds_without_room)
 
 

@@ -1,4 +1,4 @@
-"""`replay`: each example beside its trace, refused schedules, long ones, progress on a terminal, memory, and summaries.
+"""`replay`: each example is compared with its trace. Also refused schedules, long ones, progress on a terminal, memory, and summaries.
 
 The worked rows are in rows.py, and `replay --stream` in stream.py.
 """
@@ -19,6 +19,8 @@ sys.dont_write_bytecode = True
 sys.path.insert(0, os.path.dirname(os.path.dirname(os.path.abspath(__file__))))
 import checks
 import programs
+
+TOO_LONG = b"the input is too long: it has more than 16777216 bytes\n"
 
 # Schedules, the number of the first bad line, and what is wrong with it.
 BAD_LINES = (
@@ -114,12 +116,12 @@ def of_editors(count):
     for name, text in (("a mark alone", mark), ("a mark and a carriage return", mark + b"\r\n")):
         count.exactly(name, ["replay"], 0, b"", b"", text)
     with subprocess.Popen([checks.PROGRAM, "replay", "--stream"], stdin=subprocess.PIPE, stdout=subprocess.PIPE) as run:
-        for part in (mark, b"# x\r", b"\n" + schedule):
+        for part in (mark[:1], mark[1:2], mark[2:] + b"# x\r", b"\n" + schedule):
             run.stdin.write(part)
             run.stdin.flush()
             time.sleep(0.1)
         run.stdin.close()
-        count.check("a mark that comes alone", run.stdout.read() == checks.read("examples", "deploy_gossiped_twice.trace"))
+        count.check("a mark that arrives by itself", run.stdout.read() == checks.read("examples", "deploy_gossiped_twice.trace"))
 
 
 def faults(count):
@@ -128,13 +130,13 @@ def faults(count):
     count.exactly("the longest text", ["replay"], 0, b"", b"", b"\n" * longest)
     count.exactly("the longest line", ["replay"], 1, b"", b"bad line 1 UnknownWord\n", b"x" * longest)
     count.exactly("the longest comment", ["replay"], 0, b"", b"", b"#" + b"x" * (longest - 1))
-    count.exactly("one byte more", ["replay"], 1, b"", b"too long\n", b"\n" * (longest + 1))
-    count.exactly("one byte more, with a fault before it", ["replay"], 1, b"", b"too long\n", b"!" + b"\n" * longest)
+    count.exactly("one byte more", ["replay"], 1, b"", TOO_LONG, b"\n" * (longest + 1))
+    count.exactly("one byte more, after a bad line", ["replay"], 1, b"", TOO_LONG, b"!" + b"\n" * longest)
     path = os.path.join(checks.TOP, "no_such_file")
     count.exactly("a missing file", ["replay", path], 3, b"", os.fsencode(path) + b": no such file\n")
-    count.exactly("a folder", ["replay", checks.TOP], 3, b"", os.fsencode(checks.TOP) + b": read fault: Is a directory (os error 21)\n")
+    count.exactly("a folder", ["replay", checks.TOP], 3, b"", os.fsencode(checks.TOP) + b": read failed: Is a directory (os error 21)\n")
     path = os.path.join(checks.EXAMPLES, "deploy_gossiped_twice.written")
-    hint = b"a written schedule? serf-replay write %s | serf-replay replay\n" % os.fsencode(path)
+    hint = b"if this is a written schedule, run: serf-replay write %s | serf-replay replay\n" % os.fsencode(path)
     for words in (["replay"], ["replay", "--stream"], ["replay", "--summary"], ["explain"], ["explain", "--agent", "alpha"], ["draw"], ["conform"]):
         got = checks.ran([*words, path])
         count.check(f"a written schedule: {words}", got[:2] == (1, b"") and got[2].startswith(b"bad line ") and got[2].endswith(b"\n" + hint), got)
@@ -162,37 +164,37 @@ def on_a_terminal(words, given=b""):
 
 
 # What a cause of a bad line means, as a terminal shows it.
-UNKNOWN = b"a line begins with agent, fire, deliver, state, merge, query, respond, restart, break, inject, close, save or compact; a text with labels goes through serf-replay write first"
-WORD = b"this word, with the command counted as 1, isn't as its command takes it (docs/SPEC.md, Schedules); a text with names goes through serf-replay write first"
-COUNT = b"the line has more or fewer words than its command takes; a text with names goes through serf-replay write first"
-BOUNDS = b"a name has 1 to 128 bytes, the limit is at most 9216, and the other numbers of an agent are 1 to 65536"
+UNKNOWN = b"a line begins with agent, fire, deliver, state, merge, query, respond, restart, break, inject, close, save or compact; if the text has labels, convert it with serf-replay write first"
+WORD = b"the command doesn't accept this word, counted with the command as word 1 (docs/SPEC.md, Schedules); if the text has names, convert it with serf-replay write first"
+COUNT = b"the line has more or fewer words than its command accepts; if the text has names, convert it with serf-replay write first"
+BOUNDS = b"a name must have 1 to 128 bytes, the limit can be at most 9216, and the other numbers of an agent must be 1 to 65536"
 MEANINGS = (
     (["replay"], b"fires 0\n", b"1 UnknownWord", UNKNOWN),
-    (["replay"], b"save 0\nagent 61 4 4 512 2 keep\n", b"2 LateAgent", b"all agents stand before the first action"),
+    (["replay"], b"save 0\nagent 61 4 4 512 2 keep\n", b"2 LateAgent", b"the lines of all agents must be before the first action"),
     (["explain"], b"save\n", b"1 WordCount", COUNT),
     (["explain", "--agent", "0"], b"save x\n", b"1 BadWord 2", WORD),
     (["draw"], b"agent 61 0 4 512 2 keep\n", b"1 BadConfig", BOUNDS),
-    (["replay", "--summary"], b"agent 61 4 4 512 2 keep\n" * 2, b"2 NameTwice", b"an agent above has this name"),
+    (["replay", "--summary"], b"agent 61 4 4 512 2 keep\n" * 2, b"2 NameTwice", b"an agent on an earlier line has this name"),
     (["replay", "--stream"], b"\nsave 0 0\n", b"2 WordCount", COUNT),
-    (["decode"], b"0\n", b"1 BadHex", b"a packet stands in hex digits, two for each byte"),
-    (["encode"], b"x" * (checks.LONGEST + 1), b"1 TooLong", b"a line has at most 16777216 bytes"),
+    (["decode"], b"0\n", b"1 BadHex", b"a packet must be in hex digits, two for each byte"),
+    (["encode"], b"x" * (checks.LONGEST + 1), b"1 TooLong", b"a line can have at most 16777216 bytes"),
 )
 
 
 def sentences_on_a_terminal(count):
-    """Behind the line with the cause a terminal shows what it means; what is no terminal gets the line alone."""
+    """A terminal shows what the cause means, after the line with the cause; otherwise there is only the line."""
     for words, given, cause, meaning in MEANINGS:
         status, out, shown = on_a_terminal(words, given)
         lines = shown.replace(b"\r\n", b"\n")
         if programs.IS_UNPROVED:
-            # (one that is slow, with checks in it, may tell how far it is)
-            lines = re.sub(rb"(?m)^\d+ bytes are read\n", b"", lines)
+            # (a slow program, with checks in it, may print how far it is)
+            lines = re.sub(rb"(?m)^\d+ bytes read\n", b"", lines)
         count.check(f"{words} {cause} on a terminal", (status, out, lines) == (1, b"", b"bad line %s\n%s\n" % (cause, meaning)), shown)
         count.exactly(f"{words} {cause}", words, 1, b"", b"bad line %s\n" % cause, given)
 
 
 def short_run_on_a_terminal(count):
-    """A run of less than a second shows no progress, on a terminal either."""
+    """A run of less than a second shows no progress, not even on a terminal."""
     path = os.path.join(checks.EXAMPLES, "deploy_gossiped_twice.schedule")
     trace = checks.read("examples", "deploy_gossiped_twice.trace")
     got = on_a_terminal(["replay", path])
@@ -207,7 +209,7 @@ def long_schedule(actions):
 
 
 def long_run_on_a_terminal(count):
-    """A longer one tells once a second how many actions are done, on a terminal alone, and gives the same trace."""
+    """A longer run prints once a second how many actions are done, only on a terminal, and writes the same trace."""
     actions, took = 4096, 0
     while took < 3 and actions < 1_000_000:
         actions *= 2
@@ -247,11 +249,11 @@ def peak_kib(schedule):
 
 
 def jobs_on_a_terminal(count):
-    """So do the other jobs: what is made or read, once a second, on a terminal alone."""
+    """The other commands do the same: they print how much is made or read, once a second, only on a terminal."""
     jobs = {
         "random": (lambda many: (["random", "1", "--agents", "4", "--actions", str(many)], b""), r"\d+ of {all} actions"),
         "draw": (lambda many: (["draw", "--from", str(many)], long_schedule(many)), r"\d+ of {all} actions"),
-        "write": (lambda many: (["write"], b"agent a\n" + b'fire a "x" "y"\n' * many), r"\d+ of \d+ bytes are read"),
+        "write": (lambda many: (["write"], b"agent a\n" + b'fire a "x" "y"\n' * many), r"\d+ of \d+ bytes read"),
     }
     for name, (job, line) in jobs.items():
         many, took = 4096, 0
@@ -263,14 +265,14 @@ def jobs_on_a_terminal(count):
         status, out, shown = on_a_terminal(*job(many))
         lines = shown.decode("ascii", "replace").splitlines()
         told = [row for row in lines if re.fullmatch(line.format(all=many), row)]
-        other = [row for row in lines if row not in told and not re.fullmatch(r"\d+ bytes are read", row)]
-        # (what `random` writes has an end at 16 MiB, which a quick machine reaches before a second is over)
+        other = [row for row in lines if row not in told and not re.fullmatch(r"\d+ bytes read", row)]
+        # (what `random` writes is at most 16 MiB, which a quick machine reaches in less than a second)
         count.check(f"{name}: its progress on a terminal", (told or took < 2) and not other, f"{many}, shown {lines[:5]}")
         count.check(f"{name}: nothing else changes", (status, out, b"") == piped == (0, out, b""), piped[::2])
 
 
 def slow_input_on_a_terminal(count):
-    """What comes slowly is told in bytes."""
+    """While slow input arrives, the number of bytes is printed."""
     for words in (["judge"], ["decode"], ["replay", "--stream"]):
         ours, theirs = pty.openpty()
         with subprocess.Popen([checks.PROGRAM, *words], stdin=subprocess.PIPE, stdout=subprocess.DEVNULL, stderr=theirs) as run:
@@ -288,14 +290,14 @@ def slow_input_on_a_terminal(count):
         except OSError:
             pass
         os.close(ours)
-        lines = [row for row in shown.decode("ascii", "replace").splitlines() if re.fullmatch(r"(?:4|8|12) bytes are read", row)]
+        lines = [row for row in shown.decode("ascii", "replace").splitlines() if re.fullmatch(r"(?:4|8|12) bytes read", row)]
         count.check(f"{words}: how much is read", lines and lines == sorted(lines, key=lambda row: int(row.split()[0])), shown)
 
 
 def memory_of_agents(count):
-    """Agents of 512 slots that do nothing take at most 1 KiB each, their lines and the program included.
+    """Agents of 512 slots that do nothing use at most 1 KiB each, including their lines and the program.
 
-    There are so many that what the system tells is not the peak of this interpreter, as it is of a small run; and this part
+    There are so many that the peak which the system reports is not that of this interpreter, as it is for a small run. This part
     runs before those that fill it.
     """
     agents = 50_000
@@ -304,7 +306,7 @@ def memory_of_agents(count):
 
 
 def no_memory(count):
-    """Where memory is short, nothing is written but the fault."""
+    """If memory is short, only the error is written."""
     schedule = b"agent 61 4 4 512 8 keep\n" + b"fire 0 78 - 0\n" * 100_000
     some = 12 * 1024 * 1024
     ran = subprocess.run(
@@ -315,7 +317,7 @@ def no_memory(count):
         preexec_fn=lambda: resource.setrlimit(resource.RLIMIT_AS, (some, some)),
     )
     count.check(
-        "a run without memory", (ran.returncode, ran.stdout, ran.stderr) == (3, b"", b"no memory\n"), str(ran)[-300:]
+        "a run without memory", (ran.returncode, ran.stdout, ran.stderr) == (3, b"", b"out of memory\n"), str(ran)[-300:]
     )
     status, out, err = checks.ran(["replay"], schedule)
     count.check(
@@ -324,7 +326,7 @@ def no_memory(count):
 
 
 def summaries(count):
-    """What `--summary` says in place of a trace."""
+    """What `--summary` writes in place of a trace."""
     schedule = os.path.join(checks.EXAMPLES, "deploy_gossiped_twice.schedule")
     said = (
         b"actions 3\n"
@@ -365,17 +367,17 @@ def summaries_for_machines(count):
     wanted = [{name: str(value) for name, value in row.items()} for row in ROWS]
     count.check("as CSV", (status, rows, err) == (0, wanted, b""), out)
     for words in (["--summary", "--as", "xml"], ["--as", "csv"], ["--stream", "--as", "json"]):
-        said = b"error: a bad word for --as: here may stand text, csv or json, where --summary is given too\n"
+        said = b"error: --as accepts text, csv or json, and only with --summary\n"
         count.exactly(" ".join(words), ["replay", *words], 2, b"", said, ROWS_SCHEDULE)
 
 
 PARTS = (examples, bad_lines, of_editors, faults, slow_input_on_a_terminal, sentences_on_a_terminal, summaries, summaries_for_machines)
 
-# What looks at how long a run takes and how much memory it has: a program that is compiled unproved has checks in it.
+# The parts that measure time and memory: a program that is compiled unproved has checks in it.
 PROVED_ALONE = (long_run_on_a_terminal, memory_of_agents, no_memory, jobs_on_a_terminal, short_run_on_a_terminal)
 
 
 if __name__ == "__main__":
-    # (what measures memory first, while this interpreter is small: what the system tells of a run's memory is never less
-    # than its parent's)
+    # (the part that measures memory is first, while this interpreter is small: the system never reports less memory for a run
+    # than for its parent)
     sys.exit(checks.by_speed(PROVED_ALONE, PARTS))

@@ -1,16 +1,16 @@
-"""The worked rows: each schedule of tests/rows, by `replay`, and its trace, and those of the examples, by `judge`.
+"""The worked rows: runs each schedule of tests/rows by `replay`, and its trace, and those of the examples, by `judge`.
 
     tests/program/rows.py [NAME..]
 
-With names, those rows alone are run, as ./serf-replay runs them, proved or not.
+With names, it runs only those rows, as ./serf-replay runs them, proved or not.
 
-A row's schedule ends with what is wanted of it, as comments. Behind `# trace:` they are the whole trace; behind `# fault:` the
-line on standard error of a schedule that is refused; behind `# lines:` facts about the trace: `N WORDS` is a line of it,
+A row's schedule ends with the expected result, as comments. After `# trace:` this is the whole trace; after `# fault:`, the line
+on standard error of a schedule that is refused; after `# lines:`, facts about the trace: `N WORDS` is a line of it,
 `!N WORD` says that action N has no line with this second word, and `=N COUNT` that action N has so many lines.
 
 No schedule hands an agent one event or one query twice: the trace of each row and each example is judged too
 (`judge`). It is proved that `replay` writes the trace of the run, what `judge` reads in it, and that it finds the first
-repeat there. That it takes the trace's events for events is seen with one line of them said again: this is a repeat.
+repeat there. To show that `judge` reads the trace's events as events, one of their lines is repeated: that is a repeat.
 """
 
 import os
@@ -22,14 +22,14 @@ sys.dont_write_bytecode = True
 sys.path.insert(0, os.path.dirname(os.path.dirname(os.path.abspath(__file__))))
 import checks
 
-# How the line begins that ./serf-replay says where the program isn't proved.
+# How the line begins that ./serf-replay prints if the program isn't proved.
 UNPROVED = "serf-replay: this program is compiled without its proofs"
 
 # What a fact may be, and the second words that `!` may have.
 FACT = re.compile(r"(?P<line>\d+) .+|!(?P<absent>\d+) (?P<word>\S+)|=(?P<counted>\d+) \d+")
 ABSENT = ("sent", "event", "handed")
 
-# What `judge` says of a trace without a repeat, as the trace has events and queries or not. It has no lines of firings.
+# What `judge` prints for a trace without a repeat, with events and queries or without. A trace has no lines of firings.
 NO_REPEAT = re.compile(
     r"read: (\d+) events, (\d+) queries, \d+ nodes\n"
     r"Once: (holds|not asked: no event lines)\nQueryOnce: (holds|not asked: no query lines)\n"
@@ -38,7 +38,7 @@ NO_REPEAT = re.compile(
 
 
 def is_no_repeat(trace, text):
-    """Whether this is said of a trace without a repeat, with as many events and queries as it has."""
+    """Whether this text is for a trace without a repeat, with as many events and queries as it has."""
     found = NO_REPEAT.fullmatch(text)
     second = [line.split(" ")[1] for line in trace.splitlines()]
     counts = [str(second.count(word)) for word in ("event", "handed")]
@@ -46,7 +46,7 @@ def is_no_repeat(trace, text):
 
 
 def actions_in(schedule):
-    """How many actions a schedule has: its lines but for agents, comments and empty ones."""
+    """How many actions a schedule has: its lines, without agents, comments and empty ones."""
     lines = [line.split() for line in schedule.split("\n") if not line.startswith("#")]
     return sum(words[0] != "agent" for words in lines if words)
 
@@ -60,7 +60,7 @@ def misshapen(fact, actions):
     if not 1 <= number <= actions:
         return f"{fact!r} names action {number} of {actions}"
     if found["absent"] and found["word"] not in ABSENT:
-        return f"{fact!r}: the word is to be one of {', '.join(ABSENT)}"
+        return f"{fact!r}: the word has to be one of {', '.join(ABSENT)}"
     return None
 
 
@@ -92,14 +92,14 @@ def said_by(command, given, program=checks.PROGRAM):
 
 
 def wrong(name, said):
-    """What differs in a row whose schedule `replay` answers so, or None."""
+    """What differs in a row for whose schedule `replay` answered this, or None."""
     schedule, kind, wanted = checks.row_of(name)
     status, out, err = said
     if kind is None:
-        return "its schedule doesn't end with what is wanted of it"
+        return "its schedule doesn't end with an expected result"
     if kind == "fault":
         refused = (1, "", wanted)
-        return None if said == refused else f"wanted {refused}, got {(status, out[:200], err)}"
+        return None if said == refused else f"expected {refused}, got {(status, out[:200], err)}"
     if status != 0 or err:
         return f"status {status}: {err}"
     if kind == "trace":
@@ -108,22 +108,22 @@ def wrong(name, said):
 
 
 def repeats(is_refused, said):
-    """What `judge` says otherwise than it should of a trace, or None. What is refused has no trace."""
+    """What is wrong with the report of `judge` on a trace, or None. A refused schedule has no trace."""
     status, trace, _ = said
     if is_refused:
-        return None if (status, trace) == (1, "") else f"wanted no trace, got {(status, trace[:200])}"
+        return None if (status, trace) == (1, "") else f"expected no trace, got {(status, trace[:200])}"
     got = said_by("judge", trace)
     if got[0] != 0 or got[2] or not is_no_repeat(trace, got[1]):
-        return f"wanted no repeat, got {got}"
+        return f"expected no repeat, got {got}"
     events = [line for line in trace.splitlines(True) if line.split(" ")[1:2] == ["event"]]
     status, out, err = said_by("judge", trace + events[-1]) if events else (1, "\nOnce: line", "")
     if status == 1 and "\nOnce: line" in out and not err:
         return None
-    return f"said again: {events[-1]!r}, got {(status, out, err)}"
+    return f"repeated: {events[-1]!r}, got {(status, out, err)}"
 
 
 def by_name(names):
-    """These rows alone, as ./serf-replay runs them."""
+    """Only these rows, as ./serf-replay runs them."""
     count, rows = checks.Checks(), checks.names_in(checks.ROWS)
     for name in names:
         fault = "there is no such row"
@@ -134,7 +134,7 @@ def by_name(names):
 
 
 def all_rows(count):
-    """Each row beside what is wanted of it; and of each row and each example, that nothing is repeated."""
+    """Compares each row with its expected result; and checks for each row and each example that nothing is repeated."""
     rows, examples = checks.names_in(checks.ROWS), checks.names_in(checks.EXAMPLES)
     count.check("there are rows and examples", rows and examples)
     for name in rows:
@@ -143,7 +143,7 @@ def all_rows(count):
         for what, fault in ((name, wrong(name, said)), (f"{name}, and repeats", repeats(kind == "fault", said))):
             count.check(what, not fault, fault)
     for name in examples:
-        # (that `replay` writes the traces of the examples is in replay.py)
+        # (replay.py checks that `replay` writes the traces of the examples)
         path = os.path.join(checks.EXAMPLES, name)
         fault = repeats(False, (0, checks.text_of(path + ".trace"), ""))
         count.check(f"{name}, and repeats", not fault, fault)

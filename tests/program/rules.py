@@ -1,7 +1,8 @@
-"""The rules of docs/SPEC.md, "What an agent does", asked of the program: a schedule for each row. And the definitions that it names are there.
+"""The rules of docs/SPEC.md, "What an agent does", checked on the program: a schedule for each row. The definitions that the page
+names exist.
 
-A case is what agent 0 is told to do, a call a line, and what it has to answer to each, as tests/one_agent.py has it. Each
-row is asked of an agent that keeps its events too (MODE with `+events`): by the same case where the page's column for such
+A case is a list of calls of agent 0, one on each line, with the answer that it has to return to each, as in tests/one_agent.py. Each
+row is also checked on an agent that keeps its events (MODE with `+events`): by the same case if the page's column for these
 agents is empty, else by one of `rules/keeping.py`.
 """
 
@@ -38,7 +39,7 @@ def fired(time):
 
 
 def asked(time, id=1):
-    """The answer to `ASK` where no ack is asked for."""
+    """The answer to `ASK` if no ack is requested."""
     return f"queried {time}, sent, handed 0 0 {time} {id} 71 -"
 
 
@@ -48,7 +49,7 @@ OVERSIZE = event(50, b"x", bytes(9216))
 BIN_EVENT = b"\x03\x82\xc4\x05LTime\x05\xc4\x04Name\xc4\x01x"
 DEEP = b"\x03\x81\xa1u" + b"\x91" * 7
 
-# Of each rule, by its name on the page: calls and their answers, or a pair of such a list and another agent.
+# For each rule, by its name on the page: calls and their answers, or a pair of such a list and another agent.
 CASES = {
     "a clock observes": [(deliver(event(7)), got(7)), (FIRE, fired(8)), (deliver(event(5)), got(5)), (FIRE, fired(9))],
     "an ignored time counts": [
@@ -58,7 +59,7 @@ CASES = {
         (deliver(query(9)), "ignored Seen"),
         (ASK, "queried 10, sent, handed 0 1 10 1 71 -"),
     ],
-    "a fault moves nothing": [(deliver(event(50) + b"\x00"), f"refused Wire Trailing {len(event(50))}"), (FIRE, fired(1))],
+    "an error moves nothing": [(deliver(event(50) + b"\x00"), f"refused Wire Trailing {len(event(50))}"), (FIRE, fired(1))],
     "the window": [
         (deliver(event(10)), got(10)),
         (deliver(event(7)), got(7)),
@@ -153,7 +154,7 @@ CASES = {
         (RESTART, "restarted 7 1 1"),
     ],
     "what `compact` writes": None,
-    # (a clock line is taken only where it stands behind a whole line, so each tail shows that nothing of the failed one stands)
+    # (a clock line is only accepted after a whole line, so each tail shows that nothing of the failed line is in the file)
     "a line that fails": (
         [("break flush 1", BROKEN), (deliver(event(7)), FAILED), (RESTART, "restarted 1 1 1"), (deliver(event(7)), got(7))],
         AGENT,
@@ -256,7 +257,7 @@ CASES = {
         IGNORING,
     ),
     "a slot's place": None,
-    "a slot behind the window": None,
+    "a slot older than the window": None,
     "a deadline": [
         (deliver(query(1, 1, timeout=-5), 100), "query, sent, handed 0 0 1 1 71 -"),
         (deliver(query(2, 2, timeout=0), 100), "query, sent, handed 0 1 2 2 71 -"),
@@ -305,7 +306,7 @@ CASES = {
         ],
         "agent 61 4 4 512 1 keep",
     ),
-    "a name that comes twice": (
+    "a name that appears twice": (
         [
             (ASK_FOR_ACKS, ASKED_FOR_ACKS),
             (deliver(answer(1, 1, b"b", 1), 100), "ack"),
@@ -351,12 +352,12 @@ CASES = {
         (deliver(b"\x03\x81\xc0\x01"), "refused Wire BadKey 2"),
         (deliver(b"\x02\x81\xacStatusLTimes\x81\xc0\x01"), "refused Wire BadKey 16"),
     ],
-    "behind a foreign type": [(deliver(bytes([kind]) + b"\xc1\xff"), f"foreign {kind}") for kind in (0, 1, 6, 7, 8, 9)],
+    "after a foreign type": [(deliver(bytes([kind]) + b"\xc1\xff"), f"foreign {kind}") for kind in (0, 1, 6, 7, 8, 9)],
 }
 
 
 def rules():
-    """The rules of the page, by name: what such a row says of agents that keep their events, and the definitions."""
+    """The rules of the page, by name: what the row says about agents that keep their events, and the definitions."""
     part = checks.text_of("docs", "SPEC.md").partition("\n## What an agent does\n")[2].partition("\n## ")[0]
     rows = [cells for cells in rows_of(part) if cells[0] != "Rule"]
     return {cells[0]: (cells[2], re.findall(r"`([^`]+)`", cells[4])) for cells in rows}
@@ -373,7 +374,7 @@ def on_the_page(count):
     page = rules()
     count.check("each rule has its case, and each case its rule", page.keys() == CASES.keys(), page.keys() ^ CASES.keys())
     otherwise = {rule for rule, (kept, _) in page.items() if kept}
-    count.check("each rule that is another with `+events` has its case", otherwise == keeping.CASES.keys(), otherwise ^ keeping.CASES.keys())
+    count.check("each rule that differs with `+events` has its case", otherwise == keeping.CASES.keys(), otherwise ^ keeping.CASES.keys())
     for rule, (_, names) in page.items():
         for name in names:
             count.check(f"{rule}: {name}", is_defined(name), "no such definition")
@@ -381,7 +382,7 @@ def on_the_page(count):
 
 
 def keeps(agent):
-    """The same settings, of an agent that keeps its events."""
+    """The same settings, for an agent that keeps its events."""
     return re.sub(r"(?<= )(keep|ignore)(?![+])", r"\1+events", agent)
 
 
@@ -390,7 +391,7 @@ def asked(count, rule, case, default):
     for asked_of, agent in zip(parts[::2], parts[1::2]):
         got_back = answers([call for call, _ in asked_of], agent)
         for (call, wanted), said in zip(asked_of, got_back):
-            count.check(f"{rule}: {call} of {agent}", said == wanted, f"wanted {wanted}, got {said}")
+            count.check(f"{rule}: {call} of {agent}", said == wanted, f"expected {wanted}, got {said}")
 
 
 def cases(count):
@@ -426,14 +427,14 @@ def slots(count):
         lines = slots_after(5, names=(b"b", b"c", b"a"), agent=agent)[1]
         count.check("a slot's place: its events", [line for line in lines if line.startswith("event ")] == ["event 62 -", "event 63 -", "event 61 -"], lines)
         held, lines = slots_after(5, 16, agent=agent)
-        count.check("a slot behind the window", held == [("0", "16"), ("1", "5")], lines)
+        count.check("a slot older than the window", held == [("0", "16"), ("1", "5")], lines)
         held, lines = slots_after(5, 17, agent=agent)
-        count.check("a slot behind the window: a later time", held == [("1", "17")], lines)
+        count.check("a slot older than the window: a later time", held == [("1", "17")], lines)
 
 
-def kept_behind(*calls, agent=AGENT, opened="opened 1 1 1"):
-    """The text that the disk keeps behind these calls, by the `look` that `conform` wants. Each call has its answer, and is
-    one that has a look behind it."""
+def kept_after(*calls, agent=AGENT, opened="opened 1 1 1"):
+    """The text that the disk holds after these calls, by the `look` that `conform` requires. Each call has its answer, and has a
+    `look` after it."""
     answered = "".join(f"{answer}\n\nunsupported\n\n" for _, answer in calls)
     lines = "".join(f"{call}\n" for call, _ in calls)
     with tempfile.NamedTemporaryFile("w", suffix=".schedule") as schedule:
@@ -446,17 +447,17 @@ def kept_behind(*calls, agent=AGENT, opened="opened 1 1 1"):
 
 def texts(count):
     some = b"query-clock: 7\nx\nclock: 0\nevent-clock: 2\nevent-clock: 005\n".hex()
-    kept = kept_behind((f"restart 0 {some}", "restarted 1 6 8"), ("compact 0", "compacted"))
+    kept = kept_after((f"restart 0 {some}", "restarted 1 6 8"), ("compact 0", "compacted"))
     count.check("what `compact` writes", kept == "event-clock: 5\nquery-clock: 7\n", kept)
     all_three = b"query-clock: 7\nevent-clock: 5\nclock: 3\n".hex()
-    kept = kept_behind((f"restart 0 {all_three}", "restarted 4 6 8"), ("compact 0", "compacted"))
+    kept = kept_after((f"restart 0 {all_three}", "restarted 4 6 8"), ("compact 0", "compacted"))
     count.check("what `compact` writes: all three", kept == "clock: 3\nevent-clock: 5\nquery-clock: 7\n", kept)
 
 
 def texts_of_keeping(count):
     lived = "".join(f"{line}\n" for line in ("clock: 2", "event-clock: 06", "#event 6 79 ", "#event 5 78 ", "query-clock: 03", "#query 3 1"))
     calls = (f"restart 0 {lived.encode().hex()}", "restarted 3 7 4"), ("compact 0", "compacted")
-    kept = kept_behind(*calls, agent=keeps(AGENT))
+    kept = kept_after(*calls, agent=keeps(AGENT))
     count.check("what `compact` writes with `+events`", kept == keeping.COMPACTED, repr(kept))
 
 

@@ -1,7 +1,7 @@
-"""What a reader of schedules decides, as data: conformance/schedules/cases.jsonl, held against `replay`.
+"""What a reader of schedules decides, as data: conformance/schedules/cases.jsonl, compared with `replay`.
 
-The cases are made from a schedule that has each line, by turning one word, one space or one line of it. What is wanted of
-each is read off by a reader of this script's own, by docs/SPEC.md. The program has to refuse the same line for the same
+The cases are made from a schedule that has each kind of line, by changing one word, one space or one line of it. A reader in this
+script decides what is expected of each, by docs/SPEC.md. The program has to refuse the same line for the same
 cause, or to replay the schedule as the plain one that the case names.
 
     tests/program/schedule_cases.py [--write]
@@ -40,7 +40,7 @@ compact 1
 
 
 class Kind:
-    """How a word is read: as it stands in a plain schedule, or not at all; and what it may be turned into."""
+    """How a word is read: as it is in a plain schedule, or not at all; and what it may be changed into."""
 
     def __init__(self, read, shapes):
         self.read, self.shapes = read, shapes
@@ -64,7 +64,7 @@ COUNT = number(1 << 64)
 MODE = one_of("ignore", "keep", "ignore+events", "keep+events", shapes="MODES")
 AGENT = [DATA, COUNT, COUNT, COUNT, COUNT, MODE]
 
-# What the words behind each command are, without those that may be left out.
+# The words after each command, without those that may be left out.
 LINES = {
     "agent": AGENT,
     "fire": [COUNT, DATA, DATA, one_of("0", "1")],
@@ -81,13 +81,13 @@ LINES = {
     "compact": [COUNT],
 }
 
-# The ranges of an agent's numbers, from the second word on and behind the mode.
+# The ranges of an agent's numbers, from the second word on and after the mode.
 RANGES = [(1, 65_536), (1, 65_536), (0, 9_216), (1, 65_536)]
 MORE_RANGES = [(1, 65_536), (0, 9_216), (0, 9_216)]
 
 
 def kinds_of(words):
-    """What the words behind a command have to be, or None where their count is wrong."""
+    """What the words after a command have to be, or None if their count is wrong."""
     kinds = LINES[words[0]]
     if words[0] == "query":
         return kinds + [DATA] * (len(words) - 8) if len(words) >= 8 else None
@@ -104,7 +104,7 @@ def is_config(words):
 
 
 def cause_of(words, names, acted):
-    """Why a line is refused, or the words that it stands for."""
+    """Why a line is refused, or the plain words of the line."""
     if words[0] not in LINES:
         return "UnknownWord", None
     if words[0] == "agent" and acted:
@@ -123,7 +123,7 @@ def cause_of(words, names, acted):
 
 
 def read(schedule):
-    """The line on standard error where a schedule is refused, or else the plain schedule that it stands for."""
+    """The line on standard error if a schedule is refused, or else its plain schedule."""
     names, acted, plain = set(), False, []
     for place, line in enumerate(schedule.replace("\r", " ").split("\n"), 1):
         words = [word for word in line.split(" ") if word]
@@ -139,7 +139,7 @@ def read(schedule):
     return None, "".join(plain)
 
 
-# What a word of each kind may be turned into, `{}` the word itself.
+# What a word of each kind may be changed into, `{}` is the word itself.
 NUMBERS = (
     *("0{}", "000{}", "+{}", "-{}", "{}x", "{}\t", "{}.0", "0x{}", "-", "a", "{},", "0", "4", "65536", "65537", "9217"),
     *("4294967295", "4294967296", "9223372036854775807", "9223372036854775808", "18446744073709551615", "18446744073709551616"),
@@ -155,22 +155,22 @@ MODES = (
 
 SHAPES = {"NUMBERS": NUMBERS, "BYTES": BYTES, "CHOICES": CHOICES, "MODES": MODES}
 
-# What a command may be turned into.
+# What a command may be changed into.
 COMMANDS = ("{}x", "{}\t", "\t{}", "{}{}", "x", "0", "#{}", "agent", "fire")
 
-# What a line may be turned into.
+# What a line may be changed into.
 ROWS = (
     *("{}\r", " {}", "   {}  ", "\t{}", "{} ", "{}\t", "{} x", "{} 0", "{} -", "{} #", "{} # words", "#{}", " #{}", "# {}", "##"),
     *("", " ", "   ", "\t", "\r", "{}\n{}", "\n{}", "{}\n\n", "{}\x0b", "{}\x00", "{};", "{} 00 00"),
 )
 
 
-# The lines of which the command, the spaces and the whole are turned.
+# The lines whose command, spaces and whole text are changed.
 TURNED = ("agent", "fire", "query", "restart", "compact")
 
 
 def turned(line):
-    """A line with one thing turned."""
+    """A line with one change."""
     words = line.split(" ")
     yield " ".join(words[:-1])
     yield line + " 0"
@@ -188,7 +188,7 @@ def schedules():
     lines = PLAIN.splitlines()
     made = [PLAIN, "", "\n", PLAIN[:-1], PLAIN.replace(" ", "  "), PLAIN.replace(" ", "\t"), PLAIN.replace("\n", "\r\n"), PLAIN.upper()]
     for at, line in enumerate(lines):
-        # (of the other lines the agents stay before an action, and one line behind it, so that a case is short)
+        # (of the other lines the agents stay before an action, and one line after it, so that a case is short)
         first = [] if line.startswith("agent") else lines[:3]
         made += ["\n".join([*first, row, *lines[at + 1 : at + 2], ""]) for row in turned(line)]
         made.append("\n".join([*lines[at:], *lines[:at], ""]))
@@ -196,14 +196,14 @@ def schedules():
 
 
 def cases():
-    """Each case: its schedule, and the fault that is wanted or the plain schedule that it stands for."""
+    """Each case: its schedule, and the expected error or the plain schedule."""
     for schedule in schedules():
         fault, plain = read(schedule)
         yield {"schedule": schedule, "fault": fault, "plain": plain}
 
 
 def differs(case, traces):
-    """What the program does otherwise with a case, or None."""
+    """What is different in the program's result for a case, or None."""
     status, out, said = checks.ran(["replay"], case["schedule"].encode("latin-1"))
     if case["fault"]:
         return None if (status, out, said) == (1, b"", case["fault"].encode() + b"\n") else (status, said)
@@ -218,7 +218,7 @@ def held(count):
         case = json.loads(line)
         given.append(case)
         fault = differs(case, traces)
-        count.check(f"{case['schedule']!r} wants {case['fault']}", fault is None, fault)
+        count.check(f"{case['schedule']!r} expects {case['fault']}", fault is None, fault)
     count.check("the cases are those of this script", given == list(cases()), "run --write")
 
 

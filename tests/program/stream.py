@@ -1,4 +1,4 @@
-"""`replay --stream`: what it writes beside what `replay` writes, faults after a prefix, long runs, a pipe, a program that drives
+"""`replay --stream`: compares it with `replay`. Also errors after a prefix, long runs, a pipe, a program that drives
 it, and summaries."""
 
 import importlib.util
@@ -17,8 +17,8 @@ AGENTS = b"agent 61 4 4 512 8 keep\nagent 62 4 4 512 8 keep\n"
 
 
 def same(count, name, text):
-    """A schedule that `replay` takes, or one that it refuses: there the stream has the text of the lines before. Gives
-    what the stream answers."""
+    """A schedule that `replay` accepts, or one that it refuses: then the stream writes the text of the lines before. Returns
+    the stream's answer."""
     wanted, got = ran(["replay"], text), ran(STREAM, text)
     if wanted[0] == 0:
         count.check(name, got == wanted, str((wanted, got))[:400])
@@ -29,7 +29,7 @@ def same(count, name, text):
     return got
 
 
-def beside(count):
+def like_replay(count):
     for folder in (checks.EXAMPLES, checks.ROWS):
         for name in checks.names_in(folder):
             path = os.path.join(folder, name + ".schedule")
@@ -48,7 +48,7 @@ def small(count):
         "agents alone": AGENTS,
         "a late agent": AGENTS + fire + b"agent 63 4 4 512 8 keep\n" + fire,
         "a late agent with too few words": AGENTS + fire + b"agent 63\n",
-        "a comment behind an action": AGENTS + fire + b"# a\n\n" + fire,
+        "a comment after an action": AGENTS + fire + b"# a\n\n" + fire,
         "a bad first line": b"fires 0\n" + AGENTS,
         "a bad last line": AGENTS + fire + b"deliver 1 0",
         "a bad word": AGENTS + fire + b"deliver 1 x 0\n" + fire,
@@ -70,7 +70,7 @@ def same_summary(count, name, form, text):
 
 
 def summed_up(count):
-    """`--stream --summary` has what `--summary` has, and of a bad schedule nothing, with the same fault."""
+    """`--stream --summary` prints what `--summary` prints, and for a bad schedule only the same error."""
     fire = b"fire 0 61 - 0\n"
     texts = {
         "nothing": b"",
@@ -94,7 +94,7 @@ def summed_up(count):
 
 
 def long_ones_summed_up(count):
-    """More than 16 MiB have a summary line by line, and it is that of the lines one after another."""
+    """An input of more than 16 MiB has a summary line by line, and it is that of the lines one after another."""
     fire = b"fire 0 61 - 0\n"
     lines = AGENTS + fire + b"deliver 1 0 0\n" * 1_300_000
     said = (
@@ -107,12 +107,12 @@ def long_ones_summed_up(count):
         b"event 1 61 - was handed out: 2, last at action 2\n"
     )
     count.exactly("a long summary", [*STREAM, "--summary"], 0, said, b"", lines)
-    count.exactly("too long for one", ["replay", "--summary"], 1, b"", b"too long\n", lines)
+    count.exactly("too long for one", ["replay", "--summary"], 1, b"", b"the input is too long: it has more than 16777216 bytes\n", lines)
     comment, too_long = b"#" + b" " * (checks.LONGEST - 1), b"bad line 4 TooLong\n"
     count.exactly("a line that is too long", [*STREAM, "--summary"], 1, b"", too_long, AGENTS + fire + b" " + comment)
     bad = b"bad line 10004 UnknownWord\n"
     many = AGENTS + fire + b"deliver 1 0 0\n" * 10_000 + b"fires\n"
-    count.exactly("a bad line behind many", [*STREAM, "--summary"], 1, b"", bad, many)
+    count.exactly("a bad line after many", [*STREAM, "--summary"], 1, b"", bad, many)
 
 
 def long_ones(count):
@@ -120,7 +120,7 @@ def long_ones(count):
     lines = AGENTS + fire + b"deliver 1 0 0\n" * 1_300_000
     text = b"1 fired 1\n1 sent 0 " + ran(["replay"], AGENTS + fire)[1].split(b" ")[5].split(b"\n")[0] + b"\n"
     got = ran(STREAM, lines)
-    count.check("more than 16 MiB are too long for replay", ran(["replay"], lines)[::2] == (1, b"too long\n"))
+    count.check("more than 16 MiB are too long for replay", ran(["replay"], lines)[::2] == (1, b"the input is too long: it has more than 16777216 bytes\n"))
     count.check(
         "and not for a stream",
         got[0] == 0 and got[2] == b"" and got[1].startswith(text) and got[1].count(b" ignored Seen\n") == 1_299_999,
@@ -142,11 +142,11 @@ def while_it_runs(count):
         run.stdin.write(b"save 1\nsave")
         run.stdin.flush()
         run.stdout.readline()
-        count.check("the next one's", run.stdout.readline() == b"2 saved\n")
+        count.check("the text of the next turn", run.stdout.readline() == b"2 saved\n")
         run.stdin.write(b" 0")
         run.stdin.close()
         count.check(
-            "and the last line's, which has no newline", run.stdout.read() == b"3 saved\n" and run.wait(60) == 0
+            "the text of the last line, which has no newline", run.stdout.read() == b"3 saved\n" and run.wait(60) == 0
         )
 
 
@@ -209,7 +209,7 @@ def marks(count):
 def devices(count):
     for words in (STREAM, [*STREAM, "--summary"]):
         count.exactly("a file that isn't there", [*words, "/nowhere"], 3, b"", b"/nowhere: no such file\n")
-    count.exactly("a folder", [*STREAM, checks.TOP], 3, b"", os.fsencode(checks.TOP) + b": read fault: Is a directory (os error 21)\n")
+    count.exactly("a folder", [*STREAM, checks.TOP], 3, b"", os.fsencode(checks.TOP) + b": read failed: Is a directory (os error 21)\n")
     with open("/dev/full", "wb") as full:
         done = subprocess.run(
             [checks.PROGRAM, *STREAM],
@@ -218,8 +218,8 @@ def devices(count):
             stderr=subprocess.PIPE,
             timeout=checks.LIMIT,
         )
-    count.check("a full device", (done.returncode, done.stderr) == (3, b"write fault: No space left on device (os error 28)\n"))
+    count.check("a full device", (done.returncode, done.stderr) == (3, b"write failed: No space left on device (os error 28)\n"))
 
 
 if __name__ == "__main__":
-    sys.exit(checks.by_speed([long_ones, long_ones_summed_up], [beside, small, summed_up, while_it_runs, driven, marks, devices]))
+    sys.exit(checks.by_speed([long_ones, long_ones_summed_up], [like_replay, small, summed_up, while_it_runs, driven, marks, devices]))

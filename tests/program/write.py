@@ -1,4 +1,4 @@
-"""`write`: schedules that a person wrote, each example in both forms; each fault with its line, word and sentence."""
+"""`write`: schedules that a person wrote, each example in both forms; each error with its line, word and sentence."""
 
 import os
 import sys
@@ -36,7 +36,7 @@ ESCAPE = b"in a text a backslash stands only before x and two hex digits, as in 
 LABEL = b"a label is a new word that is no number and has no slash, with a colon behind it"
 FIRST = b"all agents stand before the first action"
 
-# A text, and the line, the word and the sentence of its fault.
+# A text, and the line, the word and the sentence of its error.
 FAULTS = [
     (b"agent\n", 1, 2, NAME),
     (b"agent a\nagent a\n", 2, 2, NAME),
@@ -152,7 +152,7 @@ TEXTS = [
 
 
 def plain(schedule):
-    """A schedule without its comments, with the last number of each agent said."""
+    """A schedule without its comments, with the last number of each agent written out."""
     lines = []
     for line in schedule.splitlines():
         if line and not line.startswith(b"#"):
@@ -200,7 +200,7 @@ def faults(count):
         count.exactly(repr(text), ["write"], 1, b"", b"bad line %d word %d: %s\n" % (line, word, sentence), text)
     path = os.path.join(checks.EXAMPLES, "none")
     count.exactly("no such file", ["write", path], 3, b"", os.fsencode(path) + b": no such file\n")
-    count.exactly("too long", ["write"], 1, b"", b"too long\n", b"#" * (checks.LONGEST + 1))
+    count.exactly("too long", ["write"], 1, b"", b"the input is too long: it has more than 16777216 bytes\n", b"#" * (checks.LONGEST + 1))
 
 
 if __name__ == "__main__":

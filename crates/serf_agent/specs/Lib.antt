@@ -19,7 +19,6 @@ pub mod Restart
 pub mod Lives
 pub mod Reasons
 pub mod Inside
-pub mod Judgements
 pub mod MemberClock
 pub mod Merging
 pub mod Defaults

@@ -1,12 +1,10 @@
 //! What an agent would make of what comes, said before it is acted on. Nothing changes, and no memory is taken.
 
 ghost use Rattle.std.specs.Prelude.{◌≡◌};
-ghost use Rattle.serf_wire.specs.Message.{response_said};
 ghost use Rattle.serf_window.specs.Texts.{event_of};
 ghost use Rattle.serf_agent.specs.Events.{admission};
 ghost use Rattle.serf_agent.specs.Ideal.{IdealAgent};
-ghost use Rattle.serf_agent.specs.Judgements.{answer_reason};
-ghost use Rattle.serf_agent.specs.Queries.{asked_at, query_admission};
+ghost use Rattle.serf_agent.specs.Queries.{query_admission};
 ghost use Rattle.serf_agent.specs.Sound.{IsSound};
 ghost use Rattle.serf_agent.specs.View.{view_of};
 
@@ -14,7 +12,6 @@ use crate::agent::Agent;
 use crate::outcome::Reason;
 use serf_lamport::Time;
 use serf_snap::Sink;
-use serf_wire::QueryResponse;
 
 impl<S: Sink> Agent<S> {
     /// Why a user event that comes now would be ignored; `None` where it is new. A stopped agent takes nothing, and is
@@ -33,16 +30,5 @@ impl<S: Sink> Agent<S> {
             → result ≡ query_admission i time id }
     {
         self.query_admission(time, id)
-    }
-
-    /// Why an ack or a response that comes at this moment would be ignored; `None` where it would be counted, or refused for the number of names that are counted already.
-    pub fn judge_answer(&self, now: u64, answer: &QueryResponse) -> Option<Reason>
-        ensures { result ≡ answer_reason now (response_said answer.now)
-            (asked_at answer.now.time self.now.concrete.asked) }
-    {
-        match self.asked.get(answer.time) {
-            Some(query) => query.ignore_reason(now, answer),
-            None => Some(Reason::NotOpen),
-        }
     }
 }

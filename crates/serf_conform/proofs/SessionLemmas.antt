@@ -77,7 +77,7 @@ module _ (old now new held mid holds : Option (List ℕ)) (whole : List ℕ → 
     (xs : List Action) (ys : List Line) (x : Action) (y : Line) (due : Option Look) (asked : Asked) (some : 1 ≤ length xs) (isx : x ≡ get_or xs 0 x) (somey : 1 ≤ length ys) (isy : y ≡ get_or ys 0 y)
     (along : IsAlong old now held mid whole (λ w rest. session_from serf a config made action n w (turns_from count sent xs ys) rest))
     (isd : due ≡ due_of a config (made_after a (turn_at count sent x y) made) (turn_at count sent x y))
-    (taken : IfSome now (λ input. IsTaken (taken_of serf config.keep_events a due (turn_at count sent x y) input) asked new mid holds)) where
+    (taken : IfSome now (λ input. IsTaken (taken_of serf config a due (turn_at count sent x y) input) asked new mid holds)) where
   -- the session that is left, behind the turn
   abbrev left_from : ℕ → List Action → List Line → Tally → List ℕ → List ℕ → Session
   left_from own xs' ys' m w rest = session_from serf a config (made_after a (turn_at count sent x y) made) (action + 1) m w (turns_from (count + own) sent xs' ys') rest
@@ -88,7 +88,7 @@ module _ (old now new held mid holds : Option (List ℕ)) (whole : List ℕ → 
       subst (λ (q : List Line). F (x ∷ drop 1 xs) q) (begins_with ys y somey isy) (subst (λ (p : List Action). F p ys) (begins_with xs x some isx) along)
 
   came : IfSome now (λ input. IsTaken (taken_at serf a config made (turn_at count sent x y) input) asked new mid holds)
-  came = subst (λ (d : Option Look). IfSome now (λ input. IsTaken (taken_of serf config.keep_events a d (turn_at count sent x y) input) asked new mid holds)) isd taken
+  came = subst (λ (d : Option Look). IfSome now (λ input. IsTaken (taken_of serf config a d (turn_at count sent x y) input) asked new mid holds)) isd taken
 
   pub next_ends : (v : Verdict) → ending_of asked action n ≡ Some v → IfSome old (λ input. Concludes (whole input) v new held holds)
   next_ends v is =

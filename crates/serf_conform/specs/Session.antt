@@ -111,15 +111,15 @@ abbrev pub then_looked : Bool → Option Look → Taken → Taken
 then_looked serf None s = s
 then_looked serf (Some look) s = look_if (agrees s.asked) serf look s
 
-abbrev pub taken_by : Bool → Bool → Option Look → Option (List ℕ) → Turn → List ℕ → Taken
-taken_by serf keeps due None t input = record { asked = asks.Skipped; written = []; rest = input }
-taken_by serf keeps due (Some given) t input =
-    if serf && not (is_common keeps t) then record { asked = asks.OwnRule; written = []; rest = input }
+abbrev pub taken_by : Bool → Config → Option Look → Option (List ℕ) → Turn → List ℕ → Taken
+taken_by serf config due None t input = record { asked = asks.Skipped; written = []; rest = input }
+taken_by serf config due (Some given) t input =
+    if serf && not (is_common (Some config) t) then record { asked = asks.OwnRule; written = []; rest = input }
     else then_looked serf due (with_line (call_line t.action given) (asked_of given (wanted_of t.line given t.packets) input))
 
--- a turn of agent a, which keeps its events or doesn't
-abbrev pub taken_of : Bool → Bool → ℕ → Option Look → Turn → List ℕ → Taken
-taken_of serf keeps a due t input = taken_by serf keeps due (given_for a t) t input
+-- a turn of agent a, which has these settings
+abbrev pub taken_of : Bool → Config → ℕ → Option Look → Turn → List ℕ → Taken
+taken_of serf config a due t input = taken_by serf config due (given_for a t) t input
 
 -- the opening, and the look after it
 abbrev pub opened_of : Bool → Config → List ℕ → Taken
@@ -224,7 +224,7 @@ last_of asked action n look = verdict_at action n None ends.AllAgree
 
 -- what came of a turn, behind which the look is due of the model's agent, that got these calls before it
 abbrev pub taken_at : Bool → ℕ → Config → List AgentCall → Turn → List ℕ → Taken
-taken_at serf a config made t input = taken_of serf config.keep_events a (due_of a config (made_after a t made) t) t input
+taken_at serf a config made t input = taken_of serf config a (due_of a config (made_after a t made) t) t input
 
 -- The turns that are left, from the one of this action on, where the model's agent got these calls.
 abbrev pub session_from : Bool → ℕ → Config → List AgentCall → ℕ → Tally → List ℕ → List Turn → List ℕ → Session

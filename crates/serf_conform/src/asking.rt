@@ -20,7 +20,8 @@ use crate::look::{Look, judge_look, look_line};
 use crate::replies::wanted;
 use crate::reply::Reply;
 use crate::verdict::{ConformFault, Rules};
-use serf_model::{Act, Action, Line, is_common_turn};
+use serf_agent::Config;
+use serf_model::{Act, Action, Line, is_common_turn_of};
 use serf_text::write_output;
 use serf_wire::Bytes;
 use std::alloc::Global;
@@ -266,15 +267,15 @@ fn make_call<R: Read, W: Write>(
 }
 
 /// Takes the turn of `action` and `line`: makes its call and compares the reply, where it is one of agent number `agent`
-/// that rests on `rules`, and then looks where a look is `due`. `keeps` says whether the agent keeps its events over a
-/// restart. Of `sent`, all packets of the run, `count` were sent before the turn. `OtherTrace` where there are fewer, or
-/// too few after them for those that the turn sent.
+/// that rests on `rules`, and then looks if a look is `due`. `config` are the agent's settings. Of `sent`, all packets of the
+/// run, `count` were sent before the turn. `OtherTrace` if there are fewer, or too few after them for those that the turn
+/// sent.
 pub(crate) fn take_turn<R: Read, W: Write>(
     alloc: Global,
     reader: &mut R,
     writer: &mut W,
     rules: Rules,
-    keeps: bool,
+    config: &Config,
     agent: u64,
     due: Option<Look>,
     action: &Action,
@@ -283,7 +284,7 @@ pub(crate) fn take_turn<R: Read, W: Write>(
     count: usize,
 ) -> Result<Asked, ConformFault>
     ensures taken { IfOk result (λ asked. IfSome (R.remaining reader.old) (λ input. IsTaken
-        (taken_of (is_serf rules) keeps agent due (turn_at count sent.now action.now line.now)
+        (taken_of (is_serf rules) config.now agent due (turn_at count sent.now action.now line.now)
         input) asked (R.remaining reader.new) (W.contents writer.old) (W.contents writer.new))) }
     ensures fits { OnOk result (count + length line.now.sent ≤ length sent.now) }
 {
@@ -299,7 +300,7 @@ pub(crate) fn take_turn<R: Read, W: Write>(
     let Some(given) = given_packet(action, before) else {
         return Ok(Asked::Skipped);
     };
-    if rules.is_serf() && !is_common_turn(keeps, action, line) {
+    if rules.is_serf() && !is_common_turn_of(config, action, line) {
         return Ok(Asked::OwnRule);
     }
     let packets = &sent[count..count + own];

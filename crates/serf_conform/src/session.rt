@@ -159,7 +159,6 @@ fn hold_on<R: Read, W: Write>(
         (is_serf rules) agent config.now [] 1 tally w (turns_from 0 sent.now actions.now lines.now)
         input) verdict (R.remaining reader.new) held (W.contents writer.new))) }
 {
-    let keeps = config.keep_events;
     let mut actions = actions;
     let mut lines = lines;
     // `number` is the next action's, and `count` is how many packets were sent before it.
@@ -174,7 +173,7 @@ fn hold_on<R: Read, W: Write>(
                 [line, lines_left @ ..] => {
                     let due = follow_turn(alloc, lone, agent, action, line, sent, count)?;
                     let asked = take_turn(
-                        alloc, reader, writer, rules, keeps, agent, due, action, line, sent, count,
+                        alloc, reader, writer, rules, config, agent, due, action, line, sent, count,
                     )?;
                     let more = asked.counted(tally);
                     if let Some(verdict) = ending(asked, number, tally) {

@@ -1,5 +1,6 @@
 pub mod AgainLaws
 pub mod FiredLaws
+pub mod HandedAgainLaws
 pub mod KeyLaws
 pub mod LaterLaws
 pub mod LogLaws

@@ -7,7 +7,8 @@ pub use Rattle.std.proofs.lemmas.Bool.{and_from, and_parts, cases_lt, le-leb, le
 pub use Rattle.std.proofs.lemmas.Bool.Decides.{Decides-eqb, nat_tests, same_from_decides}
 pub use Rattle.std.proofs.lemmas.Fn.{always_returns_same}
 pub use Rattle.std.proofs.lemmas.Grind.{common_steps}
-pub use Rattle.std.proofs.lemmas.List.{append-nil, get_or-map, length-map, length_push, map-append, map_more, map_push, take-map, take_more}
+pub use Rattle.std.proofs.lemmas.Iterator.Adapters.{position_from-zero}
+pub use Rattle.std.proofs.lemmas.List.{append-nil, get_or-map, length-map, length_push, nil_from_length, map-append, map_more, map_push, take-map, take_more}
 pub use Rattle.std.proofs.lemmas.List.Elements.{filter-append}
 pub use Rattle.std.proofs.lemmas.List.Folds.{Any-from_list_any, list_any-append, list_any_at}
 pub use Rattle.std.proofs.lemmas.List.Kept.{AllPairs-filter}
@@ -22,21 +23,27 @@ pub use Rattle.std.specs.Cmp.{IsEquivalence}
 pub use Rattle.std.specs.Cmp.Lexicographic.{nat_list_eq_equiv}
 pub use Rattle.std.specs.HashMap.{get}
 pub use Rattle.std.specs.HashSet.{contains}
-pub use Rattle.std.specs.List.{IsAllAdjacentAnswer, list_any, position_or_len}
+pub use Rattle.std.specs.List.{IsAllAdjacentAnswer, list_any, position_from, position_or_len}
 pub use Rattle.std.specs.Option.{option_eq, option_map}
 pub use Rattle.std.specs.Prelude.{AllPairs, IfOk, MatchOption, filter, if◌then◌else◌, position, slice_get}
 pub use Rattle.std.specs.Str.{bytes_eq}
 pub use Rattle.std.specs.Vec.Iter.{into_iter_items}
 pub use mathlib.Core.Bool.{beq}
+pub use Rattle.serf_snap.specs.Clocks.{prefix_of}
+pub use Rattle.serf_snap.specs.declared.kind.ClockKind.TheVariants.{Event, Member, Query}
+pub use Rattle.serf_agent.specs.Ideal.{IdealAgent}
+pub use Rattle.serf_agent.specs.Sound.{IsSound}
+pub use Rattle.serf_agent.specs.View.{view_of}
 pub use Rattle.serf_text.specs.Lines.{lines_of}
 pub use Rattle.serf_text.specs.Words.{words_of}
 pub use Rattle.serf_judge.specs.Again.{firsts_of, picked_behind}
 pub use Rattle.serf_judge.specs.Dated.{behind_date, date_text}
 pub use Rattle.serf_judge.specs.Fired.{EventContent, content_key_eq, content_of, is_same_content, key_content, log_at, was_fired}
+pub use Rattle.serf_judge.specs.HandedAgain.{is_again, opened_on, serf_minimum}
 pub use Rattle.serf_judge.specs.Identity.{Identity, event_identity, event_seen, handed_seen, is_same, key_eq, key_identity, query_identity}
 pub use Rattle.serf_judge.specs.Identity.{query_seen}
 pub use Rattle.serf_judge.specs.Joined.{moved_on}
-pub use Rattle.serf_judge.specs.Kept.{counted_from, counted_lines, is_leave, is_line_wanted}
+pub use Rattle.serf_judge.specs.Kept.{counted_from, counted_lines, is_leave, is_line_from, is_line_of, is_line_wanted}
 pub use Rattle.serf_judge.specs.Later.{IsInOrder, IsLater, IsNotLater}
 pub use Rattle.serf_judge.specs.Log.{nothing}
 pub use Rattle.serf_judge.specs.Missed.{Missing, at_most, at_node, contents_of, has_nodes, missed_of, missing_at, missing_of, missing_view}
@@ -46,6 +53,7 @@ pub use Rattle.serf_judge.specs.Noted.{AreGreatest, AreKept, AreNoted, AreTallie
 pub use Rattle.serf_judge.specs.Noted.{one_counts, says}
 pub use Rattle.serf_judge.specs.Pairs.{HasNoPair, IsFirstPair, IsPair}
 pub use Rattle.serf_judge.specs.Said.{LogView, is_comment, log_view, with_date, with_line, with_said, words_said}
+pub use Rattle.serf_judge.specs.SerfClocks.{clock_after, clock_after_all, serf_clock}
 pub use Rattle.serf_judge.specs.Stands.{StandsFor}
 pub use Rattle.serf_judge.specs.Tallies.{greatest, least, lines_to, nodes_of, repeats_among, tallies_of, tally_of, told_of}
 pub use Rattle.serf_judge.specs.Twice.{AreFirstTwo, HasNoTwo, IsTwice}
@@ -53,4 +61,5 @@ pub use Rattle.serf_judge.specs.declared.entry.EventEntry.{EventEntry}
 pub use Rattle.serf_judge.specs.declared.fired.ContentKey.{ContentKey}
 pub use Rattle.serf_judge.specs.declared.key.Handed.{Handed}
 pub use Rattle.serf_judge.specs.declared.key.Key.{Key}
+pub use Rattle.serf_judge.specs.declared.reader.Reader.{Reader}
 pub use Rattle.serf_judge.specs.declared.tally.Tally.{Tally}

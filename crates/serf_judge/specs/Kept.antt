@@ -1,17 +1,17 @@
 -- What is said of a snapshot beside a log: whether the log has its node, whether it is a snapshot, and where it begins anew.
-use Rattle.std.specs.Prelude.{ℕ, ◌==◌, ◌||◌, ◌&&◌, ◌-◌, nat_eq, nat_lt, Bool, if◌then◌else◌, List, [], ◌∷◌, length, slice_index, take, codes}
+use Rattle.std.specs.Prelude.{ℕ, ◌==◌, ◌||◌, ◌&&◌, ◌-◌, nat_eq, nat_le, nat_lt, Bool, if◌then◌else◌, List, [], ◌∷◌, length, slice_index, take, codes}
 use Rattle.std.specs.List.{list_any, starts_with}
 use Rattle.std.specs.Str.{bytes_eq}
 use Rattle.serf_text.specs.Lines.{lines_of}
 use Rattle.serf_judge.specs.declared.log.Log.{Log}
 use Rattle.serf_judge.specs.Identity.{Identity, event_seen, query_seen}
 
--- whether an entry is of a node, and whether it is at a time above a clock too
+-- whether an entry is of a node, and whether its time is not below a minimum, too
 abbrev pub is_line_of : {E : Type 0} → (E → ℕ × Identity) → List ℕ → E → Bool
 is_line_of seen node e = bytes_eq (seen e).1.node node
 
-abbrev pub is_line_above : {E : Type 0} → (E → ℕ × Identity) → List ℕ → ℕ → E → Bool
-is_line_above seen node clock e = bytes_eq (seen e).1.node node && nat_lt clock (seen e).1.time
+abbrev pub is_line_from : {E : Type 0} → (E → ℕ × Identity) → List ℕ → ℕ → E → Bool
+is_line_from seen node minimum e = bytes_eq (seen e).1.node node && nat_le minimum (seen e).1.time
 
 -- whether a log says anything of a node
 abbrev pub has_line_of : List ℕ → Log → Bool
@@ -37,17 +37,22 @@ is_leave line = bytes_eq line (codes "leave")
 abbrev pub is_own : List ℕ → Bool
 is_own line = starts_with nat_eq line (codes "#event ") || (starts_with nat_eq line (codes "#query ") || starts_with nat_eq line (codes "#least "))
 
--- what a crash may leave of the word that a line begins with: of a clock's, and of any
+-- What a crash may leave of the word that a line begins with: of a line that an agent of this project alone writes, of a clock's,
+-- and of any. No bytes are such, too.
+abbrev pub is_torn_own : List ℕ → Bool
+is_torn_own bytes = starts_with nat_eq (codes "#event ") bytes || (starts_with nat_eq (codes "#query ") bytes || starts_with nat_eq (codes "#least ") bytes)
+
 abbrev pub is_torn_clock_word : List ℕ → Bool
 is_torn_clock_word bytes = starts_with nat_eq (codes "clock: ") bytes || (starts_with nat_eq (codes "event-clock: ") bytes || starts_with nat_eq (codes "query-clock: ") bytes)
 
 abbrev pub is_torn : List ℕ → Bool
 is_torn bytes =
     is_torn_clock_word bytes
+    || (is_torn_own bytes
     || (starts_with nat_eq (codes "alive: ") bytes
     || (starts_with nat_eq (codes "not-alive: ") bytes
     || (starts_with nat_eq (codes "coordinate: ") bytes
-    || starts_with nat_eq (codes "leave") bytes)))
+    || starts_with nat_eq (codes "leave") bytes))))
 
 -- and what an opening makes of it: it has a `#` behind it
 abbrev pub is_sealed : List ℕ → Bool
@@ -56,9 +61,9 @@ is_sealed line = nat_lt 1 (length line) && (slice_index line (length line - 1) =
 abbrev pub is_kept_line : List ℕ → Bool
 is_kept_line line = is_leave line || (begins_as_kept line || (is_own line || is_sealed line))
 
--- a snapshot has nothing yet, or such a line
+-- a snapshot has nothing yet, or a part of its first word, or such a line
 abbrev pub is_snapshot_text : List ℕ → Bool
-is_snapshot_text text = (length text == 0) || list_any is_kept_line (lines_of text)
+is_snapshot_text text = is_torn text || list_any is_kept_line (lines_of text)
 
 -- one that has a line which Serf never writes
 abbrev pub is_own_text : List ℕ → Bool

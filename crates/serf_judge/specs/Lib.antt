@@ -2,6 +2,7 @@ pub mod Again
 pub mod Dated
 pub mod Fired
 pub mod Identity
+pub mod HandedAgain
 pub mod Joined
 pub mod Kept
 pub mod Later
@@ -11,6 +12,7 @@ pub mod Nodes
 pub mod Noted
 pub mod Pairs
 pub mod Said
+pub mod SerfClocks
 pub mod Stands
 pub mod Tallies
 pub mod Twice

@@ -4,35 +4,35 @@
 ghost use Rattle.std.specs.Prelude.{◌≡◌, position};
 ghost use Rattle.std.specs.List.{list_any};
 ghost use Rattle.serf_text.specs.Lines.{lines_of};
-ghost use Rattle.serf_judge.specs.Kept.{begins_as_kept, counted_lines, has_line_of, is_kept_line, is_leave, is_line_above, is_line_of, is_line_wanted, is_own, is_own_text, is_sealed, is_snapshot_text, is_torn, is_torn_clock_word};
+ghost use Rattle.serf_judge.specs.Kept.{begins_as_kept, counted_lines, has_line_of, is_kept_line, is_leave, is_line_from, is_line_of, is_line_wanted, is_own, is_own_text, is_sealed, is_snapshot_text, is_torn, is_torn_clock_word, is_torn_own};
 
 use crate::key::HandedOut;
 use crate::log::Log;
 use serf_text::cut;
 
 /// Whether `entry` names `node`, as the one that fired it or was handed it.
-fn is_of<E: HandedOut>(entry: &E, node: &[u8]) -> bool
+pub(crate) fn is_of<E: HandedOut>(entry: &E, node: &[u8]) -> bool
     ensures { result ≡ is_line_of E.seen node.now entry.now }
 {
     entry.handed().key.node == node
 }
 
-/// Whether `entry` names `node`, and its time is above `clock`.
-fn is_above<E: HandedOut>(entry: &E, node: &[u8], clock: u64) -> bool
-    ensures { result ≡ is_line_above E.seen node.now clock entry.now }
+/// Whether `entry` names `node`, and its time is not below `minimum`.
+fn is_from<E: HandedOut>(entry: &E, node: &[u8], minimum: u64) -> bool
+    ensures { result ≡ is_line_from E.seen node.now minimum entry.now }
 {
     let key = entry.handed().key;
-    key.node == node && clock < key.time
+    key.node == node && minimum <= key.time
 }
 
-/// The place, from 0 on, of the first of `entries` that was handed to `node` at a time above `clock`; `None` where there
-/// is none. A node that is opened again on a snapshot with this clock may be handed it again. Takes no memory.
-pub fn first_above<E: HandedOut>(entries: &[E], node: &[u8], clock: u64) -> Option<usize>
-    ensures { result ≡ position (is_line_above E.seen node.now clock) entries.now }
+/// The place, from 0 on, of the first of `entries` that names `node` and whose time is not below `minimum`; `None` if there
+/// is none. Takes no memory.
+pub(crate) fn first_from<E: HandedOut>(entries: &[E], node: &[u8], minimum: u64) -> Option<usize>
+    ensures { result ≡ position (is_line_from E.seen node.now minimum) entries.now }
 {
     entries
         .iter()
-        .position(|entry| is_above(entry, node, clock))
+        .position(|entry| is_from(entry, node, minimum))
 }
 
 /// Whether one of `entries` names `node`.
@@ -52,7 +52,7 @@ pub fn has_node(log: &Log, node: &[u8]) -> bool
 }
 
 /// Whether `line` is the line of a snapshot which says that its node left.
-fn is_leave_line(line: &[u8]) -> bool
+pub(crate) fn is_leave_line(line: &[u8]) -> bool
     ensures { result ≡ is_leave line.now }
 {
     line == b"leave".as_slice()
@@ -63,6 +63,13 @@ fn is_own_line(line: &[u8]) -> bool
     ensures { result ≡ is_own line.now }
 {
     line.starts_with(b"#event ") || line.starts_with(b"#query ") || line.starts_with(b"#least ")
+}
+
+/// Whether `bytes` are the first bytes of the word of a line that agents of this project alone write.
+fn is_torn_own(bytes: &[u8]) -> bool
+    ensures { result ≡ is_torn_own bytes.now }
+{
+    b"#event ".starts_with(bytes) || b"#query ".starts_with(bytes) || b"#least ".starts_with(bytes)
 }
 
 /// Whether `line` begins as one of those in which Serf keeps clocks, members and coordinates.
@@ -86,11 +93,12 @@ fn is_torn_clock(bytes: &[u8]) -> bool
         || b"query-clock: ".starts_with(bytes)
 }
 
-/// Whether `bytes` are the first bytes of the word of any line of Serf's: what a crash may leave of it.
+/// Whether `bytes` are the first bytes of the word of any line of a snapshot: what a crash may leave of it.
 fn is_torn_word(bytes: &[u8]) -> bool
     ensures { result ≡ is_torn bytes.now }
 {
     is_torn_clock(bytes)
+        || is_torn_own(bytes)
         || b"alive: ".starts_with(bytes)
         || b"not-alive: ".starts_with(bytes)
         || b"coordinate: ".starts_with(bytes)
@@ -114,12 +122,12 @@ fn is_line_of_snapshot(line: &[u8]) -> bool
     is_leave_line(line) || begins_as_kept_line(line) || is_own_line(line) || is_sealed_line(line)
 }
 
-/// Whether `text` is that of a snapshot: it is empty, or has a line that Serf or an agent of this project writes into
-/// snapshots. Takes no memory.
+/// Whether `text` is that of a snapshot: it is empty, has a line that Serf or an agent of this project writes into
+/// snapshots, or is what a crash left of the word of its first line. Takes no memory.
 pub fn is_snapshot(text: &[u8]) -> bool
     ensures { result ≡ is_snapshot_text text.now }
 {
-    text.is_empty() || has_line(text, false)
+    is_torn_word(text) || has_line(text, false)
 }
 
 /// Whether the snapshot `text` has a line of events, queries or minimums, which agents of this project write, and Serf

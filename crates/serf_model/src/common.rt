@@ -1,13 +1,12 @@
 //! Which turns are common: they rest on no rule of this project's own.
 
-ghost use Rattle.std.specs.Prelude.{◌≡◌, ◌&&◌};
-ghost use Rattle.serf_model.specs.Common.{is_common_answer, is_common_reason, is_common_refusal, restarts_commonly};
-ghost use Rattle.serf_model.specs.Tails.{actor_keeps};
+ghost use Rattle.std.specs.Prelude.{◌≡◌, ◌&&◌, None, Some};
+ghost use Rattle.serf_model.specs.Common.{acts_commonly, enters_query, is_common_answer, is_common_line, is_common_reason, is_common_refusal, settings_of};
 ghost use Rattle.serf_model.specs.Trace.{actor_of};
 
 use crate::action::{Act, Action};
 use crate::line::{Answer, Line, Refusal};
-use serf_agent::{Config, Reason};
+use serf_agent::{Config, DEFAULT_PER_TIME, Reason};
 
 /// Whether Serf too ignores a packet for `reason`.
 fn is_common_reason(reason: Reason) -> bool
@@ -43,37 +42,78 @@ fn is_common_answer(answer: Answer) -> bool
     }
 }
 
-/// Whether `action` is no restart, or a common one: its agent doesn't keep its events (`keeps`), and its tail is empty.
-fn restarts_commonly(keeps: bool, action: &Action) -> bool
-    ensures { result ≡ restarts_commonly keeps action.now }
+/// Whether a query entered, delivered or fired.
+fn enters_query(answer: Answer) -> bool
+    ensures { result ≡ enters_query answer }
+{
+    matches!(answer, Answer::Query | Answer::Queried(_))
+}
+
+/// Whether `line` rests on no rule of this project's own: its answer is common, and no query was held back by its filters.
+fn is_common_line(line: &Line) -> bool
+    ensures { result ≡ is_common_line line.now }
+{
+    let is_held_back = enters_query(line.answer) && line.handed.is_none();
+    is_common_answer(line.answer) && !is_held_back
+}
+
+/// Whether an agent with the settings `config` does `action` by no rule of this project's own. It may restart if it does not
+/// keep its events and the tail is empty, and merge if it takes as many events of one time as by default.
+fn acts_commonly(config: &Config, action: &Action) -> bool
+    ensures { result ≡ acts_commonly (Some config.now) action.now }
 {
     match action {
         Action::Of {
             act: Act::Restart { tail },
             ..
-        } => !keeps && tail.as_slice().is_empty(),
+        } => !config.keep_events && tail.as_slice().is_empty(),
+        Action::Of {
+            act: Act::Merge { .. },
+            ..
+        } => config.per_time >= DEFAULT_PER_TIME,
         _ => true,
     }
 }
 
-/// Whether the turn of `action` and `line` rests on no rule of this project's own, where the turns before it don't
-/// either. `keeps` says whether the agent that acts keeps its events over a restart. Takes no memory.
-pub fn is_common_turn(keeps: bool, action: &Action, line: &Line) -> bool
-    ensures { result ≡ (is_common_answer line.now.answer && restarts_commonly keeps action.now) }
+/// Whether `action`, which no agent of the cluster does, rests on no rule of this project's own: a restart has an empty tail.
+fn is_common_without_agent(action: &Action) -> bool
+    ensures { result ≡ acts_commonly None action.now }
 {
-    is_common_answer(line.answer) && restarts_commonly(keeps, action)
+    match action {
+        Action::Of {
+            act: Act::Restart { tail },
+            ..
+        } => tail.as_slice().is_empty(),
+        _ => true,
+    }
 }
 
-/// Whether the agent that does `action` keeps its events over a restart, by the agents' settings `configs`; false where
-/// bytes are injected. Takes no memory.
-pub fn actor_keeps(configs: &[Config], action: &Action) -> bool
-    ensures { result ≡ actor_keeps configs.now (actor_of action.now) }
+/// Whether the turn of `action` and `line`, of an agent with the settings `config`, rests on no rule of this project's own, if
+/// the turns before it don't either. Takes no memory.
+pub fn is_common_turn_of(config: &Config, action: &Action, line: &Line) -> bool
+    ensures { result ≡ (is_common_line line.now && acts_commonly (Some config.now) action.now) }
+{
+    is_common_line(line) && acts_commonly(config, action)
+}
+
+/// Whether the turn of `action` and `line` rests on no rule of this project's own, if the turns before it don't either.
+/// `configs` are the agents' settings. Takes no memory.
+pub fn is_common_turn(configs: &[Config], action: &Action, line: &Line) -> bool
+    ensures { result ≡ (is_common_line line.now
+        && acts_commonly (settings_of configs.now (actor_of action.now)) action.now) }
+{
+    is_common_line(line) && is_done_commonly(configs, action)
+}
+
+/// Whether `action` is done by no rule of this project's own, if `configs` are the agents' settings.
+fn is_done_commonly(configs: &[Config], action: &Action) -> bool
+    ensures { result ≡ acts_commonly (settings_of configs.now (actor_of action.now)) action.now }
 {
     match action.actor() {
         Some(agent) => match configs.get(agent as usize) {
-            Some(config) => config.keep_events,
-            None => false,
+            Some(config) => acts_commonly(config, action),
+            None => is_common_without_agent(action),
         },
-        None => false,
+        None => is_common_without_agent(action),
     }
 }

@@ -18,7 +18,7 @@ mod trace;
 
 pub use action::{Act, Action, SinkCall, packet_at};
 pub use boxed::Boxed;
-pub use common::{actor_keeps, is_common_turn};
+pub use common::{is_common_turn, is_common_turn_of};
 pub use fault::{NewFault, RunFault};
 pub use laws::{
     agents_alone, handed_queries, merged_agents, representable_agents, run_promises,

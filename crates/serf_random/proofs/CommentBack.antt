@@ -81,7 +81,7 @@ rules-part true = record {
 }
 rules-part false = record { plain = tt; few = omega arith }
 
-version-part : AreWords 10 (codes "version" ∷ codes "4" ∷ [])
+version-part : AreWords 10 (codes "version" ∷ codes "5" ∷ [])
 version-part = record {
   plain = (record { some = omega arith; plain = refl }, (record { some = omega arith; plain = refl }, tt));
   few = omega arith;

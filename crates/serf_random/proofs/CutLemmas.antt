@@ -1,5 +1,5 @@
 -- What is kept, as it grows action by action.
-use Rattle.serf_random.proofs.Names.{All, Bool, List, [], ap, false, refl, subst, sym, true, ℕ, ◌&&◌, ◌++◌, ◌∙◌, ◌∷◌, ◌≡◌, flat_map_more, All-push, fold-append, flat_map, None, Option, Some, slice_get, Config, Cluster, IdealNode, Run, after, on_agent, run_of, start, step, is_common_answer, restarts_commonly, AreRepresentable, actor_keeps, actor_of, Action, Inject, Of, Line, IsViewed, TakesStep, WorldState, IsSayable, action_text, IsCommon, AddsLine, AddsNothing, AreKept, GoesOn, IsAlong, MayAdd}
+use Rattle.serf_random.proofs.Names.{All, Bool, List, [], ap, false, refl, subst, sym, true, ℕ, ◌&&◌, ◌++◌, ◌∙◌, ◌∷◌, ◌≡◌, flat_map_more, All-push, fold-append, flat_map, None, Option, Some, slice_get, Config, Cluster, IdealNode, Run, after, on_agent, run_of, start, step, acts_commonly, is_common_line, settings_of, AreRepresentable, actor_of, Action, Inject, Of, Line, IsViewed, TakesStep, WorldState, IsSayable, action_text, IsCommon, AddsLine, AddsNothing, AreKept, GoesOn, IsAlong, MayAdd}
 
 -- a turn is of the action that was done
 turn-action : (c : Cluster) (action : Action) → (step c action).turn.action ≡ action
@@ -12,7 +12,7 @@ turn-action c (Of a act) = by (slice_get c.nodes a)
 
 -- the turn of an action and its line is common
 abbrev pub IsCommonTurn : List Config → Action → Line → Type 0
-IsCommonTurn configs action line = (is_common_answer line.answer && restarts_commonly (actor_keeps configs (actor_of action)) action) ≡ true
+IsCommonTurn configs action line = (is_common_line line && acts_commonly (settings_of configs (actor_of action)) action) ≡ true
 
 -- and so is that of a step
 common-step : (configs : List Config) (c : Cluster) (action : Action) (line : Line) → line ≡ (step c action).turn.line

@@ -12,9 +12,8 @@ pub use Rattle.std.specs.Prelude.{None, Option, Some, codes, decimal, slice_get}
 pub use Rattle.std.specs.Vec.Iter.{into_iter_items}
 pub use Rattle.serf_agent.specs.declared.config.Config.{Config}
 pub use Rattle.serf_model.specs.Cluster.{Cluster, IdealNode, Run, after, on_agent, run_of, start, step}
-pub use Rattle.serf_model.specs.Common.{is_common_answer, restarts_commonly}
+pub use Rattle.serf_model.specs.Common.{acts_commonly, is_common_line, settings_of}
 pub use Rattle.serf_model.specs.Ready.{AreRepresentable}
-pub use Rattle.serf_model.specs.Tails.{actor_keeps}
 pub use Rattle.serf_model.specs.Trace.{actor_of}
 pub use Rattle.serf_model.specs.declared.action.Action.{Action}
 pub use Rattle.serf_model.specs.declared.action.Action.TheVariants.{Inject, Of}

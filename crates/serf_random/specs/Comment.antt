@@ -31,7 +31,7 @@ rules_words false = []
 
 -- and whose rules are kept, in front of the generator's version
 abbrev pub comment_words : Bool → Ask → List (List ℕ)
-comment_words is_common ask = asked_words ask ++ rules_words is_common ++ codes "version" ∷ codes "4" ∷ []
+comment_words is_common ask = asked_words ask ++ rules_words is_common ++ codes "version" ∷ codes "5" ∷ []
 
 -- the comment before a schedule, which keeps to Serf's own rules (`is_common`) or doesn't
 unfoldable pub comment_text : Bool → Ask → List ℕ

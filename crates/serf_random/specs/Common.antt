@@ -3,13 +3,12 @@ use Rattle.std.specs.Prelude.{◌≡◌, true, List, All}
 use Rattle.serf_agent.specs.declared.config.Config.{Config}
 use Rattle.serf_model.specs.Cluster.{run_of}
 use Rattle.serf_model.specs.Trace.{Turn, actor_of}
-use Rattle.serf_model.specs.Common.{is_common}
-use Rattle.serf_model.specs.Tails.{actor_keeps}
+use Rattle.serf_model.specs.Common.{is_common, settings_of}
 use Rattle.serf_schedule.specs.Line.{Parsed}
 
 -- the turn rests on no rule of this project's own, by the settings of the agent that acts
 abbrev pub IsCommon : List Config → Turn → Type 0
-IsCommon configs t = is_common (actor_keeps configs (actor_of t.action)) t ≡ true
+IsCommon configs t = is_common (settings_of configs (actor_of t.action)) t ≡ true
 
 -- so does each turn of a schedule's run
 abbrev pub AreCommon : Parsed → Type 0

@@ -121,5 +121,5 @@ pub(crate) fn put_comment(out: &mut Vec<u8>, ask: &Ask, is_common: bool) -> Resu
     out.extend_from_slice(b"#")?;
     put_asked(out, ask)?;
     put_rules(out, is_common)?;
-    out.extend_from_slice(b" version 4\n")
+    out.extend_from_slice(b" version 5\n")
 }

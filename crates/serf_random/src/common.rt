@@ -11,8 +11,8 @@ ghost use Rattle.serf_random.specs.Draft.{AddsAgents};
 use crate::ask::{Ask, know_numbers, put_comment};
 use crate::draft::add_agent;
 use crate::make::{Made, random_schedule};
-use serf_agent::Config;
-use serf_model::{Action, actor_keeps, is_common_turn};
+use serf_agent::{Config, DEFAULT_PER_TIME};
+use serf_model::{Action, is_common_turn};
 use serf_schedule::{
     Schedule, Watch, comments_skipped, is_sayable, know_read_back, put_action_line,
 };
@@ -35,8 +35,7 @@ fn keep_common(
     ensures few { OnOk result (length kept.new.items ≤ length kept.old.items + 1) }
 {
     let line = world.step(alloc, &action)?;
-    let keeps = actor_keeps(configs, &action);
-    if is_common_turn(keeps, &action, &line) {
+    if is_common_turn(configs, &action, &line) {
         kept.push(action)?;
     }
     Ok(())
@@ -108,7 +107,7 @@ fn add_turn(
         return Ok(false);
     }
     let line = world.step(alloc, &action)?;
-    if !is_common_turn(actor_keeps(configs, &action), &action, &line) {
+    if !is_common_turn(configs, &action, &line) {
         return Ok(false);
     }
     add_line(text, kept, action)
@@ -143,14 +142,16 @@ fn add_common(
     Ok(kept)
 }
 
-/// The `agents`, none of which now keeps its events over a restart, a rule of this project's own. `text` gets their lines.
-fn add_without_kept(alloc: Global, text: &mut Vec<u8>, agents: Roster) -> Result<Roster, AllocError>
+/// The `agents` with settings that Serf has too: none keeps its events over a restart, and each takes at least as many events of
+/// one time as by default. Their lines are appended to `text`.
+fn add_serfs_agents(alloc: Global, text: &mut Vec<u8>, agents: Roster) -> Result<Roster, AllocError>
     ensures { IfOk result (λ roster. AddsAgents text.old.items text.new.items [] roster) }
 {
     let mut roster = Roster::new(alloc);
     for config in agents.into_vec() {
         let config = Config {
             keep_events: false,
+            per_time: config.per_time.max(DEFAULT_PER_TIME),
             ..config
         };
         add_agent(alloc, text, &mut roster, config)?;
@@ -160,7 +161,7 @@ fn add_without_kept(alloc: Global, text: &mut Vec<u8>, agents: Roster) -> Result
 
 /// A random schedule as `ask` asks for it, of which what rests on a rule of this project's own is left out, and its text.
 ///
-/// No agent keeps its events over a restart. Of the actions of [`random_schedule`] those are left out, in rounds,
+/// No agent keeps its events over a restart, and each takes at least as many events of one time as by default. Of the actions of [`random_schedule`] those are left out, in rounds,
 /// whose turns aren't common ([`serf_model::is_common_turn`]), and at last all from the first such on. The text begins
 /// with a comment that says what was asked for and whose rules are kept, and stands for just this schedule, so that it
 /// is never refused. It has at most as many actions as were asked for, and at most 16,777,216 bytes. `AllocError` comes
@@ -184,7 +185,7 @@ pub fn common_schedule<T: Watch>(
     let Schedule { agents, actions } = schedule;
     let mut text = Vec::new(alloc);
     put_comment(&mut text, ask, true)?;
-    let agents = add_without_kept(alloc, &mut text, agents)?;
+    let agents = add_serfs_agents(alloc, &mut text, agents)?;
     let left = in_rounds(alloc, &agents, actions)?;
     let kept = add_common(alloc, &agents, left, &mut text)?;
     let schedule = Schedule {

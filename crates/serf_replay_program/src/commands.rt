@@ -12,14 +12,14 @@ mod write;
 
 use crate::fault::{CommandResult, Fault, Status};
 use crate::io::Io;
-use crate::options::{CommandRow, with_commands};
+use crate::options::{CommandKind, CommandRow, with_commands};
 use clap::error::ErrorKind;
 use clap::{ArgMatches, Command, Error};
 use std::alloc::{AllocError, Global};
 
 /// What stands after the commands in the program's help.
 const HELP: &str =
-    "Example: serf-replay replay examples/deploy_gossiped_twice.schedule\nActions count from 1, agents from 0. man serf-replay and docs/COMMANDS.md say more.";
+    "Example: serf-replay replay examples/deploy_gossiped_twice.schedule\nActions count from 1, agents from 0. For more, see man serf-replay and docs/COMMANDS.md.";
 
 /// All commands, in the order of help.
 const COMMANDS: [CommandRow; 10] = [
@@ -38,9 +38,11 @@ const COMMANDS: [CommandRow; 10] = [
 /// The whole program.
 fn program<'a>(alloc: Global) -> Result<Command<'a>, AllocError> {
     let program = Command::new(alloc, "serf-replay")
-        .about("Runs schedules of Serf user events and queries, exactly")
+        .about(
+            "Runs and explains schedules of Serf user events and queries, and checks agents and logs",
+        )
         .after_help(HELP)
-        .version("0.1.0")
+        .version("0.2.0")
         .subcommand_required(true)
         .bin_name("serf-replay")?;
     with_commands(alloc, program, &COMMANDS)
@@ -63,30 +65,40 @@ fn refuse_command_line<'a>(io: Io, error: &Error) -> CommandResult<'a> {
     }
 }
 
-/// Runs the command `name`. Clap refuses a command line that names no command.
-fn run_command<'a>(io: Io, name: &str, matches: &ArgMatches<'a>) -> CommandResult<'a> {
-    match name {
-        "replay" => replay::run(io, matches),
-        "decode" => packets::decode(io, matches),
-        "encode" => packets::encode(io, matches),
-        "clocks" => clocks::run(io, matches),
-        "random" => random::run(io, matches),
-        "judge" => judge::run(io, matches),
-        "explain" => explain::run(io, matches),
-        "draw" => draw::run(io, matches),
-        "write" => write::run(io, matches),
-        "conform" => conform::run(io, matches),
-        _ => Ok(Status::CommandLine),
+/// The command of this name. Clap refuses a command line that names none.
+fn kind_of(name: &str) -> Option<CommandKind> {
+    let mut rows = COMMANDS.iter();
+    rows.find(|row| row.name == name).map(|row| row.kind)
+}
+
+/// Runs a command.
+fn run_command<'a>(io: Io, kind: CommandKind, matches: &ArgMatches<'a>) -> CommandResult<'a> {
+    match kind {
+        CommandKind::Replay => replay::run(io, matches),
+        CommandKind::Decode => packets::decode(io, matches),
+        CommandKind::Encode => packets::encode(io, matches),
+        CommandKind::Clocks => clocks::run(io, matches),
+        CommandKind::Random => random::run(io, matches),
+        CommandKind::Judge => judge::run(io, matches),
+        CommandKind::Explain => explain::run(io, matches),
+        CommandKind::Draw => draw::run(io, matches),
+        CommandKind::Write => write::run(io, matches),
+        CommandKind::Conform => conform::run(io, matches),
     }
 }
 
 /// Does what the words ask for. A long run shows its progress where standard error is a terminal.
 pub(crate) fn run(io: Io, words: &[String]) -> Status {
     let (ended, file) = match found_in(io.alloc(), words) {
-        Ok(found) => match found.subcommand() {
-            Some((name, matches)) => (run_command(io, name, matches), matches.get_str("FILE")),
-            None => return Status::CommandLine,
-        },
+        Ok(found) => {
+            let Some((name, matches)) = found.subcommand() else {
+                return Status::CommandLine;
+            };
+            let Some(kind) = kind_of(name) else {
+                return Status::CommandLine;
+            };
+            (run_command(io, kind, matches), matches.get_str("FILE"))
+        }
         Err(error) => (refuse_command_line(io, &error), None),
     };
     match ended {

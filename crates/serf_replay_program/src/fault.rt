@@ -144,19 +144,19 @@ impl From<DrawFault> for Fault<'_> {
 fn meaning_of(cause: Cause) -> &'static str {
     match cause {
         Cause::UnknownWord => {
-            "a line begins with agent, fire, deliver, state, merge, query, respond, restart, break, inject, close, save or compact; a text with labels goes through serf-replay write first"
+            "a line begins with agent, fire, deliver, state, merge, query, respond, restart, break, inject, close, save or compact; if the text has labels, convert it with serf-replay write first"
         }
-        Cause::LateAgent => "all agents stand before the first action",
+        Cause::LateAgent => "the lines of all agents must be before the first action",
         Cause::WordCount => {
-            "the line has more or fewer words than its command takes; a text with names goes through serf-replay write first"
+            "the line has more or fewer words than its command accepts; if the text has names, convert it with serf-replay write first"
         }
         Cause::BadWord(_) => {
-            "this word, with the command counted as 1, isn't as its command takes it (docs/SPEC.md, Schedules); a text with names goes through serf-replay write first"
+            "the command doesn't accept this word, counted with the command as word 1 (docs/SPEC.md, Schedules); if the text has names, convert it with serf-replay write first"
         }
         Cause::BadConfig => {
-            "a name has 1 to 128 bytes, the limit is at most 9216, and the other numbers of an agent are 1 to 65536"
+            "a name must have 1 to 128 bytes, the limit can be at most 9216, and the other numbers of an agent must be 1 to 65536"
         }
-        Cause::NameTwice => "an agent above has this name",
+        Cause::NameTwice => "an agent on an earlier line has this name",
     }
 }
 
@@ -190,13 +190,15 @@ impl Fault<'_> {
     fn put_line(self, io: Io, file: Option<&str>) {
         let rt = io.rt;
         let _ = match self {
-            Fault::NoMemory => eprintln!(rt; "no memory"),
+            Fault::NoMemory => eprintln!(rt; "out of memory"),
             Fault::ReadFault(path) => {
-                put_device_fault(io, name_of(path.or(file)), ": read fault")
+                put_device_fault(io, name_of(path.or(file)), ": read failed")
             }
-            Fault::TooLong => eprintln!(rt; "too long"),
+            Fault::TooLong => eprintln!(rt;
+                "the input is too long: it has more than 16777216 bytes"
+            ),
             Fault::WriteFault if io.has_no_reader() => Ok(()),
-            Fault::WriteFault => put_device_fault(io, "", "write fault"),
+            Fault::WriteFault => put_device_fault(io, "", "write failed"),
             Fault::BadLine(line, cause) => eprintln!(rt; "bad line {line} {cause}"),
             Fault::BadStreamLine(line, word) => eprintln!(rt; "bad line {line} {word}"),
             Fault::BadWord(line, BadWord { place, wanted }) => {
@@ -210,7 +212,7 @@ impl Fault<'_> {
                 "error: --agent {agent}: the schedule has {count} agents, counted from 0"
             ),
             Fault::NotHeld(what, number, fault) => eprintln!(rt; "{what} {number}: {fault}"),
-            Fault::NotShrunk(fault) => eprintln!(rt; "no shorter schedule: {fault}"),
+            Fault::NotShrunk(fault) => eprintln!(rt; "the schedule can't be shortened: {fault}"),
             Fault::Told(_) => Ok(()),
         };
     }
@@ -221,8 +223,9 @@ impl Fault<'_> {
         self.put_line(io, file);
         let meaning = match self {
             Fault::BadLine(_, cause) => meaning_of(cause),
-            Fault::BadStreamLine(_, "BadHex") => "a packet stands in hex digits, two for each byte",
-            Fault::BadStreamLine(..) => "a line has at most 16777216 bytes",
+            Fault::BadStreamLine(_, "BadHex") =>
+                "a packet must be in hex digits, two for each byte",
+            Fault::BadStreamLine(..) => "a line can have at most 16777216 bytes",
             _ => "",
         };
         if io.is_terminal && !meaning.is_empty() {
@@ -233,7 +236,7 @@ impl Fault<'_> {
             && path.as_bytes().ends_with(b".written")
         {
             let _ = eprintln!(io.rt;
-                "a written schedule? serf-replay write {path} | serf-replay replay"
+                "if this is a written schedule, run: serf-replay write {path} | serf-replay replay"
             );
         }
         self.status()

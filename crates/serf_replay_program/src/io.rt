@@ -25,6 +25,9 @@ pub(crate) struct Io<'a> {
     pub(crate) last_error: &'a Cell<Option<io::Error>>,
 }
 
+/// The byte order mark of UTF-8.
+const MARK: &[u8] = b"\xef\xbb\xbf";
+
 /// Where a command reads from.
 #[derive(Drop)]
 enum Input {
@@ -80,20 +83,37 @@ impl<'a> Source<'a> {
         self
     }
 
-    /// Reads on. A byte order mark in which a schedule begins is passed over.
+    /// Reads on. A byte order mark in which a schedule begins is skipped, in however many reads it arrives.
     fn read_on(&mut self, buf: &mut [u8]) -> io::Result<usize>
         ensures { IfOk result (λ n. n ≤ length buf.old) }
     {
         let read = self.io.noted(self.input.read(buf))?;
-        let begins = self.is_schedule && self.count == 0;
-        if !begins || read < 3 || !buf[..read].starts_with(b"\xef\xbb\xbf") {
+        if !self.is_schedule || self.count > 0 {
             return Ok(read);
         }
-        if read == 3 {
+        let read = self.read_mark(buf, read)?;
+        let read = self.read_mark(buf, read)?;
+        if read < MARK.len() || !buf[..read].starts_with(MARK) {
+            return Ok(read);
+        }
+        if read == MARK.len() {
             return self.io.noted(self.input.read(buf));
         }
-        buf.copy_within(3..read, 0);
-        Ok(read - 3)
+        buf.copy_within(MARK.len()..read, 0);
+        Ok(read - MARK.len())
+    }
+
+    /// Reads more, if the first `read` bytes of `buf` are the beginning of a byte order mark, and not all of it. Returns how many
+    /// bytes of `buf` were read in all.
+    fn read_mark(&mut self, buf: &mut [u8], read: usize) -> io::Result<usize>
+        requires { read ≤ length buf.old }
+        ensures { IfOk result (λ n. n ≤ length buf.old) }
+    {
+        if read == 0 || read >= MARK.len() || !MARK.starts_with(&buf[..read]) {
+            return Ok(read);
+        }
+        let more = self.io.noted(self.input.read(&mut buf[read..]))?;
+        Ok(read + more)
     }
 
     /// All bytes of the source.

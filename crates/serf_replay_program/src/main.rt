@@ -20,7 +20,7 @@ fn words_of(io: Io) -> Result<Vec<String>, Fault<'static>> {
     match std::env::args(io.rt) {
         Ok(args) => Ok(args.collect::<Vec<String>>(io.alloc())?),
         Err(error) if error.kind() == ErrorKind::OutOfMemory => Err(Fault::NoMemory),
-        Err(_) => Err(command_line("an argument is not text")),
+        Err(_) => Err(command_line("an argument is not valid UTF-8")),
     }
 }
 

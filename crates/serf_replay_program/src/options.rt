@@ -38,9 +38,25 @@ pub(crate) enum OptionKind {
     Number(&'static str, u64, u64),
 }
 
+/// The commands. `run_command` matches them all, so none can be left out there.
+#[derive(Clone, Copy)]
+pub(crate) enum CommandKind {
+    Replay,
+    Explain,
+    Draw,
+    Write,
+    Judge,
+    Conform,
+    Random,
+    Decode,
+    Encode,
+    Clocks,
+}
+
 /// A command, with what it takes in the order of its help.
 #[derive(Clone, Copy)]
 pub(crate) struct CommandRow {
+    pub(crate) kind: CommandKind,
     pub(crate) name: &'static str,
     pub(crate) about: &'static str,
     pub(crate) example: &'static str,
@@ -57,13 +73,13 @@ macro_rules! rows {
 pub(crate) use rows;
 
 /// The help of a schedule that is given in its place.
-pub(crate) const SCHEDULE: &str = "The schedule; standard input where it is left out or `-`";
+pub(crate) const SCHEDULE: &str = "The schedule; standard input if it is left out or `-`";
 
 /// The words that name a kind of random schedules, with these last.
 macro_rules! kinds {
     ($last:literal) => {
         concat!(
-            "mixed (where left out), tiny, merges, restarts, devices, injections, queries, limits, exhaustion, per-time, compactions, gossip, spellings, kept",
+            "mixed (the default), tiny, merges, restarts, devices, injections, queries, limits, exhaustion, per-time, compactions, gossip, spellings, kept",
             $last
         )
     };
@@ -125,7 +141,7 @@ pub(crate) fn with_commands<'a>(
 
 /// The fault of an option `name` whose word is none of `words`, which it may have.
 pub(crate) fn bad_word<'a>(name: &'a str, words: &'a str) -> Fault<'a> {
-    Fault::CommandLine("a bad word for --", name, ": here may stand ", words, "")
+    Fault::CommandLine("--", name, " accepts ", words, "")
 }
 
 /// What the word of the option `name` stands for by `choices`: the first where it is left out. `words` names them all.

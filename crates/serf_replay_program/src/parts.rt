@@ -133,7 +133,7 @@ impl Io<'_> {
         out.put(text, parts);
         match out.whole() {
             Ok(text) => self.say(&text),
-            Err(_) => self.say(b"no memory\n"),
+            Err(_) => self.say(b"out of memory\n"),
         }
     }
 }

@@ -15,9 +15,9 @@ pub(crate) struct Counted<'a>(&'a str, u64);
 
 pub(crate) const ACTIONS: Counted<'static> = Counted("actions", 1024);
 
-pub(crate) const BYTES: Counted<'static> = Counted("bytes are read", 1);
+pub(crate) const BYTES: Counted<'static> = Counted("bytes read", 1);
 
-pub(crate) const CALLS: Counted<'static> = Counted("calls are left out", 1);
+pub(crate) const CALLS: Counted<'static> = Counted("calls left out", 1);
 
 pub(crate) const SEEDS: Counted<'static> = Counted("seeds", 1);
 

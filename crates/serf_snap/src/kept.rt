@@ -54,15 +54,6 @@ impl KeptEvent {
     {
         self.payload.as_slice()
     }
-
-    /// The event's name and payload. Takes no memory.
-    pub fn into_texts(self) -> (Vec<u8>, Vec<u8>)
-        ensures name { result.0.items ≡ self.name }
-        ensures payload { result.1.items ≡ self.payload }
-    {
-        let KeptEvent { name, payload, .. } = self;
-        (name, payload)
-    }
 }
 
 /// A query that was kept: its time and its ID.

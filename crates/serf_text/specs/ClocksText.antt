@@ -1,8 +1,8 @@
 -- The text of a snapshot's clocks.
 use Rattle.std.specs.Prelude.{ℕ, ◌++◌, List, codes}
+use Rattle.serf_snap.specs.declared.clocks.Clocks.{Clocks}
 use Rattle.serf_snap.specs.declared.kind.ClockKind.{ClockKind}
 use Rattle.serf_snap.specs.declared.kind.ClockKind.TheVariants.{Member, Event, Query}
-use Rattle.serf_snap.specs.Clocks.{last_clock}
 use Rattle.serf_text.specs.TextParts.{number_line}
 
 -- the words of Serf's snapshot lines, without the colon (snapshot.go)
@@ -14,7 +14,6 @@ clock_word Query = codes "query-clock"
 unfoldable pub clock_entry : ClockKind → ℕ → List ℕ
 clock_entry kind time = number_line (clock_word kind) time
 
--- a line for each clock: its greatest in the snapshot, 0 where there is none
-abbrev pub clock_entries : List ℕ → List ℕ
-clock_entries snapshot =
-    clock_entry Member (last_clock Member snapshot) ++ clock_entry Event (last_clock Event snapshot) ++ clock_entry Query (last_clock Query snapshot)
+-- a line for each clock
+abbrev pub clock_entries : Clocks → List ℕ
+clock_entries clocks = clock_entry Member clocks.member_clock ++ clock_entry Event clocks.event_clock ++ clock_entry Query clocks.query_clock

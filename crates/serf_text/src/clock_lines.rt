@@ -3,7 +3,7 @@ ghost use Rattle.std.specs.Prelude.{◌≡◌, ◌++◌, OnOk, IfOk};
 ghost use Rattle.serf_text.specs.ClocksText.{clock_entries, clock_entry, clock_word};
 
 use crate::put::put_number_line;
-use serf_snap::{ClockKind, read_clocks};
+use serf_snap::{ClockKind, Clocks};
 use std::alloc::{AllocError, Global};
 
 /// The word that begins the line of a clock of the kind `kind`.
@@ -25,14 +25,12 @@ fn put_clock(out: &mut Vec<u8>, kind: ClockKind, time: u64) -> Result<(), AllocE
     put_number_line(out, word(kind), time)
 }
 
-/// The clocks of the snapshot `text`, a line each: `clock N`, `event-clock N`, `query-clock N`, with N the greatest
-/// value of the snapshot's lines of this kind of clock, 0 where there is none.
+/// The text of a snapshot's clocks, a line each: `clock N`, `event-clock N`, `query-clock N`.
 ///
-/// It is an `AllocError` only where there is no memory for the lines.
-pub fn clocks_text(alloc: Global, text: &[u8]) -> Result<Vec<u8>, AllocError>
-    ensures { IfOk result (λ lines. lines.items ≡ clock_entries text.now) }
+/// It is an `AllocError` only if there is no memory for the lines.
+pub fn clocks_text(alloc: Global, clocks: Clocks) -> Result<Vec<u8>, AllocError>
+    ensures { IfOk result (λ lines. lines.items ≡ clock_entries clocks) }
 {
-    let clocks = read_clocks(text);
     let mut out = Vec::new(alloc);
     put_clock(&mut out, ClockKind::Member, clocks.member_clock)?;
     put_clock(&mut out, ClockKind::Event, clocks.event_clock)?;

@@ -61,7 +61,7 @@ inside install -d -m 750 -o kitchenrue-agent -g kitchenrue-agent $own
 check "it runs as its user" runs 1 "shutdown complete"
 check "its snapshot is its own" has $own/snapshot "kitchenrue-agent:kitchenrue-agent 600"
 inside chown root: $own/snapshot
-check "a snapshot that root wrote is refused by a sentence" runs 1 "^kitchenrue-agent: -snapshot: .*may not be written"
+check "a snapshot that root wrote is refused by a sentence" runs 1 "^kitchenrue-agent: -snapshot: .*is not writable"
 inside chown kitchenrue-agent: $own/snapshot
 check "and taken behind chown" runs 1 "shutdown complete"
 sed -i 's/info/debug/' "$root/etc/kitchenrue-agent/agent.json"

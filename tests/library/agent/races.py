@@ -1,8 +1,8 @@
-"""Races that Go's detector finds, and whose they are.
+"""The data races that Go's detector reports, and which code they are in.
 
-Memberlist, as Debian has it, writes a node's state under its lock, and sends to that node without it. So the detector stops
-a test of two nodes now and then, whatever the package serf does. Such a run says nothing of that: it is made again. A race of
-which one access is not memberlist's own counts.
+Debian's memberlist writes a node's state under its lock, and sends to that node without it. So the detector stops
+a test of two nodes now and then, whatever the package serf does. Such a run says nothing about our code, and is repeated. A race
+counts if one of its accesses is not memberlist's own.
 """
 
 import re
@@ -12,7 +12,7 @@ REPORT = "WARNING: DATA RACE"
 ACCESS = re.compile(r"^(?:Previous )?(?:read|write|Read|Write) at .*\n\s+(\S+)\(", re.M)
 MEMBERLIST = "github.com/hashicorp/memberlist."
 
-# How often a run is made in which memberlist raced with itself.
+# How often a run in which memberlist raced with itself is made.
 TRIES = 5
 
 
@@ -26,7 +26,7 @@ def are_of_memberlist(said):
 
 
 def ran(run):
-    """A run of tests in which memberlist didn't race with itself, or the last one: its status, and what it said."""
+    """A run of tests in which memberlist didn't race with itself, or the final one: its status, and what it printed."""
     for _ in range(TRIES):
         status, said = run()
         if status == 0 or not are_of_memberlist(said):
@@ -35,7 +35,7 @@ def ran(run):
 
 
 def try_reports(count):
-    """Which reports count as memberlist's own: those of which both accesses are."""
+    """Which reports count as memberlist's own: those with both accesses in memberlist."""
     own, other = f"{MEMBERLIST}(*Memberlist).aliveNode", "kitchenrue.example/serf.(*Serf).take"
     for first, second, is_own in ((own, own, True), (own, other, False), (other, own, False), (other, other, False)):
         said = (

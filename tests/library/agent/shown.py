@@ -1,9 +1,9 @@
-"""What README, docs/AGENT.md and docs/INCIDENT.md show of agents, run as it stands there.
+"""Runs what README, docs/AGENT.md and docs/INCIDENT.md show of agents, exactly as shown.
 
-It runs in a folder like a release's archive, with the library in its folder lib, and for a user with an empty home. These
-are other than on the pages: addresses are loopback ones of this run, /usr/local/bin and /var/lib/kitchenrue-agent are
-folders of this run, and `dpkg -i` unpacks into a folder and configures nothing. Where an agent's line names no address, or
-no name, it is given one behind its own words.
+It runs in a folder like a release's archive, with the library in its folder lib, and for a user with an empty home. These things
+differ from the pages: addresses are loopback ones of this run, /usr/local/bin and /var/lib/kitchenrue-agent are
+folders of this run, and `dpkg -i` unpacks into a folder and configures nothing. If an agent's line has no address or
+no name, one is appended to it.
 """
 
 import os
@@ -17,10 +17,10 @@ import c_library
 import pages
 from checks import TOP
 
-# What of the repository agent/build and agent/package/deb read, and the handler of docs/INCIDENT.md.
+# What agent/build and agent/package/deb read from the repository, and the handler of docs/INCIDENT.md.
 PARTS = ("agent", "bindings/go/guard", "bindings/go/serf", "bindings/go/serfagent", "docs/AGENT.md", "LICENSE", "examples/serf_log_handler.sh")
 
-# What stands for the reader's own handlers: they note who ran them, and what they read.
+# A stand-in for the reader's own handlers: it writes down which agent ran it, and what it read.
 HANDLER = '#!/bin/sh\necho "$SERF_SELF_NAME $(cat)" >>"$(dirname "$0")/ran"\n'
 
 # How long an agent may take to start, and a handler to run, in seconds.
@@ -47,7 +47,7 @@ def takes_requests(address):
 
 
 class Stage:
-    """Where the pages' commands run, and the agents that they started."""
+    """The place in which the pages' commands run, and the agents that they started."""
 
     def __init__(self, count, folder, library):
         self.count, self.top = count, os.path.join(folder, "archive")
@@ -67,14 +67,14 @@ class Stage:
         self.agents, self.names, self.rpc = [], [], None
 
     def env(self):
-        # the package's program first, and then the one that was built by itself
+        # the package's program is first, and then the one that was built by itself
         path = [os.path.join(self.root, "usr", "bin"), os.path.join(self.home, ".local", "bin"), os.environ["PATH"]]
         cache = os.environ.get("GOCACHE") or os.path.expanduser("~/.cache/go-build")
         own = {"HOME": self.home, "PATH": os.pathsep.join(path), "GOCACHE": cache, "SERF_LOG": os.path.join(self.bin, "log")}
         return {**os.environ, **own, **({"SERF_RPC_ADDR": self.rpc} if self.rpc else {})}
 
     def here(self, text):
-        """A page's line with the places of this run."""
+        """A page's line with the addresses and folders of this run."""
         text = text.replace("/var/lib/kitchenrue-agent", self.state).replace("/usr/local/bin", self.bin)
         return re.sub(r"\b10\.0\.0\b", self.net, text)
 
@@ -86,7 +86,7 @@ class Stage:
         self.count.check(name, status == 0 and re.search(says, said), (status, said[-1500:]))
 
     def soon_well(self, name, text, says):
-        """As `well`, where what it says may come a while later."""
+        """As `well`, if the expected output may come a while later."""
         said = []
 
         def holds():
@@ -96,14 +96,14 @@ class Stage:
         self.count.check(name, until(holds), said)
 
     def name_of(self, text):
-        """The name of the agent that a line starts. One of this name that runs is ended first."""
+        """The name of the agent that a line starts. If an agent of this name runs, it is ended first."""
         named = re.search(r"-node (\S+)", text)
         name = named[1] if named else next(it for it in NAMES if it not in self.names)
         if name in self.names:
             at = self.names.index(name)
             self.agents[at].terminate()
             self.agents[at].wait()
-            # (its place stays, since addresses go by it)
+            # (its position stays, since addresses are counted by it)
             self.names[at] = None
         self.names.append(name)
         return name
@@ -114,7 +114,7 @@ class Stage:
         return named is not None and named[1] in self.names
 
     def start(self, command):
-        """Starts an agent as its line says, and waits until it takes requests."""
+        """Starts an agent as its line says, and waits until it accepts requests."""
         name, address = self.name_of(command.text), f"{self.net}.{PEER + len(self.agents)}"
         self.rpc = f"{address}:7373"
         text = f"exec {command.text.removesuffix('&').strip()} -rpc-addr {self.rpc}"
@@ -144,7 +144,7 @@ class Stage:
 
 
 def package(stage, command):
-    """`dpkg -i`: the package is unpacked by dpkg, its scripts are read, and its unit is held against systemd's words."""
+    """`dpkg -i`: dpkg unpacks the package, its scripts are parsed, and systemd checks its unit."""
     if os.geteuid() or shutil.which("dpkg") is None:
         print(f"not run: {command.name()}, since this user isn't root or dpkg is not on PATH")
         return
@@ -172,12 +172,12 @@ def serf(stage, command):
         print(f"not run: {command.name()}, since serf is not on PATH")
     elif command.text.startswith("serf agent "):
         stage.start(command)
-        # what such a handler writes is what `judge` reads
+        # `judge` reads what this handler writes
         stage.well("an event for the stock agent", "serf event -coalesce=false deploy v2", "dispatched")
-        # (behind its date)
+        # (after its date)
         lines = lambda: [line.split(" ", 1)[1] for line in stage.handled("log")]
         stage.count.check("its handler's line", until(lambda: lines() == ["event gamma 1 deploy v2"]), stage.handled("log"))
-        stage.count.check("the handler beside it", until(lambda: "gamma v2" in stage.handled()), stage.handled())
+        stage.count.check("the handler next to it", until(lambda: "gamma v2" in stage.handled()), stage.handled())
     elif command.text.startswith("serf event "):
         stage.well(command.name(), command.text, "dispatched")
     else:
@@ -193,7 +193,7 @@ def handled_once(stage):
 
 
 def try_pages(count, library, folder):
-    """Runs what the pages show, in their order, and sees what the handlers did."""
+    """Runs what the pages show, in their order, and checks what the handlers did."""
     stage = Stage(count, folder, library)
     try:
         for command in pages.of(pages.AGENT):
@@ -204,7 +204,7 @@ def try_pages(count, library, folder):
             elif command.text.startswith("serf "):
                 serf(stage, command)
             elif command.text.startswith("kitchenrue-agent "):
-                # AGENT.md's agent joins the one of README; where it is started anew, its event goes round before
+                # AGENT.md's agent joins the one of README; if it is started anew, its event is spread first
                 if stage.has_started(command):
                     handled_once(stage)
                 stage.start(command)

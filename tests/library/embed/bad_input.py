@@ -1,4 +1,4 @@
-"""Bad input through the binding in Python: prints a line `FAILED ..` for what isn't as said, and 'N passed, M failed'.
+"""Bad input through the binding in Python: prints a line `FAILED ..` for each check that fails, and 'N passed, M failed'.
 
     bad_input.py FOLDER
 """
@@ -31,7 +31,7 @@ def refused(name, wanted, call, *words, **more):
         said = error.code
     except Exception as error:
         said = type(error)
-    check(name, said == wanted, f"{said}, and {wanted} was wanted")
+    check(name, said == wanted, f"{said}, expected {wanted}")
 
 
 def in_words(name, wanted, call, *words, **named):
@@ -41,7 +41,7 @@ def in_words(name, wanted, call, *words, **named):
         said = None
     except Exception as error:
         said = str(error)
-    check(name, said == wanted, f"{said}, and {wanted!r} was wanted")
+    check(name, said == wanted, f"{said}, expected {wanted!r}")
 
 
 def path(name):
@@ -58,7 +58,7 @@ def openings():
     refused("no folder", MissingFolder, Agent, b"a", path("none/a"))
     with Agent(b"a", path("a")) as agent:
         refused("twice", Locked, Agent, b"a", path("a"))
-        check("the first goes on", agent.fire(b"x").event.time == 1)
+        check("the first continues", agent.fire(b"x").event.time == 1)
     refused("closed", Code.EMPTY, agent.fire, b"x")
     agent.close()
 
@@ -83,9 +83,9 @@ def queries():
     with Agent(b"a", path("d")) as one, Agent(b"b", path("e")) as other:
         refused("no time", Code.NO_TIME, one.query, 1, 7, b"q", timeout=0)
         check("no deadline", one.next_deadline() is None)
-        in_words("a str", "name has to be bytes, and is of the type str", one.query, 1, 7, "q")
-        in_words("a filter of str", "filter has to be bytes, and is of the type str", one.query, 1, 7, b"q", filters=["a"])
-        in_words("a code in words", "no query of this number waits for an answer (NOT_HANDED)", one.respond, 1, 9)
+        in_words("a str", "name must be bytes, and has the type str", one.query, 1, 7, "q")
+        in_words("a filter of str", "filter must be bytes, and has the type str", one.query, 1, 7, b"q", filters=["a"])
+        in_words("a code in words", "no query with this number is waiting for an answer (NOT_HANDED)", one.respond, 1, 9)
         asked = one.query(1, 7, b"q", b"p", timeout=1000, want_ack=True, addr=b"\x7f\0\0\1", port=7946)
         check(
             "asked",
@@ -106,8 +106,8 @@ def queries():
         refused("twice", Code.NOT_HANDED, other.respond, 6, query.number)
         late = other.receive(6, one.query(6, 8, b"late", timeout=2).packet).query
         refused("too late", Code.PAST_DEADLINE, other.respond, late.deadline + 1, late.number)
-        check("none of its own is closed", other.close_due(late.deadline + 1) == [])
-        refused("forgotten behind its deadline", Code.NOT_HANDED, other.respond, late.deadline + 1, late.number)
+        check("none of its queries is closed", other.close_due(late.deadline + 1) == [])
+        refused("forgotten after its deadline", Code.NOT_HANDED, other.respond, late.deadline + 1, late.number)
         check("the response", one.receive(7, response).kind == Kind.RESPONSE)
         check("again", one.receive(7, response).reason == Reason.RESPONSE_TWICE)
         time = asked.query.time
@@ -133,7 +133,7 @@ def compactions():
     with Agent(b"a", path("f")) as agent:
         for _ in range(3):
             agent.fire(b"x")
-        # a state that says nothing but a member clock of 7
+        # (a state with nothing but a member clock of 7)
         agent.merge(b"\x02\x81\xa5LTime\x07")
         agent.save_member_clock()
         check("should compact", agent.should_compact(20) and not agent.should_compact())
@@ -149,18 +149,18 @@ def compactions():
         )
 
 
-# Packets that are no messages: the fault, its place, its byte, and what is said of it.
+# Packets that are no messages: the error, its offset, its byte, and its words.
 FAULTY = [
     (b"", Fault.EMPTY, 0, 0, "the packet is empty"),
     (b"\x63\x80", Fault.UNKNOWN_TYPE, 0, 99, "no message has the type 99"),
     (b"\x03", Fault.TRUNCATED, 1, 0, "the packet ends inside the value at 1"),
-    (b"\x03\xc1", Fault.UNSUPPORTED, 1, 0xC1, "the byte 0xc1 at 1 begins no value that is read"),
-    (b"\x03" + b"\x91" * 9 + b"\xc0", Fault.TOO_DEEP, 9, 0, "the array or map at 9 stands inside eight others"),
+    (b"\x03\xc1", Fault.UNSUPPORTED, 1, 0xC1, "the byte 0xc1 at 1 doesn't begin a supported value"),
+    (b"\x03" + b"\x91" * 9 + b"\xc0", Fault.TOO_DEEP, 9, 0, "the array or map at 9 is inside eight others"),
     (b"\x03\x80\x00", Fault.TRAILING, 2, 0, "the value ends before 2, and more bytes follow"),
-    (b"\x03\x07", Fault.NOT_A_MAP, 0, 0, "the value is no map"),
+    (b"\x03\x07", Fault.NOT_A_MAP, 0, 0, "the value is not a map"),
     (b"\x03\x81\x01\x01", Fault.BAD_KEY, 2, 0, "the key at 2 is not raw"),
-    (b"\x03\x82\xa5LTime\x01\xa5LTime\x01", Fault.TWICE, 9, 0, "the key at 9 stands for the second time"),
-    (b"\x03\x81\xa5LTime\xa1x", Fault.WRONG_KIND, 8, 0, "the value at 8 is of another kind"),
+    (b"\x03\x82\xa5LTime\x01\xa5LTime\x01", Fault.TWICE, 9, 0, "the key at 9 appears for the second time"),
+    (b"\x03\x81\xa5LTime\xa1x", Fault.WRONG_KIND, 8, 0, "the value at 8 has the wrong type"),
     (b"\x05\x81\xa2ID\xcf\0\0\0\1\0\0\0\0", Fault.OUT_OF_RANGE, 5, 0, "the integer at 5 is out of range"),
     (b"\x03\x81\xa5LTime\xcf" + b"\xff" * 8, Fault.GREATEST_TIME, 8, 0, "the number at 8 is no time"),
 ]
@@ -169,7 +169,7 @@ FAULTY = [
 def faults():
     for packet, kind, offset, byte, words in FAULTY:
         found = packet_fault(packet)
-        check(f"the fault of {packet}", found == PacketFault(kind, offset, byte) and str(found) == words, repr(found))
+        check(f"the error of {packet}", found == PacketFault(kind, offset, byte) and str(found) == words, repr(found))
     check("each kind", [kind for _, kind, *_ in FAULTY] == list(Fault))
     with Agent(b"a", path("g")) as agent:
         for packet, *_ in FAULTY:
@@ -178,7 +178,7 @@ def faults():
         for packet in (
             agent.fire(b"x").packet, agent.local_state(), asked.packet, asked.ack, b"\x00", b"\x09\xc1", b"\x03\x80"
         ):
-            check(f"no fault of {packet}", packet_fault(packet) is None)
+            check(f"no error of {packet}", packet_fault(packet) is None)
         cut = len(asked.ack) - 1
         check("a cut ack", packet_fault(asked.ack[:cut]) == PacketFault(Fault.TRUNCATED, cut, 0))
 
@@ -200,8 +200,8 @@ def bursts():
             refused("no bool", TypeError, burst.fire, b"x", b"", 1)
             burst.fire(b"x")
             refused("a clock that goes back", ValueError, burst.receive, 0, b"")
-            check("other calls go on", agent.fire(b"y").event.time == 1)
-        check("just the calls that were taken", [outcome.event.time for outcome in burst.outcomes] == [2], burst.outcomes)
+            check("other calls continue", agent.fire(b"y").event.time == 1)
+        check("just the calls that were accepted", [outcome.event.time for outcome in burst.outcomes] == [2], burst.outcomes)
         check("nothing is unread", agent.unread_outcomes() == 0)
         with burst:
             burst.receive(2, b"\xff")
@@ -219,7 +219,7 @@ def bursts():
 
 
 def longest(name, start, call):
-    """The packet of the longest payload that is taken: each that is longer is refused as too large."""
+    """The packet of the longest payload that is accepted: each longer one is refused as too large."""
     for length in range(start, -1, -1):
         try:
             return len(call(b"x" * length))

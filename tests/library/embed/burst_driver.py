@@ -1,4 +1,4 @@
-"""Bursts, of which some run out of memory, in Python, as burst_driver.c says."""
+"""Bursts in Python, some of which run out of memory, as described in burst_driver.c."""
 
 import os
 import sys
@@ -40,7 +40,7 @@ def words_of(outcome):
 
 
 def done(agent, fill):
-    """A burst, its outcomes printed."""
+    """A burst whose outcomes are printed."""
     burst, end = agent.burst(), "ok"
     try:
         with burst:

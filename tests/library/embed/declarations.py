@@ -1,4 +1,4 @@
-"""The header beside the library: names, arguments, numbers and layouts; and beside each binding's declarations."""
+"""The header compared with the library: names, arguments, numbers and layouts; and with each binding's declarations."""
 
 import ctypes
 import os
@@ -89,7 +89,7 @@ def layout_of(name, fields):
 
 
 def compare_library(count, places, header):
-    """The library's global functions are just those of the header."""
+    """The library's global functions are exactly those of the header."""
     status, said = c_library.ran(["nm", "-g", "--defined-only", places.library])
     names = set(re.findall(r" T (\w+)$", said, re.M))
     count.check(
@@ -111,13 +111,13 @@ class Declared:
         }
 
     def c_types(self, words, structs):
-        """The types in C of a function's arguments; `structs` has C's name of each struct's."""
+        """The types in C of a function's arguments; `structs` has C's name for each struct."""
         found = []
         for word in words:
             kind = word.partition(":")[2].strip()
             pointer = re.fullmatch(r"(&mut |&|\*mut |\*const )(.*)", kind)
             if kind == "Global":
-                # it has no bytes: C passes nothing
+                # (it has no bytes: C passes nothing)
                 continue
             listed = re.fullmatch(r"(&mut |&)\[(\w+)\]", kind)
             if listed:
@@ -136,7 +136,7 @@ class Declared:
         for field, kind in self.structs[name]:
             kind = kind.strip()
             if kind in self.structs:
-                # the one struct within another: a pointer, and what has no bytes
+                # (the one struct within another: a pointer, and a part without bytes)
                 found += [(field, inner) for _, inner in self.c_fields(kind)]
             elif kind != "Global":
                 found.append((field, "void *" if kind.startswith("*") else NUMBERS.get(kind, kind)))
@@ -144,7 +144,7 @@ class Declared:
 
 
 def compare_declared(count, language, declared, header, layout):
-    """A language's declarations: the same functions of the same types, and structs of the same fields and places."""
+    """A language's declarations: the same functions of the same types, and structs with the same fields and offsets."""
     structs = {}
     for name, (_, words) in declared.functions.items():
         kinds = [
@@ -173,7 +173,7 @@ def compare_declared(count, language, declared, header, layout):
     )
     for name, in_c in structs.items():
         fields = declared.c_fields(name)
-        # the handle's own fields are nobody's business
+        # (the handle's own fields are private)
         same = (
             [kind for _, kind in fields] == [kind for _, kind in header.structs[in_c]]
             and (in_c == "serf_agent" or fields == header.structs[in_c])
@@ -240,19 +240,19 @@ def compare_limit(count, language, header, path):
 
 
 def in_capitals(name):
-    """A variant's name as a number's in C: PastDeadline is PAST_DEADLINE, and NotAMap is NOT_A_MAP."""
+    """A variant's name as a number's name in C: PastDeadline is PAST_DEADLINE, and NotAMap is NOT_A_MAP."""
     return re.sub(r"(?<=[a-z])(?=[A-Z])|(?<=[A-Z])(?=[A-Z][a-z])", "_", name).upper()
 
 
 def compare_faults(count, language, faults, header):
-    """A language's numbers of the faults of a packet: all of the header's."""
+    """A language's numbers of packet errors: all of the header's."""
     compare_numbers(count, language, faults, header, "SERF_AGENT_FAULT_")
     wanted = {name for name in header.numbers if name.startswith("SERF_AGENT_FAULT_")}
-    count.check(f"{language}: all faults", len(wanted) == 12 == len(faults), faults)
+    count.check(f"{language}: all packet errors", len(wanted) == 12 == len(faults), faults)
 
 
 def compare_rust(count, header, layout):
-    """What the Rust binding declares: functions, structs, the order of its codes and reasons, and fault numbers."""
+    """What the Rust binding declares: functions, structs, the order of its codes and reasons, and the numbers of packet errors."""
     texts = {}
     for name in ("raw", "error", "outcome", "fault"):
         with open(os.path.join(RUST, name + ".rs"), encoding="utf-8") as file:
@@ -271,7 +271,7 @@ def compare_rust(count, header, layout):
 
 
 def compare_rattle(count, crate, header, layout):
-    """What the library's own sources declare, and the numbers of its codes and of a packet's faults."""
+    """What the library's own sources declare, and the numbers of its codes and of packet errors."""
     texts = []
     for folder, _, files in sorted(os.walk(os.path.join(crate, "src"))):
         for name in sorted(files):
@@ -290,7 +290,7 @@ def compare_rattle(count, crate, header, layout):
 
 
 def compare(count, places, path, crate):
-    """Compares the header with the library, and with the sources of the crate where it is given."""
+    """Compares the header with the library, and with the sources of the crate if it is passed."""
     header = Header(path)
     layout = layout_in_c(places, header)
     print("\n".join(f"{name}: {value}" for name, value in layout.items() if name.split(".")[0] in header.structs))

@@ -1,4 +1,4 @@
-"""Agents that keep their events, through the binding in Python: prints a line `FAILED ..` for what isn't as said, and
+"""Agents that keep their events, through the binding in Python: prints a line `FAILED ..` for each check that fails, and
 'N passed, M failed'.
 
     keep.py FOLDER
@@ -23,7 +23,7 @@ def check(name, found, wanted):
         passed += 1
     else:
         failed += 1
-        print(f"FAILED {name}: {found!r}, and {wanted!r} was wanted")
+        print(f"FAILED {name}: {found!r}, expected {wanted!r}")
 
 
 def path(name):
@@ -36,7 +36,7 @@ def text(name):
 
 
 def packets():
-    """Another agent's events of the times 1 and on, e1 and so on, by their times."""
+    """Another agent's events of the times from 1 on, named e1 and so on, by their times."""
     with Agent(b"other", path("other")) as agent:
         return {time: agent.fire(b"e%d" % time).packet for time in range(1, 10)}
 
@@ -45,13 +45,13 @@ PACKETS = packets()
 
 
 def came(agent, time):
-    """What comes of the event of this time: NEW, or why it is ignored."""
+    """The result of the event of this time: NEW, or why it is ignored."""
     received = agent.receive(1, PACKETS[time])
     return received.reason.name if received.reason else received.kind.name
 
 
 def life(what, name, settings, events):
-    """A life on a file, which ends as by a kill; what comes of each event in it."""
+    """A life on a file, which ends as if killed; and the result of each event in it."""
     with Agent(b"keeps", path(name), settings) as agent:
         check(what, [(time, came(agent, time)) for time, _ in events], events)
 
@@ -59,7 +59,7 @@ def life(what, name, settings, events):
 def goes_on():
     life("the first life", "keeps", KEEPS, [(3, NEW), (1, NEW), (3, SEEN)])
     check("the lines", text("keeps"), b"event-clock: 03\n#event 3 6533 \n#event 1 6531 \n")
-    life("a life that goes on", "keeps", KEEPS, [(3, SEEN), (1, SEEN), (2, NEW), (2, SEEN)])
+    life("a life that continues", "keeps", KEEPS, [(3, SEEN), (1, SEEN), (2, NEW), (2, SEEN)])
     check("one line more", text("keeps"), b"event-clock: 03\n#event 3 6533 \n#event 1 6531 \n#event 2 6532 \n")
 
 
@@ -95,7 +95,7 @@ def compacted():
         text("compacted"),
         b"#least event-clock: 1\n#event 1 6531 \n#event 3 6533 \n#least query-clock: 1\nevent-clock: 03\n",
     )
-    life("behind a compaction", "compacted", KEEPS, [(1, SEEN), (3, SEEN), (2, NEW)])
+    life("after a compaction", "compacted", KEEPS, [(1, SEEN), (3, SEEN), (2, NEW)])
 
 
 def bursts():
@@ -103,7 +103,7 @@ def bursts():
         for time in (3, 2, 3):
             burst.receive(1, PACKETS[time])
     check("a burst's lines", text("burst"), b"event-clock: 03\n#event 3 6533 \n#event 2 6532 \n")
-    life("behind a burst", "burst", KEEPS, [(3, SEEN), (2, SEEN), (1, NEW)])
+    life("after a burst", "burst", KEEPS, [(3, SEEN), (2, SEEN), (1, NEW)])
 
 
 for part in (goes_on, without, torn, on_and_off, compacted, bursts):

@@ -1,4 +1,5 @@
-"""What a host of members asks, through the binding in Python: prints `FAILED ..` for what isn't as said, and 'N passed, M failed'.
+"""Calls for a host that knows members, through the binding in Python: prints `FAILED ..` for each check that fails, and
+'N passed, M failed'.
 
     members.py FOLDER
 """
@@ -31,10 +32,10 @@ def refused(name, wanted, call, *words):
         said = error.code
     except Exception as error:
         said = type(error)
-    check(name, said == wanted, f"{said}, and {wanted} was wanted")
+    check(name, said == wanted, f"{said}, expected {wanted}")
 
 
-# Intents off the wire between agents of Serf.
+# Intents that agents of Serf sent to one another.
 OF_SERF = {
     b"\x01\x82\xa5LTime\x01\xa4Node\xa4beta": Join(1, b"beta"),
     b"\x00\x83\xa5LTime\x03\xa4Node\xa5gamma\xa5Prune\xc2": Leave(3, b"gamma"),
@@ -58,7 +59,7 @@ def intents():
         check(f"no intent in {packet}", intent(packet) is None and intent_fault(packet) is None)
     for packet, wanted in FAULTY.items():
         refused(f"the packet {packet}", Code.NO_MESSAGE, intent, packet)
-        check(f"the fault of {packet}", intent_fault(packet) == wanted, intent_fault(packet))
+        check(f"the error of {packet}", intent_fault(packet) == wanted, intent_fault(packet))
     refused("no time", Code.EXHAUSTED, Join(2**64 - 1, b"a").packet)
     refused("no number of 64 bits", OverflowError, Leave(2**64, b"a").packet)
     refused("a name that is no bytes", TypeError, Join(1, "a").packet)
@@ -96,15 +97,15 @@ def member_times():
         refused("no number of 64 bits", OverflowError, agent.observe_member, 2**64)
         agent.observe_member(90)
     with Agent(b"a", path) as agent:
-        # what was only observed is forgotten, and what was taken isn't
+        # (a time that was only observed is forgotten, and one that was taken isn't)
         check("the next life", agent.next_member_time() == 9)
         agent.observe_member(2**64 - 2)
         refused("exhausted", Code.EXHAUSTED, agent.next_member_time)
     refused("closed", Code.EMPTY, agent.observe_member, 1)
 
 
-# Filters of the node b, of another one, of a tag, and of a type that nobody knows; and whether b gets a query of them,
-# where its host says that its tags don't pass, and where it says that they do.
+# Filters of the node b, of another one, of a tag, and of an unknown type; and whether b is handed a query with them, without
+# and with the host's verdict that its tags pass.
 NODE, OTHER, TAG, UNKNOWN = b"\x00\x91\xa1b", b"\x00\x91\xa1c", b"\x01\x82\xa4Expr\xa0\xa3Tag\xa1a", b"\x02"
 VERDICTS = {
     (): (True, True),
@@ -118,7 +119,7 @@ VERDICTS = {
 
 
 def made():
-    """Filters as Serf writes them, and as MessagePack's old form has long texts and lists."""
+    """Filters as Serf writes them, and with long texts and lists as MessagePack's old form has them."""
     check("of names", node_filter(b"b") == NODE and node_filter(b"c") == OTHER and node_filter() == b"\x00\x90")
     check("of sixteen names", node_filter(*[b"b"] * 16) == b"\x00\xdc\x00\x10" + b"\xa1b" * 16)
     check("of long names", node_filter(b"x" * 32, b"y" * 65536)[:5] == b"\x00\x92\xda\x00\x20" and node_filter(b"y" * 65536)[2:7] == b"\xdb\x00\x01\x00\x00")
@@ -147,7 +148,7 @@ def verdicts():
                     burst.query(1, 8, b"who", timeout=1000, filters=filters, tags_pass=passes)
                 check(f"its own of {filters}, {passes}, in a burst", (burst.outcomes[0].query is not None) == handed, burst.outcomes)
         packet = asks.query(1, 7, b"who", timeout=1000, filters=[TAG]).packet
-        check("where nothing is said", agent.receive(1, packet).query is None)
+        check("without a verdict", agent.receive(1, packet).query is None)
         refused("a verdict that is no bool", TypeError, agent.receive, 1, packet, 1)
     for packet in (b"", b"\x04", b"\x03\x80", packet[:-1], *OF_SERF):
         check(f"no filters in {packet}", query_filters(packet) is None)

@@ -1,5 +1,5 @@
-"""The binding in Python, used as it mustn't be: numbers that don't fit, moments that go back, an agent that is let go,
-and forks. Prints a line `FAILED ..` for what isn't as said, and 'N passed, M failed'.
+"""The binding in Python, used as it mustn't be: numbers that don't fit, moments that go back, an agent without a reference,
+and forks. Prints a line `FAILED ..` for each check that fails, and 'N passed, M failed'.
 
     misuse.py FOLDER
 """
@@ -28,19 +28,19 @@ def check(name, holds, said=""):
 
 
 def refused(name, wanted, call, *words, **more):
-    """A call that has to raise just this."""
+    """A call that has to raise exactly this."""
     try:
         said = call(*words, **more)
     except Exception as error:
         said = type(error)
-    check(name, said is wanted, f"{said}, and {wanted} was wanted")
+    check(name, said is wanted, f"{said}, expected {wanted}")
 
 
 def path(name):
     return os.path.join(FOLDER, name)
 
 
-# What fits no unsigned number of so many bits.
+# Values that don't fit an unsigned number of so many bits.
 def out_of(bits):
     return (-1, 1 << bits, (1 << bits) + 7, -(1 << bits))
 
@@ -78,7 +78,7 @@ def numbers():
         check("nothing was fired", (agent.clocks().event, agent.clocks().query, agent.open_queries()) == (1, 1, 0))
         greatest = agent.query(1, (1 << 32) - 1, b"q", timeout=9, port=(1 << 16) - 1, relay_factor=255).query
         check(
-            "the greatest are taken",
+            "the largest values are accepted",
             (greatest.id, greatest.port, greatest.relay_factor) == ((1 << 32) - 1, (1 << 16) - 1, 255),
             greatest,
         )
@@ -92,7 +92,7 @@ def flags_and_bytes():
             refused(f"join of {value!r}", TypeError, agent.merge, state, join=value)
             for name in ("want_ack", "no_broadcast", "tags_pass"):
                 refused(f"{name} of {value!r}", TypeError, agent.query, 1, 7, b"q", timeout=9, **{name: value})
-        # (bytes would make five zeros of the first)
+        # (bytes would make five zeros of the first one)
         for value in (5, "x", [120], None):
             refused(f"an event of {value!r}", TypeError, agent.fire, value)
             refused(f"a payload of {value!r}", TypeError, agent.fire, b"x", value)
@@ -101,7 +101,7 @@ def flags_and_bytes():
             refused(f"a member of {value!r}", TypeError, agent.local_state, [(b"a", 1)], [value])
         check("nothing was fired", agent.clocks().event == 1 and agent.clocks().query == 1)
         check("nobody was named", agent.local_state() == state)
-        check("what is like bytes is taken", agent.fire(bytearray(b"x"), memoryview(b"y")).event.payload == b"y")
+        check("a value that is like bytes is accepted", agent.fire(bytearray(b"x"), memoryview(b"y")).event.payload == b"y")
 
 
 def moments():
@@ -112,16 +112,16 @@ def moments():
         for call, words in {"receive": [packet], "query": [7, b"q"], "respond": [1], "close_due": []}.items():
             refused(f"{call} at 4", ValueError, getattr(agent, call), 4, *words)
         said = []
-        # its moment was read before the others, and its call came behind them
+        # (its moment was read before the others, and its call is made after them)
         thread = threading.Thread(target=lambda: said.append(agent.receive(3, packet).kind))
         thread.start()
         thread.join()
         check("another thread's moment", said == [Kind.IGNORED], said)
-        check("at the greatest moment", agent.close_due((1 << 64) - 1) == [])
+        check("at the largest moment", agent.close_due((1 << 64) - 1) == [])
 
 
 def opens(name):
-    """What becomes of another opening of the file."""
+    """The result of another opening of the file."""
     try:
         Agent(name, path(name.decode())).close()
     except Exception as error:
@@ -142,12 +142,12 @@ def let_go():
     try:
         Agent(b"", path("e"))
     except AgentError as error:
-        said = "name has 0 bytes, and has to have 1 to 128 (BAD_CONFIG)"
+        said = "the name has 0 bytes, and must have 1 to 128 (BAD_CONFIG)"
         check("a refused opening", (error.code, str(error)) == (Code.BAD_CONFIG, said) and opens(b"e") is True, error)
 
 
 def bounds():
-    """Each setting at its bounds is taken, and beyond them it is named."""
+    """Each setting is accepted at its bounds; beyond them the error names it."""
     of_counts = dict.fromkeys(("event_buffer", "query_buffer", "responders", "per_time"), (1, 65536))
     for field, (least, greatest) in {**of_counts, **dict.fromkeys(("event_limit", "query_limit", "response_limit"), (0, 9216))}.items():
         for value in (least, greatest):
@@ -157,7 +157,7 @@ def bounds():
                 said = Agent(b"bounds", path("bounds"), Settings(**{field: value}))
             except AgentError as error:
                 said = str(error)
-            check(f"{field} of {value}", said == f"{field} is {value}, and has to be from {least} to {greatest} (BAD_CONFIG)", said)
+            check(f"{field} of {value}", said == f"{field} is {value}, and must be between {least} and {greatest} (BAD_CONFIG)", said)
     Agent(b"n" * 128, path("longest")).close()
     refused("a longer name", AgentError, Agent, b"n" * 129, path("longer"))
 
@@ -216,7 +216,7 @@ def forks():
         check("close in a forked child", in_child(closed) == Forked.__name__)
         check("it is locked still", opens(b"f") is Locked)
         second = agent.fire(b"two").event
-        check("the parent goes on", (first.time, second.time) == (1, 2) and store.append(b"y") is None)
+        check("the parent continues", (first.time, second.time) == (1, 2) and store.append(b"y") is None)
     with open(path("f"), encoding="utf-8") as file:
         check(
             "each time is once in the file",
@@ -225,7 +225,7 @@ def forks():
 
 
 class Held(Library):
-    """A library whose next firing takes long."""
+    """A library whose next firing takes a long time."""
 
     def __init__(self):
         super().__init__()
@@ -279,7 +279,7 @@ def folders():
 
 
 class Starved(Library):
-    """A library in which a member of this name has no memory."""
+    """A library in which allocations fail for a member of this name."""
 
     def __init__(self):
         super().__init__()
@@ -295,10 +295,10 @@ def stale_members():
         wanted = agent.local_state([(b"b", 2)])
         for left in ([], [b"gone"]):
             refused("a state without memory", AgentError, agent.local_state, [(b"stale", 1), (b"full", 1)], left)
-            check("the next state has its own members", agent.local_state([(b"b", 2)]) == wanted, left)
+            check("the next state contains its own members", agent.local_state([(b"b", 2)]) == wanted, left)
 
 
-# A parent whose child is forked, and lives on; it says which one.
+# A parent that forks a child, prints its number, and waits, as the child does.
 PARENT = """
 import os, sys, time
 sys.path.insert(0, sys.argv[1])
@@ -319,7 +319,7 @@ def lock_of_a_parent():
         [sys.executable, "-c", PARENT, binding, path("g")], stdout=subprocess.PIPE, text=True
     ) as parent:
         child = int(parent.stdout.readline())
-        # (the child has closed its copy by its first step, which may be behind its parent's line)
+        # (the child closes its copy in its first step, which may be after its parent's line)
         os.kill(child, 0)
         check("it is locked", opens(b"g") is Locked)
         parent.kill()

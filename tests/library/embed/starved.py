@@ -1,4 +1,4 @@
-"""The library with calls that run out of memory, and what each language's driver of such calls has to print."""
+"""The library with calls that run out of memory, and what each language's driver of these calls has to print."""
 
 import os
 import re
@@ -7,14 +7,14 @@ import c_library
 
 HERE = os.path.dirname(os.path.abspath(__file__))
 
-# The library's calls that starved.c stands before, and their names then.
+# The library's calls that starved.c wraps, and the names that they get.
 CALLS = ["merge", "add_filter", "query", "add_status", "add_left", "local_state"]
 CALLS += ["burst_receive", "burst_fire", "burst_query", "next"]
 NAMES = {"rattle_alloc": "starved_alloc", "rattle_realloc": "starved_realloc"} | {
     f"serf_agent_{call}": f"whole_{call}" for call in CALLS
 }
 
-# How many requests a merge of five events may make.
+# How many requests for memory a merge of five events may make.
 MOST = 200
 EVENTS = [f"{time} e{time - 1}" for time in range(1, 6)]
 
@@ -27,7 +27,7 @@ NODES = {
 
 
 def make(places):
-    """Makes that library, in a folder of its own with its shared one; what went wrong, or None."""
+    """Makes that library, in a separate folder with its shared one; what went wrong, or None."""
     piece = places.of("starved.o")
     renamed = [word for pair in NAMES.items() for word in ("--redefine-sym", "=".join(pair))]
     steps = [
@@ -56,13 +56,13 @@ def shared(library):
 
 
 def greatest_kept(path):
-    """The greatest time of an event that a snapshot's file keeps."""
+    """The largest time of an event that a snapshot's file keeps."""
     with open(path, encoding="utf-8") as file:
         return max((int(line.split(" ")[1]) for line in file if line.startswith("event-clock: ")), default=0)
 
 
 def named(kind, lines):
-    """What each query or state named, or None where it had no memory."""
+    """What each query or state named, or None if it had no memory."""
     words = [line.split(" ")[1] for line in lines if line.startswith(kind)]
     return [
         None if word == "refused" else [name.decode() for name in re.findall(rb"node-(..)", bytes.fromhex(word))]
@@ -71,7 +71,7 @@ def named(kind, lines):
 
 
 def try_calls(count, language, places, words, **more):
-    """Runs a driver with one request granted more each time, until the first calls of all three kinds end well."""
+    """Runs a driver with one more request granted each time, until the first calls of all three kinds end well."""
     env, parts, ends = dict(more.pop("env", os.environ)), set(), []
     for granted in range(MOST):
         folder = places.fresh("starved")
@@ -80,7 +80,7 @@ def try_calls(count, language, places, words, **more):
         lines = said.splitlines()
         ends = [line for line in lines if line in ("ok", "out of memory")]
         handed = [line for line in lines if re.match(r"\d", line)]
-        # each event comes just once
+        # (each event is handed out exactly once)
         whole = status == 0 and sorted(handed) == EVENTS and ends[1:] == ["ok"]
         kept = greatest_kept(os.path.join(folder, "other.snapshot")) if whole else None
         count.check(
@@ -90,7 +90,7 @@ def try_calls(count, language, places, words, **more):
         )
         if "out of memory" in lines:
             parts.add(lines.index("out of memory"))
-        # each query and each state names just its own, and the first that is refused leaves nothing for the third
+        # (each query and each state names only its own nodes, and one that is refused leaves nothing for the next)
         for kind, nodes in NODES.items():
             found = named(kind, lines) if status == 0 else []
             count.check(
@@ -101,7 +101,7 @@ def try_calls(count, language, places, words, **more):
             ends += ["out of memory"] if found[:1] == [None] else []
         if status or "out of memory" not in ends:
             break
-    # nothing, one event, two, and so on, entered before the memory was out
+    # (nothing, one event, two, and so on, entered before the memory was used up)
     count.check(
         f"{language}: merges that end in each place",
         parts >= set(range(5)) and granted < MOST - 1,

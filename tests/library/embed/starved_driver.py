@@ -1,4 +1,4 @@
-"""Calls that may run out of memory, in Python, as starved_driver.c says."""
+"""Calls in Python that may run out of memory, as described in starved_driver.c."""
 
 import os
 import sys

@@ -1,4 +1,4 @@
-"""The store of bindings/python, driven by lines, as store_driver.c says."""
+"""The store of bindings/python, driven by lines, as described in store_driver.c."""
 
 import os
 import sys

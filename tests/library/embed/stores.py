@@ -1,4 +1,4 @@
-"""What each binding's store has to do, asked of a driver of it by lines (store_driver.c says which)."""
+"""What each binding's store has to do, tried through a driver that reads lines (store_driver.c describes them)."""
 
 import ctypes
 import os
@@ -7,10 +7,10 @@ import signal
 import socket
 import subprocess
 
-# By which root may write what nobody may: prctl's word, and the two rights (Linux).
+# The rights by which root may write what nobody else may: prctl's word, and the two rights (Linux).
 DROP_RIGHT, RIGHTS = 24, (1, 2)
 PRCTL = ctypes.CDLL(None).prctl
-# How long a file may be where a full disk is played, in bytes.
+# The maximum size of a file while a full disk is simulated, in bytes.
 FULL = 64
 
 
@@ -18,7 +18,7 @@ class Driver:
     """A process with the store of one language."""
 
     def __init__(self, words, prepare=None):
-        # (Python would give a child the default answer to a file that is too long: an end)
+        # (Python would restore the default action for a file that is too long: the end of the process)
         self.process = subprocess.Popen(
             words, stdin=subprocess.PIPE, stdout=subprocess.PIPE, text=True, preexec_fn=prepare, restore_signals=False
         )
@@ -39,7 +39,7 @@ class Driver:
 
 
 def with_no_rights():
-    """The program that is begun then may do what the rights of files let it do, also where it is root's."""
+    """A program that is started after this is bound by the rights of files, even if it is root's."""
     if os.geteuid() == 0:
         for right in RIGHTS:
             PRCTL(DROP_RIGHT, right, 0, 0, 0)
@@ -71,13 +71,13 @@ class Cases:
     def check(self, name, holds, said=""):
         self.count.check(f"{self.language}'s store: {name}", holds, said)
 
-    def is_nothing_beside(self, path):
-        """Whether a replacement that failed has left nothing beside the file."""
+    def leaves_no_new_file(self, path):
+        """Whether a replacement that failed has left nothing next to the file."""
         return not os.path.exists(path + ".new")
 
     def says(self, name, driver, line, wanted):
         said = driver.says(line)
-        self.check(name, said == wanted, f"{line[:60]}: {said}, and {wanted} was wanted")
+        self.check(name, said == wanted, f"{line[:60]}: {said}, expected {wanted}")
 
 
 def plain_file(cases):
@@ -85,7 +85,7 @@ def plain_file(cases):
     with Driver(cases.words) as driver:
         cases.says("append before any opening", driver, "append 61", "Broken")
         cases.says("read before any opening", driver, "read", "Broken")
-        cases.says("a file that isn't there is made", driver, f"open {path}", "ok")
+        cases.says("a file that doesn't exist is made", driver, f"open {path}", "ok")
         cases.says("it is empty", driver, "read", " ok")
         cases.says("append", driver, "append 610a", "ok")
         cases.says("append nothing", driver, "append ", "ok")
@@ -95,12 +95,12 @@ def plain_file(cases):
         before = os.stat(path)
         cases.says("replace", driver, "replace 630a", "ok")
         after = os.stat(path)
-        cases.check("it is another file then", before.st_ino != after.st_ino and read(path) == b"c\n", read(path))
+        cases.check("it is another file after that", before.st_ino != after.st_ino and read(path) == b"c\n", read(path))
         cases.check("it keeps its rights", after.st_mode == before.st_mode, oct(after.st_mode))
-        cases.check("nothing is left beside it", not os.path.exists(path + ".new"))
+        cases.check("nothing is left next to it", not os.path.exists(path + ".new"))
         cases.says("append behind", driver, "append 640a", "ok")
         cases.says("replace by nothing", driver, "replace ", "ok")
-        cases.says("append behind nothing", driver, "append 650a", "ok")
+        cases.says("append after that", driver, "append 650a", "ok")
         cases.says("close", driver, "close", "ok")
         cases.says("append to a store that is closed", driver, "append 61", "Broken")
         cases.says("open again", driver, f"open {path}", "ok")
@@ -115,14 +115,14 @@ def locks(cases):
             cases.says("open", driver, f"open {path}", "ok")
             write(path + ".new", b"b")
             cases.says("in another process", other, f"open {path}", "Locked")
-            cases.check("what its owner writes beside stays", os.path.exists(path + ".new"))
+            cases.check("the replacement that its owner writes stays", os.path.exists(path + ".new"))
             os.unlink(path + ".new")
             cases.says("in this one", driver, f"1 open {path}", "Locked")
             cases.says("by a link", other, f"open {link}", "Locked")
             cases.says("replace", driver, "replace 610a", "ok")
-            cases.says("behind a replacement", other, f"open {path}", "Locked")
+            cases.says("after a replacement", other, f"open {path}", "Locked")
             cases.says("the file is as it was", driver, "read", "610a ok")
-        cases.says("behind a kill", other, f"open {path}", "ok")
+        cases.says("after a kill", other, f"open {path}", "ok")
         cases.says("read", other, "read", "610a ok")
         cases.says("close", other, "close", "ok")
         with Driver(cases.words) as driver:
@@ -136,17 +136,17 @@ def what_crashes_leave(cases):
     write(path, b"event-clock: 3\n")
     write(path + ".new", b"event-cl")
     with Driver(cases.words) as driver:
-        cases.says("open beside what a crash left", driver, f"open {path}", "ok")
-        cases.check("that is gone", not os.path.exists(path + ".new"))
+        cases.says("open next to what a crash left", driver, f"open {path}", "ok")
+        cases.check("what it left is removed", not os.path.exists(path + ".new"))
         cases.says("the text stays", driver, "read", b"event-clock: 3\n".hex() + " ok")
         cases.says("replace", driver, "replace 61", "ok")
     with Driver(cases.words) as driver:
-        # an owner that renames between another's opening and its lock
+        # (an owner that renames between another one's opening and its lock)
         write(path + ".other", b"b")
         cases.says("open", driver, f"open {path}", "ok")
         os.rename(path + ".other", path)
         with Driver(cases.words) as other:
-            cases.says("the file that has the name counts", other, f"open {path}", "ok")
+            cases.says("the file that has the name now is used", other, f"open {path}", "ok")
             cases.says("read", other, "read", "62 ok")
 
 
@@ -169,7 +169,7 @@ def no_plain_files(cases):
             cases.says(name, driver, f"open {path}", "NotAFile")
         cases.says("no folder", driver, f"open {cases.path('none')}/file", "MissingFolder")
         cases.says("a file in a folder's place", driver, f"open {cases.path('file')}/file", "MissingFolder")
-        cases.says("a good one, behind all these", driver, f"open {cases.path('good')}", "ok")
+        cases.says("a good one, after all these", driver, f"open {cases.path('good')}", "ok")
     cases.check(
         "nothing was made", not os.path.exists(cases.path("nowhere")) and not os.path.exists(cases.path("none"))
     )
@@ -189,7 +189,7 @@ def read_only(cases):
         cases.says("a file in it that may be written", driver, f"open {folder}/written", "ok")
         cases.says("append", driver, "append 620a", "ok")
         cases.says("it can't be replaced", driver, "replace 63", "ReadOnly")
-        cases.says("and takes nothing more", driver, "append 64", "Broken")
+        cases.says("and accepts nothing more", driver, "append 64", "Broken")
         cases.says("its text stays", driver, "read", "610a620a ok")
     os.chmod(folder, 0o755)
 
@@ -207,7 +207,7 @@ def full(cases):
         cases.says("open again", driver, f"open {path}", "ok")
         cases.says("replace on a full disk", driver, f"replace {much}{much}", "Full")
         cases.check(
-            "the old text stays", read(path).startswith(b"a" * 40) and cases.is_nothing_beside(path), read(path)
+            "the old text stays", read(path).startswith(b"a" * 40) and cases.leaves_no_new_file(path), read(path)
         )
         cases.says("close a broken one", driver, "close", "ok")
         cases.says("open a third time", driver, f"open {path}", "ok")

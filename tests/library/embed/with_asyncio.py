@@ -1,4 +1,4 @@
-"""A host with asyncio, whose function stands in the README of the binding in Python: prints `FAILED ..` for what isn't as said,
+"""A host with asyncio, whose function is in the README of the binding in Python: prints `FAILED ..` for each check that fails,
 and 'N passed, M failed'.
 
     with_asyncio.py FOLDER

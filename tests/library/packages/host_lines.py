@@ -1,11 +1,11 @@
-"""Programs around the lines of hosts that docs/HOST.md shows: each fires `deploy v1` at an agent beta, and gives its packet to those
-lines, whose handler prints what it is handed. The one in Go is a node of a cluster, and is compiled alone."""
+"""Programs around the lines of hosts that docs/HOST.md shows: each fires `deploy v1` at an agent beta, and passes its packet to those
+lines, whose handler prints what it is handed. The one in Go is a node of a cluster, and is only compiled."""
 
 import textwrap
 
 import pages
 
-# How the lines of each language begin, as tests/pages.py tells them.
+# The first words of each language's lines, as in tests/pages.py.
 BEGINS = {"c": "serf_agent_receive(&agent,", "python": "with", "rust": "let", "go": "node,"}
 
 SAYS = "deploy v1\n"

@@ -1,5 +1,5 @@
-"""What of the installed package isn't typed, a line each: methods and functions without a type or with one that means nothing,
-no py.typed, a wrong version."""
+"""Prints what isn't typed in the installed package, one line each: methods and functions without a type or with a type that says
+nothing, a missing py.typed, a wrong version."""
 
 import importlib.metadata
 import inspect
@@ -17,7 +17,7 @@ def callables():
             yield name, found
         elif inspect.isclass(found) and found.__module__.startswith("serf_agent"):
             own = {key: value for key, value in vars(found).items() if inspect.isfunction(value) and value.__module__.startswith("serf_agent")}
-            # (what a dataclass makes has its types from the fields)
+            # (a dataclass's own methods have their types from the fields)
             yield from ((f"{name}.{key}", value) for key, value in own.items() if not hasattr(found, "__dataclass_fields__") or not key.startswith("__"))
 
 

@@ -1,7 +1,7 @@
-"""A disk under the calls of a trace: what is there, and what a power cut may leave of it.
+"""A disk under the calls of a trace: its files, and what a power cut may leave of them.
 
-Sure to be there after a cut are a file's bytes up to its last sync, and a folder's entries up to its last sync. Of the
-rest a cut may leave, by the names of any prefix of the folder's changes, any prefix of what was appended to the file of
+Two things are sure after a cut: a file's bytes up to its last sync, and a folder's entries up to its last sync. Of the
+rest a cut may leave any prefix of the folder's changes to its names, and any prefix of what was appended to the file of
 that name, or zeros in its place.
 """
 
@@ -16,7 +16,7 @@ class File:
 
     def __init__(self, data=b"", sure=0):
         self.data, self.sure = data, sure
-        # where it was given the name of another: the number of that rename, and what it had by then
+        # if it got the name of another file: the number of that rename, and the file's content by then
         self.renamed, self.renamed_with = 0, b""
 
 
@@ -43,7 +43,7 @@ class Disk:
         self.renames = 0
 
     def put(self, name, data, is_sure):
-        """A file that was there when the trace began. Not sure: an earlier process left it, and synced nothing."""
+        """A file that existed when the trace began. If it is not sure, an earlier process left it, and synced nothing."""
         file = File(data, len(data) if is_sure else 0)
         self.change("make", name, file)
         if is_sure:
@@ -66,8 +66,8 @@ class Disk:
         return self.names.get(self.name)
 
     def cuts(self, lengths):
-        """Each file that the name can have after a cut now, and its text; (None, b"") where it has none. lengths says
-        of a file up to which bytes it may be there."""
+        """Each file that the name can have after a cut now, and its text; (None, b"") if the name has no file. lengths returns
+        for a file up to which bytes it may be there."""
         names, found = self.sure_names, set()
         for change in [None, *self.pending]:
             names = names if change is None else changed(names, change)
@@ -82,7 +82,7 @@ def texts_left(file, lengths):
     whole = len(file.data)
     for end in lengths(file.sure, whole):
         yield file.data[:end]
-        # its length came to the disk, and its bytes did not
+        # (its length reached the disk, and its bytes did not)
         yield file.data[:end] + bytes(whole - end)
 
 
@@ -91,7 +91,7 @@ def each_length(sure, whole):
 
 
 def few_lengths(drawn):
-    """Some of the lengths: the least, the greatest, and one that is drawn."""
+    """Some of the lengths: the smallest, the largest, and a random one."""
 
     def lengths(sure, whole):
         return sorted({sure, drawn.randint(sure, whole), whole})
@@ -105,12 +105,12 @@ def is_saying(call):
 
 
 class Walk:
-    """Goes through a trace. Iterating gives, behind each call that changed the disk or said something, what was said in
-    it, or None."""
+    """Walks through a trace. After each call that changed the disk or wrote a line, an iteration returns what this line
+    said, or None."""
 
     def __init__(self, disk, calls):
         self.disk, self.calls = disk, calls
-        # which file a number is, and which numbers are the folder
+        # the file of each number, and the numbers of the folder
         self.files, self.folders = {}, set()
 
     def __iter__(self):
@@ -121,7 +121,7 @@ class Walk:
                 yield None
 
     def does(self, call):
-        """Does a call that came through; whether it changed the disk."""
+        """Makes a successful call; returns whether it changed the disk."""
         number = int(call.args.split(",")[0]) if re.match(r"\d", call.args) else None
         if call.name in ("openat", "open", "creat"):
             return self.opens(call)
@@ -137,7 +137,7 @@ class Walk:
             self.numbers(call, number)
             return False
         if number in self.files or number in self.folders or any(self.place(call, at) for at in range(len(call.texts))):
-            raise Unread(f"the store calls {call.name}, which isn't played here")
+            raise Unread(f"the store calls {call.name}, which isn't simulated here")
         return False
 
     def place(self, call, at):
@@ -161,7 +161,7 @@ class Walk:
         if name is None:
             return False
         if "O_TRUNC" in call.args or call.name == "creat":
-            raise Unread("the store cuts a file to nothing, which isn't played here")
+            raise Unread("the store truncates a file, which isn't simulated here")
         if name not in self.disk.names:
             if "O_CREAT" not in call.args:
                 return False

@@ -1,21 +1,21 @@
-"""Faults that are planted into copies of the stores' sources, by edits of their text.
+"""Bugs that are planted into copies of the stores' sources, by edits of their text.
 
-A fault is one sync that is missing or comes late. In C, Python, Go and Rust one copy has them all, and the
-environment's FAULT_NAME says which is on; of `FileStore` each has a copy of its own.
+A bug is one sync that is missing or late. In C, Python, Go and Rust one copy has them all, and the
+environment's POWER_CUTS_FAULT selects the one that is on; for `FileStore` there is a separate copy for each.
 """
 
 import os
 
 FAULT_NAME = "POWER_CUTS_FAULT"
 
-# The copy that has them all, and none is on: it is as good as the store itself.
+# The copy that has them all while none is on: it works as well as the store itself.
 NONE = "none"
 
-# What each fault takes away.
+# What each bug removes.
 FAULTS = {
     "line": "no sync of the line",
     "text": "no sync of the new text before the rename",
-    "name": "no sync of the folder behind the rename",
+    "name": "no sync of the folder after the rename",
     "opened_text": "no sync of the text at opening",
     "opened_name": "no sync of the folder at opening",
     "late": "the line synced by the next append: handed out before",
@@ -24,18 +24,18 @@ FAULTS = {
 
 
 class NotThere(Exception):
-    """The text that an edit takes out isn't in its file just once."""
+    """The text that an edit replaces isn't in its file exactly once."""
 
 
 def edit(folder, edits):
-    """Applies edits to files below a folder: of each file, pairs of what stands there once and what comes there."""
+    """Applies edits to files below a folder: for each file, pairs of a text that is in it exactly once and its replacement."""
     for name, pairs in edits.items():
         path = os.path.join(folder, name)
         with open(path, encoding="utf-8") as file:
             text = file.read()
         for old, new in pairs:
             if text.count(old) != 1:
-                raise NotThere(f"{name}: the text to take out isn't there, or not once: {old!r}")
+                raise NotThere(f"{name}: the text to replace isn't there exactly once: {old!r}")
             text = text.replace(old, new)
         with open(path, "w", encoding="utf-8") as file:
             file.write(text)
@@ -160,7 +160,7 @@ func syncFolder("""),
         ("\t\tfile.Sync,\n", '\t\tfunc() error { return unless("text", file.Sync) },\n'),
         ("return syncFolder(s.path)", 'return unless("name", func() error { return syncFolder(s.path) })'),
         ("err = file.Sync()", 'err = unless("opened_text", file.Sync)'),
-        ("err = syncFolder(real)", 'err = unless("opened_name", func() error { return syncFolder(real) })'),
+        ("err = syncFolder(resolved)", 'err = unless("opened_name", func() error { return syncFolder(resolved) })'),
     ],
     "serfagent/agent.go": [
         ("err = a.store.Replace(data)", "err = later(a.store.Replace, data)"),
@@ -223,7 +223,7 @@ impl Agent {
     ],
 }
 
-# Each fault of `FileStore` by itself: what is taken out of src/store.rt.
+# Each bug of `FileStore` separately: what is removed from src/store.rt.
 NO_SYNC_OF_THE_LINE = ("self.failures > 0 || self.file.sync().is_err()", "self.failures > 0")
 FILE_STORE = {
     "line": [NO_SYNC_OF_THE_LINE],

@@ -43,7 +43,7 @@ func tellPacket(packet []byte) {
 	}
 }
 
-func (h *host) tellQuery(handed *serfagent.Handed, ack []byte) {
+func (h *host) tellQuery(handed *serfagent.PendingQuery, ack []byte) {
 	if handed != nil {
 		h.asked = handed.Number
 		fmt.Printf("h %d %d\n", handed.Time, handed.ID)
@@ -65,7 +65,7 @@ func (h *host) tellReceived(received *serfagent.Received) {
 	h.tellQuery(received.Query, received.Ack)
 }
 
-func (h *host) tellAsked(asked *serfagent.Asked) {
+func (h *host) tellAsked(asked *serfagent.FiredQuery) {
 	tellPacket(asked.Packet)
 	h.tellQuery(asked.Query, asked.Ack)
 }
@@ -99,8 +99,8 @@ func (h *host) burst(words string) error {
 			h.tellReceived(outcome.Received)
 		case outcome.Fired != nil:
 			tellFired(outcome.Fired.Event, outcome.Fired.Packet)
-		case outcome.Asked != nil:
-			h.tellAsked(outcome.Asked)
+		case outcome.FiredQuery != nil:
+			h.tellAsked(outcome.FiredQuery)
 		}
 	}
 	return err

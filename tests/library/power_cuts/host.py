@@ -1,4 +1,4 @@
-"""A host over the package of bindings/python, driven by lines: hosts.py says which."""
+"""A host over the package of bindings/python, driven by lines that hosts.py describes."""
 
 import sys
 
@@ -38,7 +38,7 @@ class Host:
             say("p", ack.hex())
 
     def tell(self, outcome):
-        """What a packet, an event or a query gave."""
+        """The result of a packet, an event or a query."""
         if isinstance(outcome, Fired):
             self.tell_events([outcome.event])
         if isinstance(outcome, (Fired, Asked)):
@@ -57,7 +57,7 @@ class Host:
 
     @staticmethod
     def call(to, kind, data):
-        """Receives or fires: of an agent, or of a burst."""
+        """Receives or fires, by an agent or by a burst."""
         if kind == "r":
             return to.receive(0, data)
         if kind == "f":

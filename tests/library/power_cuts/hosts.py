@@ -1,7 +1,7 @@
-"""The hosts of the five stores, as they are and with faults planted.
+"""The hosts of the five stores, unchanged and with planted bugs.
 
-A host is driven by lines of its standard input. It answers each by what that hands out, and then by `ok` or `Failed`;
-each line that it says is one write, so a trace has it.
+A host is driven by lines of its standard input. It answers each by what the line hands out, and then by `ok` or `Failed`;
+each line that it prints is one write, so a trace has it.
 
     open PATH, append HEX, replace HEX, close     a store alone
     o PATH, O PATH, x                             an agent over the store at this path, one that keeps its events and whose joins
@@ -33,13 +33,13 @@ class NotBuilt(Exception):
 
 
 class Store:
-    """A store: its hosts' words and environment, with none of the faults or with one of those that can be planted."""
+    """A store: its hosts' words and environment, without a bug or with one of those that can be planted."""
 
     def __init__(self, name, plants):
         self.name, self.plants = name, plants
-        # how many of the texts that cuts leave in a life are opened again, where not all are
+        # how many of the texts that cuts leave in a life are opened again, if not all are
         self.most_opened = None
-        # whether its host knows bursts
+        # whether its host supports bursts
         self.has_bursts = True
 
     def words(self, fault):
@@ -143,7 +143,7 @@ class InRattle(Store):
 
 
 class Places:
-    """Where what is built and run here stands."""
+    """The places of what is built and run here."""
 
     def __init__(self, folder, library):
         self.folder, self.library = folder, library
@@ -162,7 +162,7 @@ class Places:
         return path
 
 
-# Each store, with the command that has to be there to build its host.
+# Each store, with the command that has to be installed to build its host.
 STORES = {
     "C": (InC, None),
     "Python": (InPython, None),

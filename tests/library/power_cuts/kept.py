@@ -1,6 +1,6 @@
 """Power cuts of agents that keep their events: what the next life hands out, and what it misses.
 
-A hand-out is a line as a host says it: `e TIME NAME` of an event, `h TIME ID` of a query.
+A hand-out is a line that a host prints: `e TIME NAME` for an event, `h TIME ID` for a query.
 """
 
 import re
@@ -25,14 +25,14 @@ def handed_by(packet):
 
 
 def wanted_of(run):
-    """What all packets of a run bring that no life is to miss: all but what was handed out before its file began."""
+    """Everything in the packets of a run that no life may miss: all except what was handed out before its file began."""
     clocks = scripts.clocks_of(run.text or b"")
     offered = set().union(*(handed_by(packet) for packet in run.packets()))
     return frozenset(line for line in offered if int(line.split()[1]) > clocks[line[0]])
 
 
 def noted_in(text):
-    """The events and queries that have whole lines of their own in a text."""
+    """The events and queries that have whole lines in a text."""
     found = set()
     for line in text.split(b"\n")[:-1]:
         event, query = EVENT.fullmatch(line), QUERY.fullmatch(line)
@@ -44,30 +44,30 @@ def noted_in(text):
 
 
 def least_in(text):
-    """The least time of events that a text's `#least` lines say; 0 where there is none."""
+    """The minimum time of events that a text's `#least` lines have; 0 if there is none."""
     found = [LEAST.fullmatch(line) for line in text.split(b"\n")[:-1]]
     return max((int(line[1]) for line in found if line), default=0)
 
 
 def is_taken(line, least):
-    """Whether a hand-out may come where no event below this time is taken."""
+    """Whether a hand-out is allowed if no event below this time is accepted."""
     return line[0] != "e" or int(line.split()[1]) >= least
 
 
 def has_own_line(said, text):
-    """Whether the hand-out that a host says has its line in a text."""
+    """Whether the hand-out that a host printed has its line in a text."""
     return said in noted_in(text)
 
 
 class Missed:
-    """What lives behind cuts didn't hand out, though nobody did: what was in flight, its line whole and no handler run; and
-    all else."""
+    """What lives after cuts didn't hand out, though no life before did: what was in flight, its line whole and no handler run; and
+    everything else."""
 
     def __init__(self):
         self.openings = self.in_flight = self.openings_with_flight = self.others = 0
 
     def note(self, text, before, wanted, again):
-        """Notes an opening on a text behind which everything was offered again. Gives what it missed, but for what was in flight, and for
+        """Adds an opening on a text after which everything was offered again. Returns what it missed, except what was in flight, and
         what a join had refused."""
         least = least_in(text)
         missed = {line for line in wanted - before - again if is_taken(line, least)}
@@ -90,14 +90,14 @@ class Missed:
 
 
 def of_opening(seen, text, before, wanted, again, missed, least):
-    """What an agent that keeps its events does wrong on a text that a cut left. least: the least time that joins had set."""
+    """What an agent that keeps its events does wrong on a text that a cut left. least: the minimum time that joins had set."""
     if least_in(text) < least:
-        seen.wrong(f"it was left {text!r}, and a join set the least time {least}")
+        seen.wrong(f"it was left {text!r}, and a join set the minimum time {least}")
     old = [line for line in again if not is_taken(line, least)]
     if old:
-        seen.wrong(f"it was left {text!r}, and hands out {sorted(old)[:3]}; a join set the least time {least}")
+        seen.wrong(f"it was left {text!r}, and hands out {sorted(old)[:3]}; a join set the minimum time {least}")
     others = missed.note(text, before, wanted, again)
     if others:
         seen.wrong(f"it was left {text!r}, and misses {sorted(others)[:3]}")
     if noted_in(text) & again:
-        seen.wrong(f"it was left {text!r}, and hands out {sorted(noted_in(text) & again)[:3]}, which it has in it")
+        seen.wrong(f"it was left {text!r}, and hands out {sorted(noted_in(text) & again)[:3]}, whose lines it has")

@@ -1,4 +1,4 @@
-"""What has to hold at each cut: of a store, of an agent over it, and of the order of sync and hand-out."""
+"""What has to hold at each cut: for a store, for an agent over it, and for the order of sync and hand-out."""
 
 import re
 from collections import namedtuple
@@ -8,17 +8,17 @@ from scripts import messages
 
 CLOCK = re.compile(rb"^(event-clock|query-clock|clock): (\d+)$")
 
-# What a file was when a call was answered: its text, and how many renames there were by then.
+# A file at the time when a call was answered: its text, and how many renames there were by then.
 Promise = namedtuple("Promise", "text renames")
 
 
 def promise_of(disk):
-    """What the disk has as a call is answered by Ok."""
+    """What the disk has while a call is answered by Ok."""
     return Promise(disk.file().data if disk.file() else b"", disk.renames)
 
 
 class Seen:
-    """What was looked at in a walk: how many cuts, and what was wrong."""
+    """What was checked in a walk: how many cuts, and what was wrong."""
 
     def __init__(self):
         self.cuts, self.faults = 0, []
@@ -28,14 +28,14 @@ class Seen:
 
 
 def keeps(promise, file, text):
-    """Whether a text that a cut leaves has all of what was promised, or is the whole of what replaces it."""
+    """Whether a text that a cut leaves has everything that was promised, or is the whole text that replaces it."""
     if promise is None or text.startswith(promise.text):
         return True
     return file is not None and file.renamed > promise.renames and text.startswith(file.renamed_with)
 
 
 def look(seen, disk, promise, lengths):
-    """Each file and text that a cut leaves now; what was promised has to be in it."""
+    """Checks each file and text that a cut leaves now: what was promised has to be in it."""
     for file, text in disk.cuts(lengths):
         seen.cuts += 1
         if not keeps(promise, file, text):
@@ -43,17 +43,17 @@ def look(seen, disk, promise, lengths):
         yield text
 
 
-# The store by its lines.
+# A store driven by lines.
 
 
 class Told:
-    """What a store was told in a script, and so what its file has to be once a line is answered."""
+    """The lines that a store got in a script, and so what its file has to be once a line is answered."""
 
     def __init__(self, old, answered):
         self.text, self.answered = old, answered
 
     def is_wrong(self, number, live):
-        """Whether the answer of this number is Ok, and the file isn't what it was told to be."""
+        """Whether the answer of this number is Ok, and the file isn't what the lines made it."""
         line, answer = self.answered[number]
         call, _, word = line.partition(" ")
         wanted = self.text
@@ -87,7 +87,7 @@ def of_store(walk, old, answered, lengths):
 
 
 class Handed:
-    """What was handed out so far: events and queries, and the greatest time of each; and the least time that joins set."""
+    """What was handed out so far: events and queries, and the largest time of each; and the minimum time that joins set."""
 
     def __init__(self):
         self.all, self.events, self.queries, self.least = frozenset(), 0, 0, 0
@@ -103,7 +103,7 @@ class Handed:
 
 
 def clocks_in(text):
-    """The greatest time of each kind of line that is whole in a text."""
+    """The largest time of each kind of line that is whole in a text."""
     found = {b"event-clock": 0, b"query-clock": 0, b"clock": 0}
     for line in text.split(b"\n")[:-1]:
         whole = CLOCK.match(line)
@@ -113,7 +113,7 @@ def clocks_in(text):
 
 
 def is_sent_on(line):
-    """Whether a packet that is handed over is an event or a query, which comes back by the network."""
+    """Whether a packet that is handed over is an event or a query, which the network sends back."""
     return isinstance(messages.decode(bytes.fromhex(line[2:])), (messages.UserEvent, messages.Query))
 
 
@@ -129,8 +129,8 @@ def least_of(line):
 
 
 def of_order(seen, disk, line, lengths, keeps_events):
-    """Level c: at a hand-out each cut leaves the line that it rests on, and all else that was written. Where events are kept,
-    an event and a query have lines of their own too."""
+    """Level c: at a hand-out each cut leaves the line that it needs, and everything else that was written. If events are kept,
+    an event and a query have separate lines too."""
     clock, least = least_of(line)
     live = disk.file().data if disk.file() else b""
     for _, text in disk.cuts(lengths):
@@ -144,8 +144,8 @@ def of_order(seen, disk, line, lengths, keeps_events):
 
 
 def of_agent(walk, lengths, keeps_events=False, least_after=()):
-    """Levels b and c, but for the openings: what was looked at in each, and at each cut the text that is left and what
-    was handed out before it, once each. least_after: of each answer the least time that joins have set by then."""
+    """Levels b and c, without the openings: what was checked in each, and at each cut the text that is left and what
+    was handed out before it, once each. least_after: for each answer the minimum time that joins have set by then."""
     whole, order, handed = Seen(), Seen(), Handed()
     disk, promise, left, leasts = walk.disk, None, {}, iter(least_after)
     for said in walk:
@@ -163,11 +163,11 @@ def of_agent(walk, lengths, keeps_events=False, least_after=()):
 
 
 def of_opening(seen, text, before, greatest, after):
-    """What the agent that is opened on a text does wrong, where `before` was handed out. after: what it hands out when
-    it is offered everything again, and the times at which it fires an event and a query at first."""
+    """What the agent that is opened on a text does wrong, if `before` was handed out. after: what it hands out when
+    everything is offered to it again, and the times at which it first fires an event and a query."""
     events, queries, _ = greatest
     again, fired, asked = after
     if before & again:
         seen.wrong(f"it was left {text!r}, and hands out {sorted(before & again)[:3]} again")
     if fired <= events or asked <= queries:
-        seen.wrong(f"it was left {text!r}, and fires at {fired} and asks at {asked}; {(events, queries)} were handed out")
+        seen.wrong(f"it was left {text!r}, and fires at {fired} and queries at {asked}; {(events, queries)} were handed out")

@@ -1,4 +1,4 @@
-"""Lives of a store, traced: what is told, which of its calls fail, and what is looked at."""
+"""Lives of a store, traced: its lines, which of its calls fail, and what is checked."""
 
 import itertools
 import os
@@ -11,7 +11,7 @@ import levels
 import scripts
 import traces
 
-# What the calls of the system say that are played to fail.
+# The errors of the system calls that are made to fail.
 ERRORS = {
     "write": "ENOSPC",
     "openat": "ENOSPC",
@@ -24,14 +24,14 @@ ERRORS = {
 
 
 def with_room(size):
-    """The words before a host's whose files may have so many bytes: a write beyond them comes through in part, and the
+    """The words before those of a host whose files may have so many bytes: a write beyond them succeeds in part, and the
     next one fails."""
     return ["env", "--ignore-signal=XFSZ", "prlimit", f"--fsize={size}"]
 
 
 class Run:
-    """A store driven by lines from a beginning on: its calls of the system, and each line with what it handed out and
-    its answer. After a fault it is opened again, as its user has to."""
+    """A store driven by lines from a beginning on: its system calls, and each line with what it handed out and
+    its answer. After an error it is opened again, as its user has to do."""
 
     def __init__(self, store, lines, beginning, room, fault=None, failing=None, before=()):
         self.store, self.beginning = store, beginning
@@ -64,16 +64,16 @@ class Run:
         return [(line, answer) for line, _, answer in self.answered]
 
     def least_after(self):
-        """The least time that joins have set by each answer."""
+        """The minimum time that joins have set by each answer."""
         joined = (scripts.join_clock(line) if answer == "ok" else 0 for line, _, answer in self.answered)
         return list(itertools.accumulate(joined, max))
 
     def faults(self):
-        """How often a call was answered by a fault."""
+        """How often a call was answered by an error."""
         return sum(answer != "ok" for _, _, answer in self.answered)
 
     def syncs_of_lines(self):
-        """How often the lines that a burst appended were synced, of each burst."""
+        """How often the lines that a burst appended were synced, for each burst."""
         counts, syncs = [], 0
         for call in self.calls:
             syncs += call.name == "fdatasync"
@@ -83,14 +83,14 @@ class Run:
         return [count for line, count in zip([line for line, _, _ in self.answered], counts) if line.startswith("b ")]
 
     def packets(self):
-        """The packets that it was given, and those that it handed over, as they come back by the network."""
+        """The packets that it got, and those that it handed over, as the network sends them back."""
         handed = [said for _, handed, _ in self.answered for said in handed]
         own = ["r " + said[2:] for said in handed if said.startswith("p ") and levels.is_sent_on(said)]
         return list(dict.fromkeys([*scripts.packets_in(self.lines), *own]))
 
     def failing_places(self):
-        """The calls of the system that can be made to fail, behind the first opening: strace's words for each, by the
-        name of the call and what it is of."""
+        """The system calls that can be made to fail, after the first opening: strace's words for each, by the
+        name of the call and the file that it is for."""
         walk, counts, found, opened = self.walk(), {}, {}, False
         for call in self.calls:
             counts[call.thread, call.name] = counts.get((call.thread, call.name), 0) + 1
@@ -116,19 +116,19 @@ def of_store(run):
 
 
 def of_agent(run, drawn, keeps_events=False):
-    """Levels b and c of a run, but for the openings."""
+    """Levels b and c of a run, without the openings."""
     return levels.of_agent(run.walk(), disks.few_lengths(drawn), keeps_events, run.least_after())
 
 
 class Openings:
-    """Texts that cuts left, each opened again by the store's own host, without a fault, in one process."""
+    """Texts that cuts left, each opened again by the store's own host, without a planted bug, in one process."""
 
     def __init__(self, store, room):
         self.store, self.room = store, room
 
     def of(self, texts, packets, opening="o"):
-        """Of each text what the agent that is opened on it hands out when it is offered all packets, and the times at
-        which it fires and asks before it is offered any. opening: the word of a line that opens an agent."""
+        """For each text, what the agent that is opened on it hands out when all packets are offered to it, and the times at
+        which it fires and queries before any is offered. opening: the word of a line that opens an agent."""
         with tempfile.TemporaryDirectory(dir=self.room) as folder:
             lines = []
             for number, text in enumerate(texts):
@@ -145,7 +145,7 @@ class Openings:
         for number in range(count):
             own = answered[number * each : (number + 1) * each]
             if any(answer != "ok" for _, answer in own):
-                raise traces.Unread(f"{self.store.name}: an opening behind a cut ends in a fault: {own}")
+                raise traces.Unread(f"{self.store.name}: an opening after a cut ends with an error: {own}")
             again = {line for handed, _ in own[: packets + 1] for line in handed if line[0] in "eh"}
             times = [
                 int(line.split()[1])
@@ -158,15 +158,15 @@ class Openings:
 
 
 def some_of(left, drawn, most):
-    """So many of the texts that cuts left, with what was handed out before; all of them where `most` is None."""
+    """So many of the texts that cuts left, with what was handed out before; all of them if `most` is None."""
     if most is None:
         return left
     return {it: left[it] for it in drawn.sample(list(left), min(most, len(left)))}
 
 
 def open_again(seen, store, left, packets, room):
-    """Level b: each text that a cut left is opened again, and held against what was handed out before that cut. How
-    many they were."""
+    """Level b: each text that a cut left is opened again, and compared with what was handed out before that cut. Returns how
+    many texts there were."""
     texts = list(dict.fromkeys(text for text, _ in left))
     after = dict(zip(texts, Openings(store, room).of(texts, packets)))
     for (text, before), greatest in left.items():
@@ -175,8 +175,8 @@ def open_again(seen, store, left, packets, room):
 
 
 def open_again_kept(seen, store, left, run, room):
-    """Level d: each text that a cut left of a life that kept its events is opened again, with the setting and without it. How many
-    texts they were, and what each of the two missed."""
+    """Level d: each text that a cut left of a life that kept its events is opened again, with the setting and without it. Returns
+    how many texts there were, and what each of the two missed."""
     texts, wanted = list(dict.fromkeys(text for text, _ in left)), kept.wanted_of(run)
     missed = {opening: kept.Missed() for opening in ("O", "o")}
     for opening, of_opening in missed.items():
@@ -191,5 +191,5 @@ def open_again_kept(seen, store, left, run, room):
 
 
 def drawn_for(seed, *names):
-    """The random choices of one part, by the seed."""
+    """The random choices of one part, from the seed."""
     return random.Random(" ".join([str(seed), *names]))

@@ -1,4 +1,4 @@
-"""What hosts are told to do: lines, drawn by a seed. hosts.py says what a line means."""
+"""Random lines for hosts, from a seed. hosts.py describes what a line means."""
 
 import os
 import sys
@@ -6,14 +6,14 @@ import sys
 sys.path.insert(0, os.path.join(os.path.dirname(os.path.abspath(__file__)), "..", "..", "..", "conformance", "python"))
 from serf_agent import messages
 
-# How a file is when a host first opens it: its text, whether the process that wrote it synced it, and what a crash left
-# beside it.
+# The file when a host first opens it: its text, whether the process that wrote it synced it, and what a crash left
+# next to it.
 OLD = b"clock: 2\nevent-clock: 3\nquery-clock: 1\n"
 BEGINNINGS = {"no file": (None, True), "a file": (OLD, True), "a file that was never synced": (OLD, False)}
 
 
 def clocks_of(text):
-    """The numbers of a beginning's lines of events and of queries, by how a hand-out of each begins; 0 where there is none."""
+    """The numbers of a beginning's lines of events and of queries, by the first word of their hand-outs; 0 if there is none."""
     found = {"e": 0, "h": 0}
     for line in text.decode("ascii").splitlines():
         kind, number = line.split(": ")
@@ -43,7 +43,7 @@ def event(time, name):
 
 
 def query(time, number, name):
-    # the first flag asks for an ack
+    # the first flag requests an ack
     return "r " + messages.encode_query(messages.Query(time, number, b"", 0, b"other", [], 1, 0, 1000, name, b"")).hex()
 
 
@@ -76,7 +76,7 @@ class Calls:
         return state(self.time + 1, times, lambda _: [self.name() for _ in range(self.drawn.randint(1, 2))])
 
     def all(self):
-        """One of each kind, and some of those that write, in an order that is drawn; some packets come twice."""
+        """One of each kind, and some of those that write, in a random order; some packets are repeated."""
         drawn = self.drawn
         own = [lambda: "f " + self.name().hex(), lambda: "q " + self.name().hex(), lambda: "p", lambda: "k"]
         foreign = [
@@ -104,12 +104,12 @@ def of_an_agent(drawn):
 
 
 def compacting(drawn):
-    """A life with a compaction behind each call."""
+    """A life with a compaction after each call."""
     return [word for line in Calls(drawn).all() for word in (line, "c")]
 
 
 def joining(drawn):
-    """A life with joins. The clock of each state is one of its events' times, so a join that ignores old events takes some of them."""
+    """A life with joins. The clock of each state is one of its events' times, so a join that ignores old events accepts some of them."""
     calls, lines = Calls(drawn), []
     for line in calls.all():
         lines.append(line)
@@ -122,12 +122,12 @@ def joining(drawn):
 
 
 def join_clock(line):
-    """The event clock of the state that a line joins by; 0 of all other lines."""
+    """The event clock of the state with which a line joins; 0 for all other lines."""
     return messages.decode(bytes.fromhex(line[2:])).EventLTime if line[0] == "j" else 0
 
 
 def bursting(drawn):
-    """A life whose packets and firings come in bursts of one to six, as far as nothing else stands between them."""
+    """A life whose packets and firings are made in bursts of one to six, if nothing else is between them."""
     lines, burst = [], []
     for line in [*Calls(drawn).all(), *Calls(drawn).all(), "c"]:
         is_over = line[0] not in "rfq" or len(burst) > drawn.randint(0, 5)
@@ -142,7 +142,7 @@ def bursting(drawn):
 
 
 def packets_in(lines):
-    """The packets that the lines give, and those of bursts as if they came alone."""
+    """The packets of the lines, and those of bursts as if they were separate lines."""
     alone = [f"{word[0]} {word[1:]}" for line in lines if line[0] == "b" for word in line.split()[1:]]
     joins = ["m" + line[1:] for line in lines if line[0] == "j"]
     return [line for line in [*lines, *alone, *joins] if line[0] in "rm"]

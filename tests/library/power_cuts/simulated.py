@@ -1,4 +1,4 @@
-"""The disk that is played here, beside traces that are written by hand: what each cut may leave, no more, no less."""
+"""Checks the simulated disk with traces that are written by hand: what each cut may leave, no more, no less."""
 
 import os
 
@@ -31,7 +31,7 @@ SYNCED_FOLDER = call(1, "fsync", 9)
 
 
 def after(lines, old=None, is_sure=True):
-    """Each text that a cut behind these lines leaves."""
+    """Each text that a cut after these lines leaves."""
     disk = disks.Disk(FOLDER, "file")
     if old is not None:
         disk.put("file", old, is_sure)
@@ -40,14 +40,14 @@ def after(lines, old=None, is_sure=True):
     return {text for _, text in disk.cuts(disks.each_length)}
 
 
-# What was called, and each text that a cut may leave.
+# The calls that were made, and each text that a cut may leave.
 MADE = [opened("file", 3), OPENED_FOLDER]
 CASES = {
     "a file that was just made": (MADE, None, {b""}),
     "bytes that aren't synced": ([*MADE, SYNCED_FOLDER, wrote(3, "ab")], None, {b"", b"a", b"ab", b"a\0", b"\0\0"}),
     "bytes that are": ([*MADE, SYNCED_FOLDER, wrote(3, "ab"), call(1, "fdatasync", 3)], None, {b"ab"}),
     "bytes that are, of a name that isn't": ([*MADE, wrote(3, "ab"), call(1, "fdatasync", 3)], None, {b"", b"ab"}),
-    "bytes behind those that are": ([opened("file", 3), wrote(3, "b")], b"a", {b"a", b"a\0", b"ab"}),
+    "bytes after those that are": ([opened("file", 3), wrote(3, "b")], b"a", {b"a", b"a\0", b"ab"}),
     "a sync that failed": (
         [opened("file", 3), wrote(3, "b"), call(1, "fsync", 3, result="-1 EIO (Input/output error) (INJECTED)")],
         b"a",
@@ -94,20 +94,20 @@ def is_refused(lines):
 
 
 def try_threads(count):
-    """What is said stands where it began, and a sync where it was done."""
+    """A line that is printed counts from its start, and a sync from its end."""
     said = (
         '1 write(1, "\\x65", 1 <unfinished ...>\n2 fdatasync(3 <unfinished ...>\n'
         "1 <... write resumed>) = 1\n2 <... fdatasync resumed>) = 0"
     )
     names = [it.name for it in traces.calls(said)]
-    count.check("simulated: said before a sync that is under way", names == ["write", "fdatasync"], names)
+    count.check("simulated: printed before a sync that is under way", names == ["write", "fdatasync"], names)
     other = '2 fdatasync(3 <unfinished ...>\n1 write(1, "\\x65", 1) = 1\n2 <... fdatasync resumed>) = 0'
     names = [it.name for it in traces.calls(other)]
-    count.check("simulated: a sync that ends behind what is said", names == ["write", "fdatasync"], names)
+    count.check("simulated: a sync that ends after a line is printed", names == ["write", "fdatasync"], names)
 
 
 def try_promises(count):
-    """A text is kept by itself and by what replaces it, and not by what it replaced."""
+    """A text is kept if it or the text that replaces it is there, and not if the text before it is."""
     disk = disks.Disk(FOLDER, "file")
     for name, text in {"first": b"a", "second": b"b", "third": b"c"}.items():
         disk.put(name, text, True)
@@ -132,7 +132,7 @@ def try_promises(count):
 def try_all(count):
     for name, (lines, old, wanted) in CASES.items():
         left = after(lines, old, name != "a file that was never synced")
-        count.check(f"simulated: {name}", left == wanted, f"{sorted(left)}, and {sorted(wanted)} is wanted")
+        count.check(f"simulated: {name}", left == wanted, f"{sorted(left)}, expected {sorted(wanted)}")
     for name, lines in REFUSED.items():
         count.check(f"simulated: {name} is refused", is_refused(lines))
     try_threads(count)

@@ -1,7 +1,7 @@
-"""Programs run under strace, and the calls of the system that they made, in order.
+"""Programs run under strace, and the system calls that they made, in order.
 
-Go's runtime makes its calls itself, so nothing that stands before the C library would see them; strace sees those of
-all.
+Go's runtime makes its calls itself, so a library that wraps the C library would not see them. strace sees the calls of all
+programs.
 """
 
 import contextlib
@@ -13,8 +13,8 @@ import tempfile
 import threading
 from collections import namedtuple
 
-# The calls that the disk plays (disks.py), those that say which file a number is, and those that it refuses to play: a
-# store that makes one has to be played first.
+# The calls that the disk simulates (disks.py), those that say which file a number is, and those that it refuses to simulate: a
+# store that makes one of these needs a simulation of it first.
 PLAYED = [
     "openat",
     "open",
@@ -52,13 +52,13 @@ WORDS = [
     "strace", "-f", "--seccomp-bpf", "-xx", "-s", "1000000", "-e", "signal=none", "-e", "trace=" + ",".join(TRACED)
 ]
 
-# A call: what it is, its words as strace writes them, the texts among them, what it gave, and the thread that made it.
+# A call: its name, its words as strace writes them, the texts among them, its result, and the thread that made it.
 Call = namedtuple("Call", "name args texts result thread")
 
 WHOLE = re.compile(r"^(\d+) +(\w+)\((.*)\) += (-?\d+|\?)")
 TEXT = re.compile(r'"((?:\\x[0-9a-f]{2})*)"(\.\.\.)?')
 
-# How a line begins that hands something out or over (hosts.py).
+# The first word of a line that hands something out or over (hosts.py).
 HANDED = ("e ", "h ", "p ")
 
 # How long a host may take, in seconds.
@@ -66,7 +66,7 @@ LIMIT = 300
 
 
 class Unread(Exception):
-    """The trace has something that isn't played here."""
+    """The trace has something that isn't simulated here."""
 
 
 def texts_of(args):
@@ -92,8 +92,8 @@ def is_said(line):
 
 
 def calls(text):
-    """The calls of a trace. One that waited for another stands where it was done, but what is said stands where that
-    began: whoever listens has it by then."""
+    """The calls of a trace. A call that waited for another one is placed at its end, but a line that is printed is placed at its
+    start: a reader may have it by then."""
     waiting = {}
     for line in text.splitlines():
         thread = line.partition(" ")[0]
@@ -129,7 +129,7 @@ class Host:
         os.killpg(self.process.pid, signal.SIGKILL)
 
     def says(self, line):
-        """What a line was answered: the lines that were handed out, and the last one, `ok` or a fault's name."""
+        """The answer to a line: the lines that were handed out, and the final one, `ok` or an error's name."""
         with contextlib.suppress(BrokenPipeError):
             self.process.stdin.write(line + "\n")
             self.process.stdin.flush()
@@ -142,7 +142,7 @@ class Host:
         raise Unread(f"the host ended at the line {line[:60]}, with {self.process.wait()}")
 
     def say_all(self, lines):
-        """What each of these lines was answered; they are said all at once."""
+        """The answers to these lines, which are written all at once."""
         said, _ = self.process.communicate("".join(line + "\n" for line in lines))
         answered, handed = [], []
         for line in said.splitlines():
@@ -171,8 +171,8 @@ class Host:
 
 
 def traced(words, env, drive, fault=None):
-    """Runs a host under strace and drives it: its calls, and what `drive` gave. fault: a call that is to fail, as
-    strace's words say it."""
+    """Runs a host under strace and drives it: its calls, and the result of `drive`. `fault`: a call that has to fail, in
+    strace's words."""
     with tempfile.TemporaryDirectory(prefix="trace-") as folder:
         to = os.path.join(folder, "trace")
         more = ["-e", f"inject={fault}"] if fault else []

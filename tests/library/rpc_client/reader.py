@@ -1,4 +1,4 @@
-"""Reads an agent's RPC by the Python package msgpack with its defaults, and prints what came as JSON; bytes as `bytes:` and hex.
+"""Reads an agent's RPC by the Python package msgpack with its defaults, and prints the answers as JSON; bytes as `bytes:` and hex.
 
     tests/library/rpc_client/reader.py HOST PORT
 
@@ -19,7 +19,7 @@ LIMIT = 60
 
 
 class Client:
-    """A connection that speaks the protocol: requests with a body or without one, and what comes, value by value."""
+    """A connection that speaks the protocol: requests with a body or without one, and the answers, value by value."""
 
     def __init__(self, host, port):
         self.conn = socket.create_connection((host, port), LIMIT)
@@ -32,7 +32,7 @@ class Client:
         self.conn.sendall(request + (b"" if body is None else msgpack.packb(body)))
 
     def next(self):
-        """The next value that comes."""
+        """The next value that the agent sends."""
         while True:
             try:
                 return self.values.unpack()
@@ -43,7 +43,7 @@ class Client:
                 self.values.feed(data)
 
     def asked(self, command, body=None):
-        """Asks, and reads the header of the answer."""
+        """Sends a request, and reads the header of the answer."""
         self.ask(command, body)
         header = self.next()
         if header != {"Seq": self.seq, "Error": ""}:
@@ -62,7 +62,7 @@ def written(value):
 
 
 def read(host, port):
-    """What an agent says of its members, and of an event: its answer's header and its record, in whichever order they come."""
+    """What an agent reports about its members and about an event: its answer's header and its record, in either order."""
     client = Client(host, port)
     client.asked("members")
     members = client.next()

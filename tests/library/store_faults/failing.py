@@ -1,6 +1,6 @@
-"""What a store does where a call of the system fails, or another takes the file's name in the middle of its opening.
+"""What a store does if a system call fails, or if somebody else gets the file's name in the middle of its opening.
 
-strace has one call answer an error, or wait. Each part is one of embed/stores.py's kind: it takes the cases of a store.
+strace makes one call return an error, or wait. Each part is like those of embed/stores.py: it uses the cases of a store.
 """
 
 import fcntl
@@ -10,13 +10,13 @@ import time
 
 import stores
 
-# The text that is in the file before it is opened, and what a read of it gives.
+# The text that is in the file before it is opened, and what a read of it returns.
 OLD = b"a\n"
 IS_OLD = OLD.hex() + " ok"
 
-# How long a lock is made to wait, and how long a file is waited for, in seconds.
+# How long a lock is made to wait, and how long the script waits for a file, in seconds.
 DELAY, LIMIT = 1.5, 60
-# How often a race is run again that the other may have lost.
+# How often a race is run again if the other side may have lost it.
 RACES = 20
 
 REMOVALS = "unlink,unlinkat"
@@ -89,14 +89,14 @@ def failed_sync(cases, calls, number):
 
 
 def failing_replacement(cases, path, calls, how, of, text):
-    """A replacement in which a call fails is Failed, and the store takes nothing more."""
+    """A replacement in which a call fails is Failed, and the store accepts nothing more."""
     with Traced(cases.words, calls, how, of) as driver:
         cases.says("open", driver, f"open {path}", "ok")
         cases.says("replace", driver, "replace 620a", "Failed")
         cases.says("append", driver, "append 630a", "Broken")
         cases.check("it is locked still", is_locked(path))
     cases.check("the text", stores.read(path) == text, stores.read(path))
-    cases.check("nothing is left beside it", cases.is_nothing_beside(path))
+    cases.check("nothing is left next to it", cases.leaves_no_new_file(path))
 
 
 def failed_sync_beside(cases):
@@ -111,12 +111,12 @@ def failed_rename(cases):
 
 def failed_sync_of_the_folder(cases):
     path = old_file(cases, "name")
-    # the first one is of the opening, and the new text has its name by the second
+    # (the first sync is that of the opening, and the new text has its name by the second)
     failing_replacement(cases, path, "fsync", "error=EIO:when=2", [os.path.dirname(path)], b"b\n")
 
 
 def beside_of_another(cases):
-    """Another writes beside the text while the store has it: nothing of that comes into the text."""
+    """Somebody else writes next to the text while the store has it: nothing of that gets into the text."""
     path = old_file(cases, "beside_of_another")
     with stores.Driver(cases.words) as driver:
         cases.says("open", driver, f"open {path}", "ok")
@@ -126,7 +126,7 @@ def beside_of_another(cases):
 
 
 def opened_in_a_race(driver, path):
-    """Opens a file that isn't there yet, and gives its name to another as soon as it is made: what was answered, and
+    """Opens a file that doesn't exist yet, and renames another one to its name as soon as it is made: returns the answer, and
     whether that was surely before the lock."""
     driver.says("close")
     began = time.monotonic()
@@ -140,7 +140,7 @@ def opened_in_a_race(driver, path):
 
 
 def replaced_before_its_lock(cases):
-    """Another gives the name to its own file while the store waits for the lock of the one that it made."""
+    """Somebody else renames another file to this name, while the store waits for the lock of the file that it made."""
     for number in range(RACES):
         path = os.path.join(os.path.realpath(cases.folder), f"replaced{number}")
         stores.write(path + ".other", b"b")
@@ -154,7 +154,7 @@ def replaced_before_its_lock(cases):
 
 
 def is_locked(path):
-    """Whether somebody has the lock of the file that has this name now, as each store asks for it."""
+    """Whether somebody has the lock of the file that has this name now, tried as each store tries it."""
     with open(path, "rb") as file:
         try:
             fcntl.flock(file, fcntl.LOCK_EX | fcntl.LOCK_NB)

@@ -1,5 +1,5 @@
-"""The edits that plant the wrong bodies (planted.py) into a copy of each binding's store: what stands there once, and
-what comes there."""
+"""The edits that plant the wrong bodies (planted.py) into a copy of each binding's store: a text that is in the source exactly
+once, and its replacement."""
 
 C = {
     "serf_agent_store.c": [
@@ -24,10 +24,10 @@ static bool is(const char *fault) {
             ' !(is("pipe") && S_ISFIFO(about.st_mode))) {',
         ),
         (
-            "/* Gives back all that the store has. */",
+            "/* Closes and frees everything that the store has. */",
             "static bool remove_beside(const struct serf_agent_store *store) {\n    char beside[NAME_MAX + 1];\n"
             "    return name_beside(store, beside) && (unlinkat(store->folder, beside, 0) == 0 || errno == ENOENT);\n}\n\n"
-            "/* Gives back all that the store has. */",
+            "/* Closes and frees everything that the store has. */",
         ),
         (
             "open_folder(store, path) && open_file(store)",
@@ -214,7 +214,7 @@ func isOther(kind os.FileMode) bool {
 func syncFolder("""),
         (
             "filepath.Abs(path)\n\tif err != nil {\n\t\treturn \"\", err",
-            'filepath.Abs(path)\n\tif err != nil || is("link") || is("link_replaced") {\n\t\treturn whole, err',
+            'filepath.Abs(path)\n\tif err != nil || is("link") || is("link_replaced") {\n\t\treturn absolute, err',
         ),
         (
             "\tfile, err := os.OpenFile(path, os.O_RDWR|os.O_APPEND|os.O_CREATE|syscall.O_NOFOLLOW|syscall.O_NONBLOCK, 0600)",
@@ -224,40 +224,40 @@ func syncFolder("""),
             "\tfile, err := os.OpenFile(path, os.O_RDWR|os.O_APPEND|os.O_CREATE|follow|syscall.O_NONBLOCK, rights)",
         ),
         (
-            "\tfile, err := openLocked(real)",
-            '\tif is("left_early") {\n\t\tos.Remove(real + ".new")\n\t}\n\tfile, err := openLocked(real)',
+            "\tfile, err := openLocked(resolved)",
+            '\tif is("left_early") {\n\t\tos.Remove(resolved + ".new")\n\t}\n\tfile, err := openLocked(resolved)',
         ),
         (
-            "\tfile, err := os.OpenFile(beside, os.O_RDWR|os.O_APPEND|os.O_CREATE|os.O_EXCL, 0600)",
+            "\tfile, err := os.OpenFile(temporary, os.O_RDWR|os.O_APPEND|os.O_CREATE|os.O_EXCL, 0600)",
             '\talone := os.O_EXCL\n\tif is("beside_kept") {\n\t\talone = 0\n\t}\n'
-            "\tfile, err := os.OpenFile(beside, os.O_RDWR|os.O_APPEND|os.O_CREATE|alone, 0600)",
+            "\tfile, err := os.OpenFile(temporary, os.O_RDWR|os.O_APPEND|os.O_CREATE|alone, 0600)",
         ),
         (
             "\t\tif err := step(); err != nil {\n\t\t\tfile.Close()\n",
             '\t\tif err := step(); err != nil {\n\t\t\tif is("rename_takes_beside") {\n\t\t\t\tfile, s.file = s.file, file\n'
             "\t\t\t}\n\t\t\tfile.Close()\n",
         ),
-        ("!own.Mode().IsRegular() {", "!own.Mode().IsRegular() && !isOther(own.Mode()) {"),
+        ("!info.Mode().IsRegular() {", "!info.Mode().IsRegular() && !isOther(info.Mode()) {"),
         ("\t\terr = lock(file)\n", '\t\terr = unless("lock", func() error { return lock(file) })\n'),
         (
-            "now, err := os.Lstat(path); err == nil && os.SameFile(own, now) {",
-            "now, err := look(path); err == nil && isCurrent(own, now) {",
+            "current, err := os.Lstat(path); err == nil && os.SameFile(info, current) {",
+            "current, err := look(path); err == nil && isCurrent(info, current) {",
         ),
-        ('err = os.Remove(real + ".new")', 'err = unless("left", func() error { return os.Remove(real + ".new") })'),
+        ('err = os.Remove(resolved + ".new")', 'err = unless("left", func() error { return os.Remove(resolved + ".new") })'),
         (
             "if err == nil || errors.Is(err, os.ErrNotExist) {\n\t\terr = file.Sync()",
             'if err == nil || errors.Is(err, os.ErrNotExist) || is("left_ok") {\n\t\terr = but("opened_text_ok", file.Sync())',
         ),
-        ("err = syncFolder(real)", 'err = but("opened_name_ok", syncFolder(real))'),
+        ("err = syncFolder(resolved)", 'err = but("opened_name_ok", syncFolder(resolved))'),
         (
-            "text := make([]byte, about.Size())\n",
-            'text := make([]byte, about.Size())\n\tif is("read_nothing") {\n\t\ttext = nil\n\t}\n',
+            "text := make([]byte, info.Size())\n",
+            'text := make([]byte, info.Size())\n\tif is("read_nothing") {\n\t\ttext = nil\n\t}\n',
         ),
-        ("return text, named(s.path, err)", 'return text, named(s.path, but("read_ok", err))'),
+        ("return text, storeError(s.path, err)", 'return text, storeError(s.path, but("read_ok", err))'),
         (
             "\tif s.file == nil || s.isBroken {\n",
             '\tif s.file == nil || s.isBroken {\n\t\ts.isBroken = s.isBroken && !is("refused_once")\n'
-            '\t\tif s.file != nil && is("writes_broken") {\n\t\t\tdone()\n\t\t}\n',
+            '\t\tif s.file != nil && is("writes_broken") {\n\t\t\toperation()\n\t\t}\n',
         ),
         ("s.isBroken = err != nil", 's.isBroken = err != nil && !is("goes_on")'),
         ("if _, err := s.file.Write(data); err != nil {", 'if err := put(s.file, data, "write_in_part", "write_ok"); err != nil {'),
@@ -265,17 +265,17 @@ func syncFolder("""),
         ("return syncFolder(s.path)", 'return but("folder_ok", syncFolder(s.path))'),
         (
             "\tsteps := []func() error{\n\t\tfunc() error { return lock(file) },\n"
-            "\t\tfunc() error { return file.Chmod(about.Mode().Perm()) },\n"
+            "\t\tfunc() error { return file.Chmod(info.Mode().Perm()) },\n"
             "\t\tfunc() error { _, err := file.Write(data); return err },\n\t\tfile.Sync,\n",
-            '\trights := about.Mode().Perm()\n\tif is("rights") {\n\t\trights = 0600\n\t}\n'
+            '\trights := info.Mode().Perm()\n\tif is("rights") {\n\t\trights = 0600\n\t}\n'
             '\tsteps := []func() error{\n\t\tfunc() error { return unless("lock_beside", func() error { return lock(file) }) },\n'
             "\t\tfunc() error { return file.Chmod(rights) },\n"
             '\t\tfunc() error { return put(file, data, "beside_in_part", "beside_ok") },\n'
             '\t\tfunc() error { return but("beside_sync_ok", file.Sync()) },\n',
         ),
         (
-            "return os.Rename(beside, s.path)",
-            'return but("rename_ok", unless("no_rename", func() error { return os.Rename(beside, s.path) }))',
+            "return os.Rename(temporary, s.path)",
+            'return but("rename_ok", unless("no_rename", func() error { return os.Rename(temporary, s.path) }))',
         ),
     ],
 }
@@ -336,7 +336,7 @@ fn sync_folder("""),
             '            Err(error) if error.kind() != io::ErrorKind::NotFound && !is("left_ok") =>',
         ),
         (
-            # (a device has no sync, and the system says of it what it says of a path that names no file)
+            # (a device has no sync, and the system returns the same error for it as for a path that names no file)
             "file.sync_all()?;\n        sync_folder(&path)?;",
             'if !is("device") && !is("pipe") {\n            but("opened_text_ok", file.sync_all())?;\n        }\n'
             '        but("opened_name_ok", sync_folder(&path))?;',

@@ -1,21 +1,21 @@
 """The wrong bodies of the stores, planted into copies of their sources: each step of a store has two or more.
 
-One copy of a store has them all, and the environment's STORE_FAULT says which is on. languages.py has the edits of the
-bindings' stores, and system_file.py those of the file of the system beneath `FileStore`.
+One copy of a store has them all, and STORE_FAULT in the environment selects the one that is on. languages.py has the edits of the
+bindings' stores, and system_file.py those of the file of the system below `FileStore`.
 """
 
 from collections import namedtuple
 
-# Which fault is on, in the environment.
+# The name in the environment of the wrong body that is on.
 FAULT_NAME = "STORE_FAULT"
 
-# A wrong body: the step that it is of, what it does, the part that finds it, and the check of that part that fails.
+# A wrong body: its step, what it does, the part that finds it, and the check of that part that fails.
 Fault = namedtuple("Fault", "step what part check")
 
 PATH = "an opening resolves the path"
 LOCK = "the text is locked"
 CURRENT = "a file that was replaced before its lock is opened anew"
-PLAIN = "what is no plain file is refused"
+PLAIN = "a file that is no plain file is refused"
 LEFTOVER = "an opening removes what a crash left"
 READ = "the text is read"
 OPENED_TEXT = "an opening syncs the text"
@@ -23,26 +23,26 @@ OPENED_NAME = "an opening syncs the folder"
 RIGHTS = "a file has its rights"
 WRITE = "an append writes"
 LINE = "an append syncs"
-BESIDE = "a replacement writes beside"
+BESIDE = "a replacement writes a new file"
 TEXT = "a replacement syncs its text"
 RENAME = "a replacement renames"
 NAME = "a replacement syncs the folder"
-BROKEN = "a store that failed takes nothing more"
+BROKEN = "a store that failed accepts nothing more"
 
 FAULTS = {
     "link": Fault(PATH, "a link isn't followed", "locks", "by a link"),
-    "link_replaced": Fault(PATH, "a link is replaced in its file's place", "locks", "the link stays"),
+    "link_replaced": Fault(PATH, "a link is replaced instead of its file", "locks", "the link stays"),
     "lock": Fault(LOCK, "the text isn't locked", "locks", "in another process"),
-    "lock_beside": Fault(LOCK, "what replaces the text isn't locked", "locks", "behind a replacement"),
+    "lock_beside": Fault(LOCK, "the file that replaces the text isn't locked", "locks", "after a replacement"),
     "stale": Fault(CURRENT, "any file is the current one", "replaced_before_its_lock", "the new text is read"),
     "stale_device": Fault(
         CURRENT, "any file of that disk is the current one", "replaced_before_its_lock", "the new text is read"
     ),
     "device": Fault(PLAIN, "a device is taken for a file", "no_plain_files", "a device"),
     "pipe": Fault(PLAIN, "a pipe is taken for a file", "no_plain_files", "a pipe"),
-    "left": Fault(LEFTOVER, "what a crash left stays", "what_crashes_leave", "that is gone"),
+    "left": Fault(LEFTOVER, "a file that a crash left stays", "what_crashes_leave", "what it left is removed"),
     "left_early": Fault(
-        LEFTOVER, "what a crash left is removed before the lock", "locks", "what its owner writes beside stays"
+        LEFTOVER, "a file that a crash left is removed before the lock", "locks", "the replacement that its owner writes stays"
     ),
     "left_ok": Fault(LEFTOVER, "a failed removal is Ok", "failed_removal", "open"),
     "read_nothing": Fault(READ, "nothing of the text is read", "what_crashes_leave", "the text stays"),
@@ -56,16 +56,16 @@ FAULTS = {
     "write_ok": Fault(WRITE, "a failed write is Ok", "full", "append to a full disk"),
     "write_in_part": Fault(WRITE, "a write in part is Ok", "full", "append to a full disk"),
     "line_ok": Fault(LINE, "a failed sync of a line is Ok", "failed_sync_of_a_line", "append"),
-    "beside_ok": Fault(BESIDE, "a failed write beside is Ok", "full", "replace on a full disk"),
-    "beside_in_part": Fault(BESIDE, "a write beside in part is Ok", "full", "replace on a full disk"),
+    "beside_ok": Fault(BESIDE, "a failed write of the new file is Ok", "full", "replace on a full disk"),
+    "beside_in_part": Fault(BESIDE, "a partial write of the new file is Ok", "full", "replace on a full disk"),
     "beside_kept": Fault(
-        BESIDE, "what stands beside is written on", "beside_of_another", "nothing of another's is in it"
+        BESIDE, "an existing new file is appended to", "beside_of_another", "nothing of another's is in it"
     ),
-    "beside_sync_ok": Fault(TEXT, "a failed sync beside is Ok", "failed_sync_beside", "replace"),
-    "no_rename": Fault(RENAME, "nothing is renamed", "plain_file", "it is another file then"),
+    "beside_sync_ok": Fault(TEXT, "a failed sync of the new file is Ok", "failed_sync_beside", "replace"),
+    "no_rename": Fault(RENAME, "nothing is renamed", "plain_file", "it is another file after that"),
     "rename_ok": Fault(RENAME, "a failed rename is Ok", "failed_rename", "replace"),
     "rename_takes_beside": Fault(
-        RENAME, "behind a failed rename the file beside is written on", "failed_rename", "it is locked still"
+        RENAME, "after a failed rename the store writes to the new file", "failed_rename", "it is locked still"
     ),
     "folder_ok": Fault(NAME, "a failed sync of the folder is Ok", "failed_sync_of_the_folder", "replace"),
     "goes_on": Fault(BROKEN, "a failure is forgotten at once", "full", "and nothing more"),
@@ -73,8 +73,8 @@ FAULTS = {
     "writes_broken": Fault(BROKEN, "a refused append is written", "read_only", "its text stays"),
 }
 
-# Of the file beneath `FileStore`, beside those of FAULTS that are no bodies of what stands on that file: a contract refuses
-# these, which speak of an opening's syncs and of a store that failed.
+# For the file below `FileStore`, in addition to those of `FAULTS`. The wrong bodies of an opening's syncs and of a store that failed
+# are left out: they are in the code above that file, in which a contract refuses them.
 OF_CONTRACTS = ("opened_text_ok", "opened_name_ok", "goes_on", "refused_once", "writes_broken")
 FILE_FAULTS = {name: fault for name, fault in FAULTS.items() if name not in OF_CONTRACTS} | {
     "lock_another": Fault(LOCK, "another file is locked in the text's place", "lock_of_the_text", "the text is locked"),
@@ -86,15 +86,15 @@ FILE_FAULTS = {name: fault for name, fault in FAULTS.items() if name not in OF_C
     "write_nothing": Fault(WRITE, "nothing is written", "full", "what was there stays"),
     "made_for_group": Fault(RIGHTS, "the group may read a file that is made", "made", "nobody else may read it"),
     "no_line": Fault(LINE, "a line isn't synced", "failed_sync_of_a_line", "append"),
-    "no_text": Fault(TEXT, "the text beside isn't synced", "failed_sync_beside", "replace"),
-    "data_alone": Fault(TEXT, "of the text beside the data alone is synced", "failed_sync_beside", "replace"),
+    "no_text": Fault(TEXT, "the new file isn't synced", "failed_sync_beside", "replace"),
+    "data_alone": Fault(TEXT, "only the data of the new file is synced", "failed_sync_beside", "replace"),
     "no_name": Fault(NAME, "the folder isn't synced", "failed_sync_of_the_folder", "replace"),
-    "old_file": Fault(RENAME, "the old file is written on", "plain_file", "what is there"),
-    "opened_anew": Fault(RENAME, "the new file is opened anew, without its lock", "locks", "behind a replacement"),
+    "old_file": Fault(RENAME, "the store keeps writing to the old file", "plain_file", "what is there"),
+    "opened_anew": Fault(RENAME, "the new file is opened anew, without its lock", "locks", "after a replacement"),
     "read_ok": Fault(READ, "a failed read is an empty text", "failed_read", "open"),
 }
 
-# Of these steps the power cuts have a wrong body too: its name there (tests/library/power_cuts/faults.py).
+# The power cuts have a wrong body of these steps too: its name there (`tests/library/power_cuts/faults.py`).
 OF_POWER_CUTS = {OPENED_TEXT: "opened_text", OPENED_NAME: "opened_name", LINE: "line", TEXT: "text", NAME: "name"}
 
 

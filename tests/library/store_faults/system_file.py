@@ -1,6 +1,6 @@
 """The store of Rattle: its driver, and the edits that plant wrong bodies into a copy of its file of the system.
 
-No clause speaks of what the system does, so the contracts refuse none of these. The driver's own files say which is on.
+No clause describes what the system does, so the contracts refuse none of these. Files of the driver say which one is on.
 """
 
 import os
@@ -149,7 +149,7 @@ EDITS = {"src/lib.rt": LIB, "src/opening.rt": OPENING, "src/system.rt": SYSTEM}
 
 
 def plant(folder):
-    """Plants the wrong bodies into a copy of the crate, whose files then say which is on."""
+    """Plants the wrong bodies into a copy of the crate, whose files then say which one is on."""
     faults.edit(folder, EDITS)
     with open(os.path.join(folder, "src", "faulty.rt"), "w", encoding="utf-8") as file:
         file.write(FAULTY)
@@ -163,7 +163,7 @@ def plant(folder):
 
 
 def driver(to):
-    """Compiles the driver over the planted copy, and copies it to a path: the words that run it, but for the fault."""
+    """Compiles the driver over the planted copy, and copies it to a path: returns the words that run it, without the wrong body's."""
     with scratch.crate("store_faults", USES) as source:
         scratch.copy_sources(OWN, source)
         with open(WORDS, encoding="utf-8") as file:
@@ -174,14 +174,14 @@ def driver(to):
 
 
 class Cases(stores.Cases):
-    """Cases of `FileStore`: it tells no cause of a call that fails behind its opening, and leaves what it wrote beside the
-    file until the next one."""
+    """Cases of `FileStore`: it reports no cause of a call that fails after its opening, and leaves its new file next to the
+    text until the next opening."""
 
     def says(self, name, driver, line, wanted):
         is_call = line.startswith(("append", "replace"))
         super().says(name, driver, line, "Failed" if is_call and wanted in ("Full", "ReadOnly") else wanted)
 
-    def is_nothing_beside(self, path):
+    def leaves_no_new_file(self, path):
         return True
 
 
@@ -197,12 +197,12 @@ def failed_sync_of_the_opened_text(cases):
 
 
 def failed_sync_of_a_line(cases):
-    # the first one is of the opening
+    # (the first sync is that of the opening)
     failing.failed_sync(cases, "fdatasync", 2)
 
 
 def on_another_disk(path):
-    """What the system says of a file by statx, up to its disk, which is another; in hex."""
+    """What the system reports about a file by statx, up to its disk, which is changed; in hex."""
     is_told, about = 0x17FF, os.stat(path)
     owners = (about.st_nlink, about.st_uid, about.st_gid, about.st_mode, 0)
     head = struct.pack("<IIQIIIHHQQQQ", is_told, about.st_blksize, 0, *owners, about.st_ino, about.st_size, about.st_blocks, 0)
@@ -211,9 +211,9 @@ def on_another_disk(path):
 
 
 def file_of_another_disk(cases):
-    """The file that is opened is said to be on another disk each time, so its name names another one of its number."""
+    """The system reports another disk for the opened file each time, so its name means another file with the same number."""
     path = failing.old_file(cases, "disk")
-    # each try looks at what has the name, at the file that it opened, and again at what has the name
+    # (each try inspects the file that has the name, then the file that it opened, and again the one that has the name)
     how = f"poke_exit=@arg5={on_another_disk(path)}:when=2+3"
     with failing.Traced(cases.words, "statx", how, [path]) as driver:
         cases.says("a file of that number on another disk", driver, f"open {path}", "Locked")

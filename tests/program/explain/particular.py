@@ -1,5 +1,5 @@
-"""What single reasons say, word by word: where nothing else in the trace tells it, of agents that keep their events, of earlier
-actions, and of least times.
+"""What single reasons say, word by word: if nothing else in the trace shows it, about agents that keep their events, about earlier
+actions, and about minimum times.
 """
 
 import checks
@@ -30,7 +30,7 @@ def any_bytes(count):
 
 
 def said_rows(count):
-    """What is said where nothing else in the trace tells it."""
+    """The reasons that nothing else in the trace shows."""
     fires = b"fire 0 61 %s 0\n" * 9 % tuple(b"%02x" % n for n in range(9))
     for name, schedule, number, wanted in (
         (
@@ -76,7 +76,7 @@ def said_rows(count):
 
 
 def kept(count):
-    """What is said of an agent that keeps its events: of what stood in a tail, of a join's line that failed, and of its file."""
+    """Reasons of an agent that keeps its events: about the lines of a tail, about a join's line that failed, and about its file."""
     tail = b"event-clock: 02\n#event 2 6465706c6f79 7632\nquery-clock: 01\n#query 1 7\n".hex().encode()
     fires = b"fire 0 6465706c6f79 7631 0\nfire 0 6465706c6f79 7632 0\n"
     schedule = KEEPING + fires + b"deliver 1 0 0\nrestart 1 %s\ndeliver 1 1 0\ndeliver 1 0 0\nstate 0\nmerge 1 3 sync\n" % tail
@@ -100,11 +100,11 @@ def kept(count):
     state = ran(["replay"], KEEPING + fires + b"state 0\n")[1].split()[-1].replace(b"4576656e744c54696d6503", b"4576656e744c54696d6501")
     got = reasons_of(KEEPING + b"inject %s\nbreak 1 flush 2\nmerge 1 0 join\n" % state, 3)
     wanted = b'slot 1 brings event 1 "deploy" "v1": new, but ' + failed % (b"a flush", 2, 2)
-    count.check("kept events: a line behind the join's", got == [wanted], got)
+    count.check("kept events: a line after the join's", got == [wanted], got)
 
 
 def of_earlier_actions(count):
-    """What is said of earlier actions: since which one a least time stands, which one asked a query and which ended it, and
+    """Reasons about earlier actions: since which action a minimum time holds, which one fired a query and which one ended it, and
     what entered in the merge itself."""
     schedule = b"agent 61 4 4 512 2 keep 2\nagent 62 2 4 512 2 ignore 2\nquery 0 0 7 61 - 1000 1\ndeliver 1 0 0\n"
     schedule += b"deliver 0 1 0\ndeliver 0 1 0\nfire 0 61 - 0\nfire 0 62 - 0\nstate 0\nmerge 1 6 join\ndeliver 1 4 0\nrestart 1 -\n"
@@ -122,7 +122,7 @@ def of_earlier_actions(count):
     ):
         got = turns[number][1] if turns else None
         count.check(f"earlier actions: action {number}", got == wanted, got)
-    # a state that has an event twice, at an agent that keeps its events: this merge handed it out
+    # (a state that has an event twice, at an agent that keeps its events: this merge handed it out)
     front, event = b"0286a54c54696d6501ac5374617475734c54696d657380ab4c6566744d656d6265727390aa4576656e744c54696d6502a64576656e747394c0", b"82a44e616d65a161a75061796c6f6164a0"
     twice = front + b"82a54c54696d6501a64576656e747392" + event * 2 + b"c0c0aa51756572794c54696d6501"
     got = reasons_of(KEEPING + b"inject %s\nmerge 0 0 sync\n" % twice, 2)
@@ -132,8 +132,8 @@ def of_earlier_actions(count):
 
 
 def least_times(count):
-    """A join that raises the least time of events says so first, a state without events too, and no other merge does; where
-    the disk fails behind that, it is said, and where nothing was heard of, it isn't."""
+    """A join that raises the minimum time of events says so first, also for a state without events, and no other merge does. If
+    the disk fails after that, the reasons say so; if no event of the state was reached, they don't."""
     none = b"the state carries no event"
     clocks = b"".join(b"inject 0281aa4576656e744c54696d65%02x\n" % clock for clock in (9, 7, 9, 12, 0))
     schedule = b"agent 61 4 4 512 8 ignore 2\nagent 62 4 4 512 8 keep 2\n" + clocks
@@ -142,7 +142,7 @@ def least_times(count):
     turns = turns_of(ran(["explain"], schedule)[1])
     for number, *rises in ((6,), (7, 9), (8,), (9,), (10,), (11, 12), (12,), (14, 9), (16,)):
         got = turns[number][1] if turns else None
-        count.check(f"a least time: action {number}", got == [*(RISES % least for least in rises), none], got)
+        count.check(f"a minimum time: action {number}", got == [*(RISES % least for least in rises), none], got)
     # a state with the clock 2 and events of the times 1 and 2: at the second the disk fails
     fires = b"fire 0 6465706c6f79 7631 0\nfire 0 6465706c6f79 7632 0\n"
     state = ran(["replay"], KEEPING + fires + b"state 0\n")[1].split()[-1].replace(b"4576656e744c54696d6503", b"4576656e744c54696d6502")
@@ -157,7 +157,7 @@ def least_times(count):
     ):
         agents = b"agent 61 4 4 512 8 keep\nagent 62 4 4 512 8 %s\n" % setting
         got = reasons_of(agents + b"inject %s\nbreak 1 %s %d\nmerge 1 0 join\n" % (state, call, failing), 3)
-        count.check(f"a least time, and a disk that fails: {setting}, {call} {failing}", got == wanted, got)
+        count.check(f"a minimum time, and a disk that fails: {setting}, {call} {failing}", got == wanted, got)
     # schedules with joins, and what they say
     names = [name for name in checks.names_in(checks.ROWS) if b" join\n" in read(checks.ROWS, name + ".schedule")]
     stories = [taken_apart(count, name, read(checks.ROWS, name + ".schedule")) for name in names]

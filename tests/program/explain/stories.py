@@ -1,5 +1,5 @@
-"""A schedule's trace with its reasons, taken apart: the lines of each action, what its reasons say, and whether that is what the
-trace's other lines tell.
+"""A schedule's trace with its reasons, parsed: the lines of each action, what its reasons say, and whether that matches the
+other lines of the trace.
 """
 
 import re
@@ -11,7 +11,7 @@ REASON = re.compile(rb"(\d+) because ([\x20-\x7e]+)\Z")
 # How many actions a random schedule has.
 ACTIONS = "150"
 
-# What is said of a join that raises the least time.
+# The reason of a join that raises the minimum time.
 RISES = b"the join ignores old events: the least time rises to %d"
 
 
@@ -37,7 +37,7 @@ def actions_of(schedule):
 
 
 def turns_of(text):
-    """By each action's number its lines of the trace, and behind them its reasons; None where a line is elsewhere."""
+    """For each action's number its lines of the trace, and after them its reasons; None if a line is in the wrong place."""
     turns = {}
     for line in text.split(b"\n")[:-1]:
         number = int(line.split(b" ", 1)[0])
@@ -54,7 +54,7 @@ def plain(text):
 
 
 def decoded(packets):
-    """What `decode` says of each packet, as lines of words; None of one that is refused, or is empty."""
+    """What `decode` prints for each packet, as lines of words; None for a packet that is refused, or is empty."""
     said = ran(["decode"], b"".join(packet + b"\n" for packet in packets if packet != b"-"))[1].split(b"\n\n")
     rest = iter([line.split() for line in block.split(b"\n") if line] for block in said)
     found = [next(rest) if packet != b"-" else None for packet in packets]
@@ -85,8 +85,8 @@ class Story:
         self.raised = dict(self.raising())
 
     def raising(self):
-        """Each whole merge that raises its agent's least time of events, and to what: as the states' event clocks say, and
-        what each restart says that it takes."""
+        """Each whole merge that raises its agent's minimum time of events, and to what: by the states' event clocks, and by
+        what each restart prints."""
         least = [1] * len(self.names)
         for number, words in enumerate(self.actions, 1):
             lines, reasons = self.turns[number]
@@ -110,7 +110,7 @@ class Story:
         return at != reason and at.isdigit() and int(at) <= number and (agent, *event) in self.handed(int(at))
 
     def is_tailed(self, number, agent, reason, event):
-        """Whether a reason says that a text had an event's line, of an agent that keeps its events: a tail before this
+        """Whether a reason names a text with an event's line, for an agent that keeps its events: a tail before this
         action has the line, and no action before it handed this agent the event."""
         time, name, payload = event
         line = b"#event %s %s %s" % (time, name.hex().encode(), payload.hex().encode())
@@ -123,7 +123,7 @@ class Story:
         )
 
     def merge_fault(self, number):
-        """What is wrong with the reasons of a merge, or None: where it raises the least time, the first says so, and each
+        """What is wrong with the reasons of a merge, or None: if it raises the minimum time, the first one says so, and each
         event that it carried has a line and a verdict."""
         _, agent, packet, *_ = self.actions[number - 1]
         wanted, reasons, new = carried(self.sent[int(packet)]), self.turns[number][1], []
@@ -158,7 +158,7 @@ class Story:
 
 
 def taken_apart(count, name, schedule):
-    """The trace stands in it as it is, and behind each action's lines at least one reason."""
+    """The text contains the trace unchanged, and after each action's lines at least one reason."""
     status, text, said = ran(["explain"], schedule)
     traced = ran(["replay"], schedule)
     count.check(f"{name}: its trace", (status, plain(text), said) == traced, (status, said))
@@ -179,8 +179,8 @@ def event_in(lines):
 
 
 def what_is_said(count, name, story):
-    """What was seen was handed out before, and a merge has its verdicts. The answer is how many were seen, how many merged,
-    and how many of these raised the least time."""
+    """An event that was seen was handed out before, and each merge has its verdicts. Returns how many were seen, how many merged,
+    and how many of these raised the minimum time."""
     seen = merges = 0
     for number, words in enumerate(story.actions, 1):
         lines, reasons = story.turns[number]

@@ -1,6 +1,6 @@
 """Worked rows of agents that keep their events, run on the agent in Python: those of tests/rows whose names begin with `keeps_`.
 
-Beside these, dialogues.calls has dialogues of the pipe: behind a line [NAME] each call, its reply, and a full stop.
+The file dialogues.calls also has dialogues of the pipe: after a line [NAME], each call, its reply, and a full stop.
 """
 
 import os
@@ -12,12 +12,12 @@ from serf_agent.pipe import Pipe
 DIALOGUES = checks.text_of(os.path.dirname(os.path.abspath(__file__)), "dialogues.calls")
 NAME = re.compile(r"^\[(\w+)\]\n", re.M)
 
-# Where the number of a packet stands in an action's words.
+# The position of a packet's number in an action's words.
 GIVEN = {"deliver": 2, "merge": 2}
 
 
 class Cluster:
-    """Agents behind the pipe, the packets that they sent, and the trace."""
+    """Agents on the pipe, the packets that they sent, and the trace."""
 
     def __init__(self, agents):
         self.packets, self.number, self.trace = [], 0, []
@@ -35,7 +35,7 @@ class Cluster:
         self.tell(int(words[1]), [line for line in reply if not line.startswith("counted ")])
 
     def tell(self, agent, lines):
-        """Puts an action's lines into the trace: there a packet has its number, and a hand-out its agent."""
+        """Adds an action's lines to the trace, with a number for each packet and the agent for each hand-out."""
         for line in lines:
             first, _, rest = line.partition(" ")
             if first == "sent":
@@ -47,7 +47,7 @@ class Cluster:
 
 
 def opened(words):
-    """An agent behind the pipe, by the words of its line."""
+    """An agent on the pipe, from the words of its line."""
     pipe = Pipe()
     pipe.reply(" ".join(["open", *words[:6], *(words[6:] or ["1024"]), "-"]).encode("ascii"))
     return pipe
@@ -83,12 +83,12 @@ def dialogue(text):
 
 
 def unlike(text):
-    """Where a dialogue differs, or None."""
+    """The first difference in a dialogue, or None."""
     pipe = Pipe()
     for call, wanted in dialogue(text):
         got = pipe.reply(call.encode("ascii"))
         if got != wanted:
-            return f"{call}: wanted {wanted}, got {got}"
+            return f"{call}: expected {wanted}, got {got}"
     return None
 
 
@@ -99,7 +99,7 @@ def dialogues():
 
 
 def fault_of(name):
-    """What differs in a row, or None."""
+    """What is different in a row, or None."""
     calls = dialogues().get(name)
     if calls is not None:
         return unlike(calls) if dialogue(calls) else "there are no calls"

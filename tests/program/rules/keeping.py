@@ -1,4 +1,4 @@
-"""What an agent that keeps its events does otherwise, rule by rule: the cases of the column "With `+events`"."""
+"""What is different for an agent that keeps its events, rule by rule: the cases of the column "With `+events`"."""
 
 from one_agent import BREAK, FIRE, deliver, event, merge, query, state
 
@@ -21,7 +21,7 @@ def asked(time, number=0, id=1):
 KEEPING_AGENT = "agent 61 4 4 512 8 keep+events"
 IGNORING_AND_KEEPING = "agent 61 4 4 512 8 ignore+events"
 
-# A text of such an agent: an event of time 5 and one of time 6, and a query of time 5.
+# The text of an agent that keeps its events: an event of time 5 and one of time 6, and a query of time 5.
 LIVED = ("event-clock: 05", "#event 5 78 ", "event-clock: 06", "#event 6 79 ", "query-clock: 05", "#query 5 1")
 
 CASES = {
@@ -57,7 +57,7 @@ CASES = {
             (deliver(query(4)), asked(4)),
         ],
         KEEPING_AGENT,
-        # where one of a full time is left out, the least time is raised at once, for the lines further down too
+        # if one event of a full time is left out, the minimum time is raised at once, also for the lines further down
         [
             (restart("event-clock: 06", "#event 5 78 ", "#event 5 79 ", "#event 4 78 ", "#event 6 78 "), "restarted 1 7 1"),
             (deliver(event(5)), "ignored BelowMinimum"),
@@ -132,7 +132,7 @@ CASES = {
     "what `compact` writes": None,
 }
 
-# What a compaction leaves of events of times 5 and 6 and a query of time 3, in windows of four times.
+# What a compaction leaves for events of times 5 and 6 and a query of time 3, in windows of four times.
 COMPACTED = """#least event-clock: 3
 #event 5 78 
 #event 6 79 

@@ -1,42 +1,50 @@
-//! `clocks`: the clocks that a snapshot keeps.
+//! `clocks`: the clocks that are restored from a snapshot.
 
 use crate::fault::{CommandResult, Fault, Status};
 use crate::io::{Io, name_of};
-use crate::options::OptionKind::Needed;
-use crate::options::{CommandRow, rows};
+use crate::options::OptionKind::{Flag, Needed};
+use crate::options::{CommandKind, CommandRow, rows};
 use crate::parts::Part::{Bytes, Word};
 use crate::parts::Text;
 use clap::ArgMatches;
-use serf_judge::{behind_leave, is_snapshot};
+use serf_judge::{behind_leave, is_own_snapshot, is_snapshot, serf_clocks};
+use serf_snap::{Clocks, read_clocks};
 use serf_text::clocks_text;
 use std::alloc::{AllocError, Global};
 
 /// What the command takes.
 pub(crate) const COMMAND: CommandRow = CommandRow {
+    kind: CommandKind::Clocks,
     name: "clocks",
-    about: "Prints the clocks that a snapshot keeps",
+    about: "Prints the clocks that are restored from a snapshot",
     example: "Example: serf-replay clocks local.snapshot",
     rows: rows! {
-        "FILE" Needed => "The snapshot; standard input where it is `-`";
+        "FILE" Needed => "The snapshot; standard input if it is `-`";
+        "own" Flag => "Prints the clocks that an agent of this project restores, whoever wrote the snapshot";
     },
 };
 
-/// Appends the clocks that the text of a snapshot keeps, each behind this word.
-fn put_clocks(out: &mut Text, alloc: Global, word: &str, text: &[u8]) -> Result<(), AllocError> {
-    let clocks = clocks_text(alloc, text)?;
+/// Appends clocks, each after this word.
+fn put_clocks(out: &mut Text, alloc: Global, word: &str, clocks: Clocks) -> Result<(), AllocError> {
+    let clocks = clocks_text(alloc, clocks)?;
     for line in clocks.split_inclusive(|byte| *byte == b'\n') {
         out.put("~~", &[Word(word), Bytes(line)]);
     }
     Ok(())
 }
 
-/// The clocks of a snapshot; and those that Serf goes on from without `-rejoin`, where a line `leave` stands in it.
-fn all_clocks(alloc: Global, snapshot: &[u8]) -> Result<Vec<u8>, AllocError> {
+/// The clocks that are restored from a snapshot: by an agent of this project if `is_own` says so, else by stock Serf with
+/// `-rejoin`, and without it too if the snapshot has a line `leave`.
+fn all_clocks(alloc: Global, snapshot: &[u8], is_own: bool) -> Result<Vec<u8>, AllocError> {
     let mut out = Text::new(alloc);
-    put_clocks(&mut out, alloc, "", snapshot)?;
-    let counted = behind_leave(snapshot);
-    if counted.len() < snapshot.len() {
-        put_clocks(&mut out, alloc, "without -rejoin: ", counted)?;
+    if is_own {
+        put_clocks(&mut out, alloc, "", read_clocks(snapshot))?;
+        return out.whole();
+    }
+    put_clocks(&mut out, alloc, "", serf_clocks(snapshot, true))?;
+    if behind_leave(snapshot).len() < snapshot.len() {
+        let clocks = serf_clocks(snapshot, false);
+        put_clocks(&mut out, alloc, "without -rejoin: ", clocks)?;
     }
     out.whole()
 }
@@ -50,13 +58,14 @@ pub(super) fn check_snapshot<'a>(path: &'a str, text: &[u8]) -> Result<(), Fault
     Err(Fault::File(name, what, Status::Refused))
 }
 
-/// Prints the clocks that the snapshot in a file, or on standard input, keeps.
+/// Prints the clocks that are restored from the snapshot in a file, or on standard input.
 pub(super) fn run<'a>(io: Io, matches: &ArgMatches<'a>) -> CommandResult<'a> {
     let file = matches.get_str("FILE").unwrap_or("-");
     let text = {
         let snapshot = io.source(Some(file))?.text()?;
         check_snapshot(file, &snapshot)?;
-        all_clocks(io.alloc(), &snapshot)
+        let is_own = matches.get_flag("own") || is_own_snapshot(&snapshot);
+        all_clocks(io.alloc(), &snapshot, is_own)
     };
     io.finish(&text?)
 }

@@ -8,7 +8,7 @@ use super::random::{ACTIONS, AGENTS, rules_of};
 use crate::fault::{CommandResult, Fault, command_line};
 use crate::io::Io;
 use crate::options::OptionKind::{Flag, Number, Place, Word};
-use crate::options::{CommandRow, KINDS_OR_ALL, bad_word, rows};
+use crate::options::{CommandKind, CommandRow, KINDS_OR_ALL, bad_word, rows};
 use clap::ArgMatches;
 use hunting::seeds_of;
 use serf_conform::Rules;
@@ -17,21 +17,22 @@ use session::{Against, hold_against, hold_file};
 
 /// What the command takes.
 pub(crate) const COMMAND: CommandRow = CommandRow {
+    kind: CommandKind::Conform,
     name: "conform",
-    about: "Holds an agent on standard input and output against the reference (docs/SPEC.md)",
+    about: "Compares an agent on stdin and stdout with the reference (docs/CONFORMANCE.md)",
     example: "Example: mkfifo f; ./my-agent <f | serf-replay conform examples/what_is_refused.schedule >f",
     rows: rows! {
-        "FILE" Place => "The schedule whose calls are made; left out where --random is given";
-        "agent" Word("AGENT") => "The only agent of a schedule that is held, by its number, from 0 on, or its name; all of them where it is left out";
-        "rules" Word("RULES") => "`serf` ends before the first turn that rests on a rule of this project's own; `own` (as when left out) compares all";
-        "random" Word("A-B") => "Seeds as A-B: the random schedules of these are made, and their calls";
+        "FILE" Place => "The schedule whose calls the agent gets; leave it out with --random";
+        "agent" Word("AGENT") => "Compares only this agent of the schedule, given by its number, from 0 on, or its name; all agents if it is left out";
+        "rules" Word("RULES") => "`serf` ends before the first turn that rests on a rule of this project's own; `own` (the default) compares all turns";
+        "random" Word("A-B") => "Makes the random schedules of seeds A to B, and uses these in place of a file";
         "kind" Word("KIND") => KINDS_OR_ALL;
         "agents" Number("N", 0, MAX_ROUNDS_AGENTS) => AGENTS;
         "actions" Number("N", 0, u64::MAX) => ACTIONS;
-        "go-on" Number("N", 1, u64::MAX) => "With --random: goes on after a disagreement, until so many are reported";
-        "shrink" Flag => "Tries fewer of the calls at which an agent fails, until no single one can be left out";
-        "save" Word("FILE") => "Where --shrink writes the schedule of what is left; standard error where it is left out";
-        "report" Word("FILE") => "Where a line of JSON is written for each disagreement, and one at the end";
+        "go-on" Number("N", 1, u64::MAX) => "With --random: continues after a disagreement, until N of them were reported";
+        "shrink" Flag => "If an agent disagrees: leaves out calls, until no single one of the rest can be left out";
+        "save" Word("FILE") => "The file to which --shrink writes the remaining calls, as a schedule; standard error if it is left out";
+        "report" Word("FILE") => "The file to which a line of JSON is written for each disagreement, and one at the end";
     },
 };
 
@@ -52,10 +53,10 @@ struct HoldOptions<'a> {
 /// Refuses a file for fewer calls where they aren't made fewer, and to go on where one disagreement ends it.
 fn check<'a>(asked: &HoldOptions, is_random: bool) -> Result<(), Fault<'a>> {
     if asked.save.is_some() && !asked.shrinks {
-        return Err(bad_word("save", "a file, where --shrink is given too"));
+        return Err(bad_word("save", "a file, and only with --shrink"));
     }
     if asked.go_on.is_some() && (asked.shrinks || !is_random) {
-        let words = "a number, where --random is given and --shrink isn't";
+        let words = "a number, and only with --random and without --shrink";
         return Err(bad_word("go-on", words));
     }
     Ok(())
@@ -84,10 +85,15 @@ pub(super) fn run<'a>(io: Io, matches: &ArgMatches<'a>) -> CommandResult<'a> {
     match (matches.get_str("FILE"), matches.get_str("random")) {
         (Some(file), None) => hold_file(io, matches, file, asked),
         (None, Some(_)) if matches.get_str("agent").is_some() => {
-            Err(bad_word("agent", "an agent of a schedule, where one is given"))
+            Err(bad_word(
+                "agent",
+                "an agent of a schedule in a file, and not with --random",
+            ))
         }
         (None, Some(word)) => hold_against(io, asked, Against::Seeds(&seeds_of(word, matches)?)),
-        (Some(_), Some(_)) => Err(command_line("a schedule and --random: give one of them")),
-        (None, None) => Err(command_line("no calls: give a schedule, or seeds as --random A-B")),
+        (Some(_), Some(_)) => Err(command_line(
+            "both a schedule and --random are given: give only one of them",
+        )),
+        (None, None) => Err(command_line("no schedule: give a file, or seeds as --random A-B")),
     }
 }

@@ -3,7 +3,7 @@
 use crate::fault::{CommandResult, Fault};
 use crate::io::Io;
 use crate::options::OptionKind::{Flag, Number, Place, Word, Words};
-use crate::options::{CommandRow, SCHEDULE, agents_of, chosen, rows};
+use crate::options::{CommandKind, CommandRow, SCHEDULE, agents_of, chosen, rows};
 use crate::progress::{ACTIONS, Progress};
 use clap::ArgMatches;
 use serf_draw::{Asked, Picture, draw_picture, mermaid_text, svg_text};
@@ -12,17 +12,18 @@ use std::alloc::Global;
 
 /// What the command takes.
 pub(crate) const COMMAND: CommandRow = CommandRow {
+    kind: CommandKind::Draw,
     name: "draw",
     about: "Draws a schedule's run as an SVG file, or as a sequence diagram",
     example: "Example: serf-replay draw examples/deploy_gossiped_twice.schedule > run.svg",
     rows: rows! {
         "FILE" Place => SCHEDULE;
-        "as" Word("FORM") => "`svg` (as when left out), a file; or `mermaid`, the text of a sequence diagram";
-        "agent" Words("AGENT") => "An agent that is drawn, by its number, from 0 on, or its name; may be given many times; all where it is left out";
-        "from" Number("ACTION", 1, u64::MAX) => "The first action that is drawn, counted from 1";
-        "to" Number("ACTION", 1, u64::MAX) => "The last action that is drawn";
+        "as" Word("FORM") => "`svg` (the default), or `mermaid`: the text of a sequence diagram";
+        "agent" Words("AGENT") => "Draws only the lane of this agent, given by its number, from 0 on, or its name; can be repeated; all agents if it is left out";
+        "from" Number("ACTION", 1, u64::MAX) => "The first action to draw, counted from 1";
+        "to" Number("ACTION", 1, u64::MAX) => "The last action to draw";
         "taken" Flag => "Leaves out what was ignored, refused, injected or passed over";
-        "event" Word("NAME") => "The name of the events whose firings, deliveries and hand-outs are drawn, as it is; all actions where it is left out";
+        "event" Word("NAME") => "Draws only what fires, injects, delivers or hands out an event of this name, which is given as it is; all actions if it is left out";
     },
 };
 

@@ -3,7 +3,7 @@
 use crate::fault::{CommandResult, Fault, Status, command_line};
 use crate::io::Io;
 use crate::options::OptionKind::{Flag, Number, Place, Word};
-use crate::options::{CommandRow, SCHEDULE, agents_of, rows};
+use crate::options::{CommandKind, CommandRow, SCHEDULE, agents_of, rows};
 use crate::progress::{ACTIONS, Progress};
 use clap::ArgMatches;
 use serf_explain::{Range, explain, explain_lines};
@@ -11,15 +11,16 @@ use std::io;
 
 /// What the command takes.
 pub(crate) const COMMAND: CommandRow = CommandRow {
+    kind: CommandKind::Explain,
     name: "explain",
-    about: "Writes a schedule's trace, and why each answer came",
+    about: "Writes a schedule's trace, with the reason for each answer",
     example: "Example: serf-replay explain examples/deploy_gossiped_twice.schedule",
     rows: rows! {
         "FILE" Place => SCHEDULE;
-        "stream" Flag => "Does, explains and writes line by line: a schedule of any length, and all of it";
-        "agent" Word("AGENT") => "The only agent that is explained, by its number, from 0 on, or its name; all where it is left out";
-        "from" Number("ACTION", 1, u64::MAX) => "The first action that is explained, counted from 1";
-        "to" Number("ACTION", 1, u64::MAX) => "The last action that is explained";
+        "stream" Flag => "Runs and explains line by line: the schedule may have any length, and all its actions are explained";
+        "agent" Word("AGENT") => "Explains only this agent, given by its number, from 0 on, or its name; all agents if it is left out";
+        "from" Number("ACTION", 1, u64::MAX) => "The first action to explain, counted from 1";
+        "to" Number("ACTION", 1, u64::MAX) => "The last action to explain";
     },
 };
 
@@ -27,9 +28,9 @@ pub(crate) const COMMAND: CommandRow = CommandRow {
 fn tell_empty(io: Io, range: Range, actions: u64) {
     let Range { from, to, .. } = range;
     if from > actions {
-        let _ = eprintln!(io.rt; "nothing to show: the schedule has {actions} actions");
+        let _ = eprintln!(io.rt; "nothing to explain: the schedule has {actions} actions");
     } else if to < from {
-        let _ = eprintln!(io.rt; "nothing to show: action {to} comes before action {from}");
+        let _ = eprintln!(io.rt; "nothing to explain: action {to} is before action {from}");
     }
 }
 

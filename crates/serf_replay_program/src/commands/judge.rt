@@ -6,24 +6,26 @@ use super::clocks::check_snapshot;
 use crate::fault::{CommandResult, Fault, Status};
 use crate::io::Io;
 use crate::options::OptionKind::{Flag, Places, Words};
-use crate::options::{CommandRow, rows};
+use crate::options::{CommandKind, CommandRow, rows};
 use crate::parts::Text;
 use clap::ArgMatches;
 use serf_judge::{Log, has_node, join_logs, read_log};
 use serf_text::StreamFault;
 use std::alloc::AllocError;
-use verdicts::{Placed, Verdicts};
+use verdicts::{Placed, ReadBy, Verdicts};
 
 /// What the command takes.
 pub(crate) const COMMAND: CommandRow = CommandRow {
+    kind: CommandKind::Judge,
     name: "judge",
-    about: "Judges the promises of events and queries on a log of any Serf",
+    about: "Checks a log of handlers from any Serf against the promises about events and queries",
     example: "Example: serf-replay judge examples/incident/handlers.log --kept beta=examples/incident/beta.snapshot",
     rows: rows! {
-        "LOG" Places => "A log, or several; standard input where none is given, and for `-`";
-        "missed" Flag => "Tells too which nodes were never handed an event that others were";
-        "own" Flag => "The snapshots are of agents of this project, which go on after a leave";
-        "kept" Words("NODE=SNAPSHOT") => "What a node's snapshot keeps; may be given many times";
+        "LOG" Places => "One or more logs; standard input if none is given, or for `-`";
+        "missed" Flag => "Also reports which nodes were never handed an event that others were";
+        "own" Flag => "Assumes that an agent of this project is started on the snapshots, whoever wrote them";
+        "serf" Flag => "Assumes that stock Serf is started on the snapshots, whoever wrote them; overrides --own";
+        "kept" Words("NODE=SNAPSHOT") => "Also checks what this node can be handed again after a restart from its snapshot; can be repeated";
     },
 };
 
@@ -80,16 +82,27 @@ fn judge_snapshot<'a>(
     matches: &ArgMatches,
 ) -> Result<(), Fault<'a>> {
     let Some((node, path)) = word.split_once('=') else {
-        let wants = "--kept wants NODE=SNAPSHOT, and not '";
+        let wants = "--kept needs NODE=SNAPSHOT, not '";
         return Err(Fault::CommandLine(wants, word, "'", "", ""));
     };
     if !has_node(log, node.as_bytes()) {
-        let why = ": the log has no event and no query of a node '";
+        let why = ": the log has no event and no query of node '";
         return Err(Fault::CommandLine("--kept ", word, why, node, "'"));
     }
     let snapshot = snapshot_of(io, path)?;
-    verdicts.judge_kept(log, node.as_bytes(), &snapshot, matches.get_flag("own"));
-    Ok(())
+    let (alloc, node) = (io.alloc(), node.as_bytes());
+    Ok(verdicts.judge_kept(alloc, log, node, &snapshot, reads_of(matches))?)
+}
+
+/// What is started on the snapshots, by the words; `--serf` overrides `--own`.
+fn reads_of(matches: &ArgMatches) -> ReadBy {
+    if matches.get_flag("serf") {
+        ReadBy::Serf
+    } else if matches.get_flag("own") {
+        ReadBy::Own
+    } else {
+        ReadBy::Writer
+    }
 }
 
 /// Writes the verdicts on a log, which is `logs` in turn. It is refused where a promise is broken, or a line is bad.

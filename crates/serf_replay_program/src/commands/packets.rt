@@ -3,7 +3,7 @@
 use crate::fault::{CommandResult, Fault, Status, stream_fault};
 use crate::io::Io;
 use crate::options::OptionKind::Place;
-use crate::options::{CommandRow, rows};
+use crate::options::{CommandKind, CommandRow, rows};
 use clap::ArgMatches;
 use hex::FromHexError;
 use serf_packets::{Framing, FramingNotes, decode_lines, encode_blocks, framing_of};
@@ -12,18 +12,20 @@ use std::io;
 
 /// What `decode` takes.
 pub(crate) const DECODE: CommandRow = CommandRow {
+    kind: CommandKind::Decode,
     name: "decode",
     about: "Prints the message that a packet spells",
     example: "Example: serf-replay decode 0381a44e616d65a178, or serf-replay decode < packets",
     rows: rows! {
-        "HEX" Place => "The packet in hex digits; where it is left out or `-`, each line of standard input is one";
+        "HEX" Place => "The packet in hex digits; if it is left out or `-`, each line of standard input is a packet";
     },
 };
 
 /// What `encode` takes: nothing.
 pub(crate) const ENCODE: CommandRow = CommandRow {
+    kind: CommandKind::Encode,
     name: "encode",
-    about: "Writes the canonical packet of each message on standard input, as decode writes them",
+    about: "Reads messages from standard input, in the form that decode prints, and writes their canonical packets",
     example: "Example: serf-replay decode < packets | serf-replay encode",
     rows: &[],
 };
@@ -31,12 +33,12 @@ pub(crate) const ENCODE: CommandRow = CommandRow {
 /// What is said of a packet.
 fn said_of(framing: Framing) -> &'static str {
     match framing {
-        Framing::Probe => "looks like memberlist's own: a ping or an ack",
-        Framing::Rumour => "looks like memberlist's own: that a node is suspect, alive or dead",
-        Framing::Compound => "begins as memberlist's framing: 7, a compound message",
-        Framing::User => "begins as memberlist's framing: 8, a user message",
-        Framing::Compressed => "begins as memberlist's framing: 9, a compressed message",
-        Framing::Checksum => "begins as memberlist's framing: 12, a checksum",
+        Framing::Probe => "looks like a message of memberlist: a ping or an ack",
+        Framing::Rumour => "looks like a message of memberlist: a node is suspect, alive or dead",
+        Framing::Compound => "begins like memberlist's framing: 7, a compound message",
+        Framing::User => "begins like memberlist's framing: 8, a user message",
+        Framing::Compressed => "begins like memberlist's framing: 9, a compressed message",
+        Framing::Checksum => "begins like memberlist's framing: 12, a checksum",
     }
 }
 
@@ -76,12 +78,12 @@ fn tell_bad_hex(io: Io, text: &str) -> Status {
     let _ = match characters.position(|character| !character.is_ascii_hexdigit()) {
         Some(place) => {
             let number = place.saturating_add(1);
-            eprintln!(io.rt; "bad hex: character {number} is no hex digit")
+            eprintln!(io.rt; "bad hex: character {number} is not a hex digit")
         }
         None => eprintln!(io.rt; "bad hex: an odd number of digits, {count}"),
     };
     if io.file(text).is_ok() {
-        let _ = eprintln!(io.rt; "a file? serf-replay decode < {text}");
+        let _ = eprintln!(io.rt; "to decode a file, run: serf-replay decode < {text}");
     }
     Status::Refused
 }

@@ -3,7 +3,7 @@
 use crate::fault::{CommandResult, Fault};
 use crate::io::Io;
 use crate::options::OptionKind::{NeededNumber, Number, Word};
-use crate::options::{CommandRow, KINDS, bad_word, chosen, rows};
+use crate::options::{CommandKind, CommandRow, KINDS, bad_word, chosen, rows};
 use crate::progress::{self, Progress};
 use clap::ArgMatches;
 use serf_conform::Rules;
@@ -15,26 +15,27 @@ use serf_text::MAX_SCHEDULE_BYTES;
 
 /// The help of how many agents there are.
 pub(super) const AGENTS: &str =
-    "How many agents, at most 64, or 10,000 in rounds; by the seed where left out or 0";
+    "The number of agents: at most 64, or 10,000 in rounds; if it is left out or 0, the seed decides";
 
 /// The help of how many actions there are.
 pub(super) const ACTIONS: &str =
-    "How many actions at most; where left out 200, and in rounds all of them";
+    "The maximum number of actions: 200 if it is left out, and no limit in rounds";
 
 /// What the command takes.
 pub(crate) const COMMAND: CommandRow = CommandRow {
+    kind: CommandKind::Random,
     name: "random",
-    about: "Writes a schedule that a seed gives, aimed at the edges of what agents decide",
+    about: "Generates a schedule from a seed that exercises edge cases",
     example: "Example: serf-replay random 7 --kind restarts | serf-replay replay",
     rows: rows! {
         "SEED" NeededNumber => "The seed, a number below 2^64";
         "kind" Word("KIND") => KINDS;
         "agents" Number("N", 0, MAX_ROUNDS_AGENTS) => AGENTS;
         "actions" Number("N", 0, u64::MAX) => ACTIONS;
-        "fanout" Number("N", 1, MAX_FANOUT) => "In rounds: to how many others an agent sends a packet, 1 to 16; 3 where left out";
-        "loss" Number("N", 0, 99) => "In rounds: how many packets in a hundred are lost, 0 to 99; 20 where left out";
-        "rounds" Number("N", 1, MAX_ROUNDS) => "In rounds: how many there are, 1 to 10,000; 10 where left out";
-        "rules" Word("RULES") => "`serf` leaves out what rests on a rule of this project's own; `own` (as when left out) leaves all";
+        "fanout" Number("N", 1, MAX_FANOUT) => "In rounds: to how many others an agent sends a packet in a round, 1 to 16; 3 if it is left out";
+        "loss" Number("N", 0, 99) => "In rounds: how many packets in a hundred are lost, 0 to 99; 20 if it is left out";
+        "rounds" Number("N", 1, MAX_ROUNDS) => "In rounds: how many rounds there are, 1 to 10,000; 10 if it is left out";
+        "rules" Word("RULES") => "`serf` leaves out what rests on a rule of this project's own; `own` (the default) leaves nothing out";
     },
 };
 
@@ -61,7 +62,7 @@ pub(super) fn kind_of(matches: &ArgMatches) -> Option<Kind> {
 pub(super) fn ask_with<'a>(matches: &ArgMatches, seed: u64, kind: Kind) -> Result<Ask, Fault<'a>> {
     let agents = matches.get_one::<u64>("agents").unwrap_or(0);
     if agents > MAX_AGENTS && !kind.is_rounds() {
-        return Err(bad_word("agents", "at most 64, or 10,000 where --kind is rounds"));
+        return Err(bad_word("agents", "at most 64, or 10,000 if --kind is rounds"));
     }
     let left_out = if kind.is_rounds() {
         u64::MAX
@@ -81,7 +82,7 @@ pub(super) fn ask_with<'a>(matches: &ArgMatches, seed: u64, kind: Kind) -> Resul
 fn check_rounds<'a>(matches: &ArgMatches, kind: Kind) -> Result<(), Fault<'a>> {
     for name in ["fanout", "loss", "rounds"] {
         if !kind.is_rounds() && matches.contains_id(name) {
-            return Err(bad_word(name, "a number, where --kind is rounds"));
+            return Err(bad_word(name, "a number, and only if --kind is rounds"));
         }
     }
     Ok(())

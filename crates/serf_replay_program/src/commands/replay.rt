@@ -3,7 +3,7 @@
 use crate::fault::{CommandResult, Fault, Status};
 use crate::io::Io;
 use crate::options::OptionKind::{Flag, Place, Word};
-use crate::options::{CommandRow, SCHEDULE, bad_word, chosen, rows};
+use crate::options::{CommandKind, CommandRow, SCHEDULE, bad_word, chosen, rows};
 use crate::parts::Part::{Bytes, Hex, Number};
 use crate::parts::Text;
 use crate::progress::{ACTIONS, Progress};
@@ -15,14 +15,15 @@ use std::io;
 
 /// What the command takes.
 pub(crate) const COMMAND: CommandRow = CommandRow {
+    kind: CommandKind::Replay,
     name: "replay",
     about: "Runs a schedule and writes its trace",
     example: "Example: serf-replay replay examples/deploy_gossiped_twice.schedule",
     rows: rows! {
         "FILE" Place => SCHEDULE;
-        "stream" Flag => "Does and writes line by line: a schedule of any length";
-        "summary" Flag => "Writes in place of the trace how often each answer came, and who was handed what by when";
-        "as" Word("FORM") => "Of a summary: `text` (as when left out), `csv` or `json`";
+        "stream" Flag => "Runs and writes line by line: the schedule may have any length";
+        "summary" Flag => "Writes a summary in place of the trace: how often each answer occurred, and which agent was handed what by when";
+        "as" Word("FORM") => "The form of a summary: `text` (the default), `csv` or `json`";
     },
 };
 
@@ -110,7 +111,7 @@ fn summary_text(
 
 /// The form that the words ask for. Only a summary has one.
 fn form_of<'a>(matches: &ArgMatches) -> Result<SummaryForm, Fault<'a>> {
-    let words = "text, csv or json, where --summary is given too";
+    let words = "text, csv or json, and only with --summary";
     if !matches.get_flag("summary") && matches.get_str("as").is_some() {
         return Err(bad_word("as", words));
     }

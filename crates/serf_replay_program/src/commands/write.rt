@@ -3,18 +3,19 @@
 use crate::fault::{CommandResult, Fault};
 use crate::io::Io;
 use crate::options::OptionKind::Place;
-use crate::options::{CommandRow, rows};
+use crate::options::{CommandKind, CommandRow, rows};
 use crate::progress::{BYTES, Progress};
 use clap::ArgMatches;
 use serf_write::{WriteFault, write};
 
 /// What the command takes.
 pub(crate) const COMMAND: CommandRow = CommandRow {
+    kind: CommandKind::Write,
     name: "write",
-    about: "Writes the schedule of a text with names, texts and labels",
+    about: "Makes a schedule from a text with names, quoted texts, labels and units",
     example: "Example: serf-replay write examples/deploy_gossiped_twice.written | serf-replay replay",
     rows: rows! {
-        "FILE" Place => "The text; standard input where it is left out or `-`";
+        "FILE" Place => "The text; standard input if it is left out or `-`";
     },
 };
 

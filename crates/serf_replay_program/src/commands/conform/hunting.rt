@@ -39,7 +39,7 @@ fn ends_of(word: &str) -> Option<(u64, u64)> {
 
 /// The seeds of this word, and what the words ask for of each.
 pub(super) fn seeds_of<'a>(word: &str, matches: &ArgMatches) -> Result<Seeds, Fault<'a>> {
-    let words = "seeds as A-B, from the less to the greater";
+    let words = "seeds as A-B, from the smaller to the larger";
     let (first, end) = ends_of(word).ok_or(bad_word("random", words))?;
     let are_of_all_kinds = matches.get_str("kind") == Some("all");
     let kind = if are_of_all_kinds {

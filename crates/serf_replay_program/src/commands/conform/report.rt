@@ -191,9 +191,9 @@ fn put_head(out: &mut Text, held: &HeldAgent, words: &[u8]) {
     let (agent, words) = (Number(held.agent), Shown(words));
     match (held.verdict.action, held.line()) {
         (0, _) => out.put("agent ~: ~\n", &[agent, words]),
-        (_, 0) => out.put("agent ~: behind its last call: ~\n", &[agent, words]),
+        (_, 0) => out.put("agent ~: after its last call: ~\n", &[agent, words]),
         (action, line) => {
-            let place = held.verdict.look.as_ref().map_or("", |_| "behind ");
+            let place = held.verdict.look.as_ref().map_or("", |_| "after ");
             let parts = [agent, Word(place), Number(action), Number(line), words];
             out.put("agent ~: ~action ~, line ~: ~\n", &parts);
         }
@@ -215,7 +215,7 @@ fn difference(
     put_lines(&mut said, b"  got: ", got);
     let mut lines = got.split(|b| *b == b'\n');
     if lines.any(|line| line.last() == Some(&b'\r')) {
-        said.put("  a carriage return: lines end by a newline alone\n", &[]);
+        said.put("  a carriage return: lines end with a newline alone\n", &[]);
     }
     put_changes(&mut said, alloc, wanted, got)?;
     said.whole()

@@ -3,11 +3,12 @@
 use crate::parts::Part::{Bytes, Line, Number, Quoted, Word};
 use crate::parts::{Part, Text};
 use serf_judge::{
-    BadLine, DatedLine, EventEntry, Handed, HandedOut, Key, Log, NodeTally, Tally, behind_leave,
-    first_above, first_event_twice, first_not_later, first_query_twice, first_unfired,
-    is_own_snapshot, log_nodes, missed_events, receivers, tally_repeats,
+    BadLine, DatedLine, EventEntry, Handed, HandedOut, Key, Log, NodeTally, Offered, Reader, Tally,
+    behind_leave, first_again, first_event_twice, first_not_later, first_query_twice,
+    first_unfired, is_own_snapshot, log_nodes, missed_events, receivers, serf_clocks,
+    tally_repeats,
 };
-use serf_snap::read_clocks;
+use serf_snap::{Clocks, read_clocks};
 use std::alloc::{AllocError, Global};
 
 /// How many bad lines are named, and how many nodes of an event that they never had.
@@ -287,49 +288,138 @@ impl<'a> Verdicts<'a> {
         Ok(())
     }
 
-    /// Judges what a clock of a node's snapshot leaves open, where the log has such lines.
-    fn judge_clock<'b, E: HandedOut>(
+    /// Judges which of `entries` the node can be handed again, if there are any. The words are what it keeps, as `its events up
+    /// to`, and the kind of clock.
+    fn judge_again<'b, E: Offered>(
         &mut self,
+        alloc: Global,
         entries: &[E],
-        node: &'b [u8],
+        kept: &Kept<'b>,
         words: [&'b str; 2],
         clock: u64,
-    ) {
+    ) -> Result<(), AllocError> {
         if entries.is_empty() {
-            return;
+            return Ok(());
         }
-        let [how, name] = words;
-        let kept = [Bytes(node), Word(how), Word(name), Number(clock)];
-        self.put("~~ keeps ~ ~", &kept);
-        if let Some(place) = first_above(entries, node, clock)
-            && let Some(entry) = entries.get(place)
-        {
-            let Handed { line, key } = entry.handed();
-            let parts = [self.line(line), Number(key.time)];
-            let text = ", and ~ was handed out at ~: it can be handed out again\n";
-            self.put_broken(text, &parts);
-        } else {
-            self.put(": nothing was handed out above it\n", &[]);
+        let again = first_again(alloc, kept.reader, kept.snapshot, entries, kept.node)?;
+        let [what, name] = words;
+        let parts = [
+            Bytes(kept.node),
+            Word(kept.how),
+            Word(what),
+            Word(name),
+            Number(clock),
+        ];
+        self.put("~~ keeps ~~ ~", &parts);
+        match again.and_then(|place| entries.get(place)) {
+            Some(entry) => self.put_again(entry),
+            None => self.put(kept.none(), &[]),
         }
+        Ok(())
     }
 
-    /// Judges what the clocks of a node's snapshot leave open.
-    fn judge_clocks<'b>(&mut self, log: &Log, node: &'b [u8], how: &'b str, snapshot: &[u8]) {
-        let clocks = read_clocks(snapshot);
+    /// Appends that what a line handed out can be handed out again.
+    fn put_again<E: HandedOut>(&mut self, entry: &E) {
+        let Handed { line, key } = entry.handed();
+        let parts = [self.line(line), Number(key.time)];
+        let text = ", and ~ was handed out at ~: it can be handed out again\n";
+        self.put_broken(text, &parts);
+    }
+
+    /// Judges what a node's snapshot leaves open for one that is started on it.
+    fn judge_reader(
+        &mut self,
+        alloc: Global,
+        log: &Log,
+        kept: &Kept<'_>,
+    ) -> Result<(), AllocError> {
         let (events, queries) = (log.events.as_slice(), log.queries.as_slice());
-        self.judge_clock(events, node, [how, "event-clock"], clocks.event_clock);
-        self.judge_clock(queries, node, [how, "query-clock"], clocks.query_clock);
+        let clocks = kept.clocks();
+        let [of_events, of_queries] = kept.what();
+        let words = [of_events, "event-clock"];
+        self.judge_again(alloc, events, kept, words, clocks.event_clock)?;
+        let words = [of_queries, "query-clock"];
+        self.judge_again(alloc, queries, kept, words, clocks.query_clock)
     }
 
-    /// Judges what a node's snapshot leaves open: of one of Serf's with a line `leave` what it does where Serf is started
-    /// with `-rejoin`, and what without. An agent of this project goes on from all lines.
-    pub(super) fn judge_kept(&mut self, log: &Log, node: &[u8], snapshot: &[u8], is_own: bool) {
-        let counted = behind_leave(snapshot);
-        if is_own || is_own_snapshot(snapshot) || counted.len() == snapshot.len() {
-            self.judge_clocks(log, node, "", snapshot);
-        } else {
-            self.judge_clocks(log, node, " with -rejoin", snapshot);
-            self.judge_clocks(log, node, " without -rejoin", counted);
+    /// Judges what a node's snapshot leaves open, for who reads it. Of a snapshot with a line `leave` it says what stock Serf does
+    /// with `-rejoin`, and what without.
+    pub(super) fn judge_kept(
+        &mut self,
+        alloc: Global,
+        log: &Log,
+        node: &[u8],
+        snapshot: &[u8],
+        reads: ReadBy,
+    ) -> Result<(), AllocError> {
+        let kept = |reader, how| Kept {
+            node,
+            snapshot,
+            reader,
+            how,
+        };
+        let is_own = match reads {
+            ReadBy::Serf => false,
+            ReadBy::Own => true,
+            ReadBy::Writer => is_own_snapshot(snapshot),
+        };
+        if is_own {
+            let keeps = is_own_snapshot(snapshot);
+            return self.judge_reader(alloc, log, &kept(Reader::Agent { keeps }, ""));
+        }
+        let rejoined = Reader::Serf { rejoins: true };
+        if behind_leave(snapshot).len() == snapshot.len() {
+            return self.judge_reader(alloc, log, &kept(rejoined, ""));
+        }
+        self.judge_reader(alloc, log, &kept(rejoined, " with -rejoin"))?;
+        let started = Reader::Serf { rejoins: false };
+        self.judge_reader(alloc, log, &kept(started, " without -rejoin"))
+    }
+}
+
+/// What is started on the snapshots that are given.
+#[derive(Clone, Copy)]
+pub(super) enum ReadBy {
+    /// The program that wrote them: an agent of this project if they have lines that only it writes, and else stock Serf.
+    Writer,
+    /// Stock Serf.
+    Serf,
+    /// An agent of this project, which keeps its events if they have lines that only such an agent writes.
+    Own,
+}
+
+/// A node's snapshot, and what is started on it.
+#[derive(Clone, Copy)]
+struct Kept<'b> {
+    node: &'b [u8],
+    snapshot: &'b [u8],
+    reader: Reader,
+    /// How it is started, with a space before it, or nothing.
+    how: &'b str,
+}
+
+impl<'b> Kept<'b> {
+    /// The clocks that it restores.
+    fn clocks(&self) -> Clocks {
+        match self.reader {
+            Reader::Serf { rejoins } => serf_clocks(self.snapshot, rejoins),
+            Reader::Agent { .. } => read_clocks(self.snapshot),
+        }
+    }
+
+    /// What the snapshot keeps of events and of queries, before the name of the clock.
+    fn what(&self) -> [&'b str; 2] {
+        match self.reader {
+            Reader::Agent { keeps: true } => ["its events up to ", "its queries up to "],
+            _ => ["", ""],
+        }
+    }
+
+    /// What is said if nothing can be handed out again.
+    fn none(&self) -> &'b str {
+        match self.reader {
+            Reader::Agent { keeps: true } => ": nothing can be handed out again\n",
+            _ => ": nothing was handed out above it\n",
         }
     }
 }

@@ -1,6 +1,6 @@
 use Rattle.serf_random.proofs.Names.{[], subst, sym, AddsAgents}
 use Rattle.serf_random.proofs.DraftLemmas.{more_agents, no_agents}
-use Rattle.serf_random.proofs.common.add_without_kept.Goals as goal
+use Rattle.serf_random.proofs.common.add_serfs_agents.Goals as goal
 
 pub loop-config-init : goal.loop-config-init
 loop-config-init c = subst (λ r. AddsAgents c.args.text.now.items c.args.text.now.items [] r) (sym c.new-roster.ensures) (no_agents c.args.text.now.items [])

@@ -1,0 +1,95 @@
+-- What a node can be handed again once something is started on its snapshot.
+use Rattle.std.specs.Prelude.{ℕ, ◌+◌, ◌^◌, ◌==◌, ◌&&◌, nat_lt, nat_le, Bool, true, if◌then◌else◌, List, [], length, codes, Option, Some, None, unwrap_or}
+use Rattle.std.specs.Option.{is_none}
+use Rattle.std.specs.Str.{bytes_eq}
+use Rattle.percent_encoding.specs.Percent.{percent_decode}
+use Rattle.serf_lamport.specs.Clock.{greatest_clock}
+use Rattle.serf_snap.specs.Device.{fresh_device}
+use Rattle.serf_snap.specs.EventLines.{queries_in}
+use Rattle.serf_snap.specs.Notes.{opened}
+use Rattle.serf_snap.specs.declared.kept.Wanted.{Wanted}
+use Rattle.serf_snap.specs.declared.kind.ClockKind.{ClockKind}
+use Rattle.serf_window.specs.Texts.{event_of}
+use Rattle.serf_agent.specs.declared.config.Config.{Config}
+use Rattle.serf_agent.specs.Config.{longest_texts}
+use Rattle.serf_agent.specs.Defaults.{default_config}
+use Rattle.serf_agent.specs.Events.{admission}
+use Rattle.serf_agent.specs.Ideal.{IdealAgent}
+use Rattle.serf_agent.specs.Queries.{query_admission}
+use Rattle.serf_agent.specs.Restart.{restarted, unopened}
+use Rattle.serf_text.specs.Words.{bytes_of}
+use Rattle.serf_judge.specs.declared.entry.EventEntry.{EventEntry}
+use Rattle.serf_judge.specs.declared.entry.QueryEntry.{QueryEntry}
+use Rattle.serf_judge.specs.declared.reader.Reader.{Reader}
+use Rattle.serf_judge.specs.declared.reader.Reader.TheVariants as readers
+use Rattle.serf_judge.specs.Identity.{Identity}
+use Rattle.serf_judge.specs.SerfClocks.{serf_clock}
+
+-- Stock Serf
+
+-- The lowest time that Serf accepts (`serf.go`, `Create`: `eventMinTime`, `queryMinTime`). It wraps at 2^64.
+abbrev pub serf_minimum : ℕ → ℕ
+serf_minimum clock = if clock == greatest_clock then 0 else clock + 1
+
+-- An agent of this project
+
+-- its settings: those by default, of a node whose name doesn't matter
+abbrev pub settings : Bool → Config
+settings keeps = let c = default_config (codes "node") in record {
+  name = c.name;
+  event_buffer = c.event_buffer;
+  query_buffer = c.query_buffer;
+  event_limit = c.event_limit;
+  query_limit = c.query_limit;
+  response_limit = c.response_limit;
+  responders = c.responders;
+  per_time = c.per_time;
+  ignore_old = c.ignore_old;
+  keep_events = keeps;
+}
+
+-- what an opening makes of a text
+abbrev pub opened_on : Bool → List ℕ → IdealAgent
+opened_on keeps text = let s = opened text (fresh_device text) in restarted text s (unopened (settings keeps) s)
+
+-- the text that a word of a handler's log writes: `%` and two hex digits are a byte, and `-` is no text
+abbrev pub unescaped : List ℕ → List ℕ
+unescaped word = if bytes_eq word (codes "-") then [] else percent_decode word
+
+-- An event that was handed out is new if the agent has it neither by the words of a handler's log nor, where these are hex, by
+-- those of a trace.
+abbrev pub is_new_in_hex : IdealAgent → ℕ → Option (List ℕ) → Option (List ℕ) → Bool
+is_new_in_hex i time None payload = true
+is_new_in_hex i time (Some name) None = true
+is_new_in_hex i time (Some name) (Some payload) = is_none (admission i time (event_of name payload))
+
+abbrev pub is_new_event : List ℕ → IdealAgent → EventEntry → Bool
+is_new_event text i e =
+    nat_lt e.time greatest_clock
+    && (is_none (admission i e.time (event_of (unescaped e.name.items) (unescaped e.payload.items)))
+    && is_new_in_hex i e.time (bytes_of e.name.items) (bytes_of e.payload.items))
+
+-- A query that was handed out is new if the text has no line of a query of its time, and the agent would accept it. A handler isn't
+-- told a query's ID, so the time tells which it was.
+abbrev pub of_time : ℕ → Wanted
+of_time time = record { from = time; below = time + 1; longest = longest_texts }
+
+abbrev pub id_of : Option ℕ → ℕ
+id_of id = if nat_lt (unwrap_or id 0) (2 ^ 32) then unwrap_or id 0 else 0
+
+abbrev pub is_new_query : List ℕ → IdealAgent → QueryEntry → Bool
+is_new_query text i q =
+    nat_lt q.time greatest_clock
+    && ((length (queries_in (of_time q.time) text) == 0)
+    && is_none (query_admission i q.time (id_of q.id)))
+
+-- Both
+
+-- whether what was handed out can be handed out again by who reads the text
+abbrev pub is_new_to : {E : Type 0} → ClockKind → (E → ℕ × Identity) → (List ℕ → IdealAgent → E → Bool) → Reader → List ℕ → E → Bool
+is_new_to kind seen is_new (readers.Serf rejoins) text e = nat_le (serf_minimum (serf_clock rejoins kind text)) (seen e).1.time
+is_new_to kind seen is_new (readers.Agent keeps) text e = is_new text (opened_on keeps text) e
+
+-- and was handed to this node
+abbrev pub is_again : {E : Type 0} → ClockKind → (E → ℕ × Identity) → (List ℕ → IdealAgent → E → Bool) → Reader → List ℕ → List ℕ → E → Bool
+is_again kind seen is_new reader text node e = bytes_eq (seen e).1.node node && is_new_to kind seen is_new reader text e

@@ -1,0 +1,277 @@
+//! What a node can be handed again once something is started on its snapshot.
+
+ghost use Rattle.std.specs.Prelude.{◌≡◌, ◌&&◌, IfOk, length, nat_lt};
+ghost use Rattle.std.specs.List.{position_from};
+ghost use Rattle.serf_snap.specs.EventLines.{queries_in};
+ghost use Rattle.serf_agent.specs.Ideal.{IdealAgent};
+ghost use Rattle.serf_agent.specs.Sound.{IsSound};
+ghost use Rattle.serf_agent.specs.View.{view_of};
+ghost use Rattle.serf_text.specs.Words.{bytes_of};
+ghost use Rattle.serf_judge.specs.HandedAgain.{id_of, is_again, is_new_in_hex, of_time, opened_on, serf_minimum, settings, unescaped};
+ghost use Rattle.serf_judge.specs.Kept.{is_line_of};
+
+use crate::entry::{EventEntry, QueryEntry};
+use crate::kept::{first_from, is_of};
+use crate::key::HandedOut;
+use crate::reader::Reader;
+use crate::stock_serf::serf_clocks;
+use percent_encoding::percent_decode;
+use serf_agent::{Agent, Config, LONGEST_TEXTS};
+use serf_lamport::Time;
+use serf_snap::{MemSink, Wanted, read_kept};
+use serf_text::hex_bytes;
+use std::alloc::{AllocError, Global};
+
+/// The lowest time that stock Serf accepts once it restored `clock`. Serf's sum wraps at 2^64.
+fn serf_minimum(clock: u64) -> u64
+    ensures { result ≡ serf_minimum clock }
+{
+    if clock == u64::MAX {
+        return 0;
+    }
+    clock + 1
+}
+
+/// The text that a word of a handler's log writes, as `examples/serf_log_handler.sh` does: `%` and two hex digits are a
+/// byte, and `-` alone is no text.
+fn unescaped(alloc: Global, word: &[u8]) -> Result<Vec<u8>, AllocError>
+    ensures { IfOk result (λ text. text.items ≡ unescaped word.now) }
+{
+    let mut text = Vec::new(alloc);
+    if word == b"-".as_slice() {
+        return Ok(text);
+    }
+    percent_decode(word).append_to(&mut text)?;
+    Ok(text)
+}
+
+/// A line of a log, as an agent that was opened on a snapshot decides about it.
+pub trait Offered: HandedOut {
+    ghost use Rattle.std.specs.Prelude.{◌≡◌, IfOk, ℕ, List, Bool};
+    ghost use Rattle.serf_agent.specs.Ideal.{IdealAgent};
+    ghost use Rattle.serf_agent.specs.Sound.{IsSound};
+    ghost use Rattle.serf_agent.specs.View.{view_of};
+    ghost use Rattle.serf_snap.specs.declared.kind.ClockKind.{ClockKind};
+    ghost use Rattle.serf_judge.specs.SerfClocks.{serf_clock};
+
+    ghost kind: { ClockKind };
+
+    ghost is_new: { List ℕ → IdealAgent → Self → Bool };
+
+    /// The clock of this kind of line that stock Serf restores from a snapshot. Takes no memory.
+    fn serf_clock_in(text: &[u8], rejoins: bool) -> u64
+        ensures { result ≡ serf_clock rejoins kind text.now };
+
+    /// Whether `agent`, which was opened on `text`, would hand this out. It is an `AllocError` only if there is no memory
+    /// for the texts.
+    fn is_new_to(
+        &self,
+        alloc: Global,
+        agent: &Agent<MemSink>,
+        text: &[u8],
+    ) -> Result<bool, AllocError>
+        ensures { (i : IdealAgent) → IsSound i → agent.now.concrete ≡ view_of i
+            → IfOk result (λ new. new ≡ is_new text.now i self.now) };
+}
+
+/// Whether `agent` would hand out the event of `time` whose texts `name` and `payload` write in hex; true where one of them is
+/// no hex.
+fn is_new_in_hex(
+    alloc: Global,
+    agent: &Agent<MemSink>,
+    time: Time,
+    name: &[u8],
+    payload: &[u8],
+) -> Result<bool, AllocError>
+    ensures { (i : IdealAgent) → IsSound i → agent.now.concrete ≡ view_of i
+        → IfOk result (λ new. new
+        ≡ is_new_in_hex i time (bytes_of name.now) (bytes_of payload.now)) }
+{
+    let Some(name) = hex_bytes(alloc, name)? else {
+        return Ok(true);
+    };
+    let Some(payload) = hex_bytes(alloc, payload)? else {
+        return Ok(true);
+    };
+    let reason = agent.judge_event(time, name.as_slice(), payload.as_slice());
+    Ok(reason.is_none())
+}
+
+impl Offered for EventEntry {
+    ghost use Rattle.serf_snap.specs.declared.kind.ClockKind.TheVariants.{Event};
+    ghost use Rattle.serf_judge.specs.HandedAgain.{is_new_event};
+
+    ghost kind = { Event };
+
+    ghost is_new = { is_new_event };
+
+    fn serf_clock_in(text: &[u8], rejoins: bool) -> u64 {
+        serf_clocks(text, rejoins).event_clock
+    }
+
+    fn is_new_to(
+        &self,
+        alloc: Global,
+        agent: &Agent<MemSink>,
+        _text: &[u8],
+    ) -> Result<bool, AllocError> {
+        let Some(time) = Time::new(self.time) else {
+            return Ok(false);
+        };
+        let (name, payload) = (self.name.as_slice(), self.payload.as_slice());
+        let written = (unescaped(alloc, name)?, unescaped(alloc, payload)?);
+        let reason = agent.judge_event(time, written.0.as_slice(), written.1.as_slice());
+        if reason.is_some() {
+            return Ok(false);
+        }
+        is_new_in_hex(alloc, agent, time, name, payload)
+    }
+}
+
+/// Whether `text` keeps a query of `time`.
+fn keeps_query_at(alloc: Global, text: &[u8], time: Time) -> Result<bool, AllocError>
+    ensures { IfOk result (λ keeps. keeps
+        ≡ nat_lt 0 (length (queries_in (of_time time) text.now))) }
+{
+    let of_time = Wanted {
+        from: time.get(),
+        below: time.get() + 1,
+        longest: LONGEST_TEXTS as u64,
+    };
+    let kept = read_kept(alloc, text, of_time, of_time)?;
+    Ok(!kept.queries.is_empty())
+}
+
+/// The ID of a query, and 0 for one that no agent of this project has.
+fn id_of(id: Option<u64>) -> u32
+    ensures { result ≡ id_of id }
+{
+    match id {
+        Some(id) => u32::try_from(id).unwrap_or(0),
+        None => 0,
+    }
+}
+
+impl Offered for QueryEntry {
+    ghost use Rattle.serf_snap.specs.declared.kind.ClockKind.TheVariants.{Query};
+    ghost use Rattle.serf_judge.specs.HandedAgain.{is_new_query};
+
+    ghost kind = { Query };
+
+    ghost is_new = { is_new_query };
+
+    fn serf_clock_in(text: &[u8], rejoins: bool) -> u64 {
+        serf_clocks(text, rejoins).query_clock
+    }
+
+    fn is_new_to(
+        &self,
+        alloc: Global,
+        agent: &Agent<MemSink>,
+        text: &[u8],
+    ) -> Result<bool, AllocError> {
+        let Some(time) = Time::new(self.time) else {
+            return Ok(false);
+        };
+        if keeps_query_at(alloc, text, time)? {
+            return Ok(false);
+        }
+        Ok(agent.judge_query(time, id_of(self.id)).is_none())
+    }
+}
+
+/// The settings of an agent that is opened on a snapshot: those by default, with `keep_events` if `keeps` says so.
+fn settings(alloc: Global, keeps: bool) -> Result<Config, AllocError>
+    ensures { IfOk result (λ config. config ≡ settings keeps) }
+{
+    let config = Config::new(alloc, b"node")?;
+    Ok(Config {
+        keep_events: keeps,
+        ..config
+    })
+}
+
+/// An agent of this project that was opened on `text`, by default settings, with `keep_events` if `keeps` says so.
+fn agent_on(alloc: Global, keeps: bool, text: &[u8]) -> Result<Agent<MemSink>, AllocError>
+    ensures { IfOk result (λ a. (a.concrete ≡ view_of (opened_on keeps text.now))
+        × IsSound (opened_on keeps text.now)) }
+{
+    let config = settings(alloc, keeps)?;
+    let sink = MemSink::with(alloc, text)?;
+    match Agent::open(alloc, config, text, sink) {
+        Ok(agent) => Ok(agent),
+        Err(_) => Err(AllocError),
+    }
+}
+
+/// Whether `entry` was handed to `node`, and `agent`, opened on `text`, would hand it out again.
+fn is_new_for<E: Offered>(
+    alloc: Global,
+    agent: &Agent<MemSink>,
+    text: &[u8],
+    entry: &E,
+    node: &[u8],
+) -> Result<bool, AllocError>
+    ensures { (i : IdealAgent) → IsSound i → agent.now.concrete ≡ view_of i
+        → IfOk result (λ new. new ≡ (is_line_of E.seen node.now entry.now
+        && E.is_new text.now i entry.now)) }
+{
+    if !is_of(entry, node) {
+        return Ok(false);
+    }
+    entry.is_new_to(alloc, agent, text)
+}
+
+/// The place, from 0 on, of the first of `entries` that was handed to `node` and that `agent`, opened on `text`, would hand
+/// out again.
+fn first_new<E: Offered>(
+    alloc: Global,
+    agent: &Agent<MemSink>,
+    text: &[u8],
+    entries: &[E],
+    node: &[u8],
+) -> Result<Option<usize>, AllocError>
+    ensures { (i : IdealAgent) → IsSound i → agent.now.concrete ≡ view_of i
+        → IfOk result (λ place. place ≡ position_from (λ e.
+        is_line_of E.seen node.now e && E.is_new text.now i e) 0 entries.now) }
+{
+    let mut left = entries;
+    'entries: loop {
+        let Some((entry, rest)) = left.split_first() else {
+            return Ok(None);
+        };
+        if is_new_for(alloc, agent, text, entry, node)? {
+            return Ok(Some(entries.len() - left.len()));
+        }
+        left = rest;
+    }
+}
+
+/// The place, from 0 on, of the first of `entries` that was handed to `node` and can be handed to it again once `reader`
+/// is started on the snapshot `text`; `None` if there is none. It is an `AllocError` only if there is no memory for the
+/// agent or for the texts.
+///
+/// An agent of this project hands out again just what it doesn't find too old, below its lowest time or seen, by what its
+/// opening makes of the text ([`Agent::open`]); what another agent tells it at a join can only raise its lowest time. Of a
+/// query the time decides: if the text keeps a query of that time, it is taken for the one that was handed out.
+pub fn first_again<E: Offered>(
+    alloc: Global,
+    reader: Reader,
+    text: &[u8],
+    entries: &[E],
+    node: &[u8],
+) -> Result<Option<usize>, AllocError>
+    ensures { IfOk result (λ place. place
+        ≡ position_from (is_again E.kind E.seen E.is_new reader text.now node.now) 0 entries.now) }
+{
+    match reader {
+        Reader::Serf { rejoins } => {
+            let minimum = serf_minimum(E::serf_clock_in(text, rejoins));
+            Ok(first_from(entries, node, minimum))
+        }
+        Reader::Agent { keeps } => {
+            let agent = agent_on(alloc, keeps, text)?;
+            first_new(alloc, &agent, text, entries, node)
+        }
+    }
+}
