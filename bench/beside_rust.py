@@ -1,11 +1,11 @@
-"""beside_rust.py PROGRAM: replays schedules by the program and by `same_duties`, plain Rust that proves nothing.
+"""beside_rust.py PROGRAM: replays schedules with the program and with `same_duties`, which is plain Rust that proves nothing.
 
-Both run by turns over the same schedule, and have to write the same trace. A line a schedule: the least time of both in
-nanoseconds an action, the start of the process included, and how many times the other the program took. `rustc` is
-wanted.
+Both run alternately on the same schedule, and have to write the same trace. It prints a line for each schedule: the minimum time of
+both in nanoseconds per action, including the start of the process, and the ratio of the program's time to the other. It needs
+`rustc`.
 
-Then merges of a state whose events were all seen, in microseconds each: by the program, the difference of a schedule with
-them and of one without; and by `same_duties/merge.rs`, on the same state, in its own process.
+Then it measures merges of a state whose events were all seen, in microseconds each: for the program, as the difference between a
+schedule with the merges and one without; and for `same_duties/merge.rs`, on the same state, in its own process.
 """
 
 import os
@@ -28,12 +28,12 @@ SCHEDULES = {
 }
 
 
-# How many merges there are, by the events of one time in each of the 512 slots.
+# The number of merges, by the number of events of one time in each of the 512 slots.
 MERGES = {1: 4000, 32: 200}
 
 
 def filling(per_time):
-    """Two agents, of which one has taken in the events of 512 times and tells its state."""
+    """Two agents. One of them receives the events of 512 times, and then sends its state."""
     yield "".join(f"agent {0x61 + n:02x} 512 512 512 8 keep\n" for n in range(2))
     for n in range(512 * per_time):
         packet = schedules.event(1 + n // per_time, b"v%d" % (n % per_time))
@@ -42,14 +42,14 @@ def filling(per_time):
 
 
 def run(words):
-    """The nanoseconds that a command took, and what it wrote."""
+    """Runs a command. Returns the nanoseconds that it took, and its output."""
     start = time.perf_counter_ns()
     ran = subprocess.run(words, stdout=subprocess.PIPE, check=True)
     return time.perf_counter_ns() - start, ran.stdout
 
 
 def least(commands):
-    """The least time of each command, by turns."""
+    """Runs the commands alternately. Returns the minimum time of each."""
     times = [[] for _ in commands]
     for _ in range(ROUNDS):
         traces = set()
@@ -63,7 +63,7 @@ def least(commands):
 
 
 def built(work, name):
-    """A program of `same_duties`, compiled."""
+    """Compiles a program of `same_duties`. Returns its path."""
     path = os.path.join(work, name)
     source = os.path.join(BENCH, "same_duties", f"{name}.rs")
     subprocess.run(["rustc", "--edition", "2021", "-O", "-C", "codegen-units=1", "-o", path, source], check=True)
@@ -78,13 +78,13 @@ def write(work, name, lines):
 
 
 def state_of(program, schedule):
-    """The packet, in hex, that the last line of a run's trace which tells of one says."""
+    """The last packet, in hex, that is sent in the trace of a run."""
     trace = subprocess.run([program, "replay", schedule], stdout=subprocess.PIPE, check=True).stdout.decode()
     return [line.split()[3] for line in trace.splitlines() if " sent " in line][-1]
 
 
 def compare_merges(program, work, per_time, count):
-    """The microseconds of a merge by the program and in plain Rust: the least of each, by turns."""
+    """The microseconds of a merge by the program and in plain Rust: the minimum of each, from alternate runs."""
     lines = list(filling(per_time))
     before = write(work, "before", lines)
     after = write(work, "after", [*lines, f"merge 1 {1024 * per_time} sync\n" * (count + 1)])

@@ -1,6 +1,6 @@
-"""beside_serf.py: what the same calls cost in Serf's own code, of Debian's sources, in its own package: a figure a line.
+"""beside_serf.py: prints what the same calls cost in Serf's own code, from Debian's sources, in its own package: a figure per line.
 
-It needs Go and Debian's golang-github-hashicorp-serf-dev, or the sources in SERF_GOPATH. Where they aren't there it says so.
+It needs Go and Debian's golang-github-hashicorp-serf-dev, or the sources in SERF_GOPATH. If they are missing, it prints that.
 """
 
 import os
@@ -16,7 +16,7 @@ SERF = os.path.join("src", "github.com", "hashicorp", "serf")
 
 def main():
     if shutil.which("go") is None or not os.path.isdir(os.path.join(SOURCES, SERF)):
-        print(f"beside Serf: not run, since go or {os.path.join(SOURCES, SERF)} isn't there")
+        print(f"Serf's figures: not run, because go or {os.path.join(SOURCES, SERF)} isn't there")
         return 0
     with tempfile.TemporaryDirectory(prefix="beside-serf-") as folder:
         package = os.path.join(folder, SERF, "serf")

@@ -1,6 +1,6 @@
-"""bulk.py PROGRAM: packets in bulk, a long log, and many agents.
+"""bulk.py PROGRAM: measures packets in bulk, a long log, and many agents.
 
-Prints for each the processor seconds and the peak of the resident set, in MB of 1,000,000 bytes.
+It prints for each the processor seconds and the peak of the resident set, in MB of 1,000,000 bytes.
 """
 
 import os
@@ -15,7 +15,7 @@ DELIVERIES = 1_000_000
 
 
 def cost(program, words, source, wanted=(0,)):
-    """What the program takes with these words, and its output."""
+    """Runs the program with these words. Returns its processor seconds, the peak of its resident set in bytes, and its output."""
     with tempfile.TemporaryFile() as given, tempfile.TemporaryFile() as out:
         for piece in source:
             given.write(piece)
@@ -35,7 +35,7 @@ def told(what, seconds, peak):
 
 
 def log():
-    """Firings at one node, each handed to another; names and payloads as a handler writes them."""
+    """Events that one node fires and another is handed, with names and payloads as a handler writes them."""
     for i in range(LINES // 2):
         yield b"fired alpha %d deploy v%d\nevent beta %d deploy v%d\n" % (i + 1, i, i + 1, i)
 
@@ -54,7 +54,7 @@ def main():
     told(f"decode, {PACKETS:,} packets of 36 bytes", seconds, peak)
     seconds, peak, packets = cost(program, ["encode"], [texts])
     if packets.count(b"\n") != PACKETS or b"refused" in packets:
-        sys.exit("bulk.py: not each text was encoded")
+        sys.exit("bulk.py: some of the texts were not encoded")
     told(f"encode, {PACKETS:,} texts", seconds, peak)
     seconds, peak, verdicts = cost(program, ["judge"], log())
     told(f"judge, a log of {LINES:,} lines", seconds, peak)

@@ -1,9 +1,9 @@
-/* What a call through the handle costs, in the calls, the sizes and the way of counting of serf_bench's `agents`; and what
- * it costs with its line on a file.
+/* Measures what a call through the handle costs, with the same calls, sizes and way of counting as serf_bench's `agents`; and what
+ * it costs if its line is written to a file.
  *
  *     embedding FOLDER..
  *
- * Each FOLDER gets a snapshot for a while: in memory (/dev/shm) or on a disk. */
+ * Each FOLDER contains a snapshot for a while. It is in memory (/dev/shm) or on a disk. */
 #define _GNU_SOURCE
 #include "serf_agent.h"
 #include "serf_agent_store.h"
@@ -13,7 +13,7 @@
 #include <time.h>
 #include <unistd.h>
 
-/* The library's calls for memory, counted. */
+/* Counts the library's memory calls. */
 static unsigned long taken;
 
 static void *counted_malloc(size_t size) {
@@ -55,7 +55,7 @@ static void open_agent(struct serf_agent *agent, const char *name) {
     must(serf_agent_open(agent, (const uint8_t *)name, 1, &settings, NULL, 0) == SERF_AGENT_OK, "open");
 }
 
-/* What the call left is said to be written, and is thrown away. */
+/* Discards what the call left for the file, and confirms that it was written. */
 static void forget(struct serf_agent *agent) {
     static uint8_t room[4096];
     struct serf_agent_bytes about;
@@ -77,7 +77,7 @@ static bool receive_fresh(struct serf_agent *agent, size_t number) {
     return serf_agent_event(agent, 0, &event, name, sizeof name, payload, sizeof payload) == SERF_AGENT_OK;
 }
 
-/* The calls of a burst from a number on; its outcomes are read once its lines are settled. */
+/* Makes the calls of a burst, beginning with a number. Its outcomes are read after its lines are settled. */
 static void begin_burst(struct serf_agent *agent, size_t first) {
     for (size_t i = 0; i < BURST; i++) {
         must(serf_agent_burst_receive(agent, 0, packets[first + i], lens[first + i], false) == SERF_AGENT_OK, "a call of a burst");
@@ -95,7 +95,7 @@ static void read_burst(struct serf_agent *agent) {
     must(events == BURST, "an event of a burst");
 }
 
-/* A call for each slot, in bursts. */
+/* Makes a call for each slot, in bursts. */
 static bool receive_burst(struct serf_agent *agent, size_t number) {
     if (number % BURST == 0) {
         begin_burst(agent, number);
@@ -121,7 +121,7 @@ static bool read_clocks(struct serf_agent *agent, size_t number) {
     return serf_agent_clocks(agent, &clocks) == SERF_AGENT_OK;
 }
 
-/* The time of a sample of a call for each slot. */
+/* Returns the time of a sample, which has a call for each slot. */
 static double sample(struct serf_agent *agent, bool (*call)(struct serf_agent *, size_t)) {
     double began = now();
     size_t done = 0;
@@ -155,7 +155,7 @@ static void bench_calls(void) {
         clocks = least(clocks, sample(&one, read_clocks));
     }
     printf("handle: receive a repeated event's packet, 1 event a time: %.1f ns\n", repeated / SLOTS);
-    printf("handle: read what it gave: %.1f ns\n", seen / SLOTS);
+    printf("handle: read the result: %.1f ns\n", seen / SLOTS);
     printf("handle: receive a fresh event's packet, 1 event a time: %.1f ns\n", fresh / SLOTS);
     printf("handle: receive a fresh event's packet in a burst of %d: %.1f ns\n", BURST, bursts / SLOTS);
     printf("handle: fire an event: %.1f ns\n", fired / SLOTS);
@@ -167,7 +167,7 @@ static void bench_calls(void) {
     serf_agent_close(&bursting);
 }
 
-/* A line of the usual length appended and flushed, and nothing else. */
+/* Only appends and flushes a line of the usual length. */
 static void bench_flush(const char *folder) {
     struct serf_agent_store store = {0};
     char path[4096];
@@ -186,7 +186,7 @@ static void bench_flush(const char *folder) {
     unlink(path);
 }
 
-/* Bursts with their lines flushed: the least of five samples. */
+/* Bursts with their lines flushed. It prints the minimum of five samples. */
 static void bench_bursts(const char *folder) {
     double spent = 1e18;
     char path[4096];
@@ -228,7 +228,7 @@ static void bench_file(const char *folder) {
     unlink(path);
 }
 
-/* The text that an agent which keeps its events leaves: an event of each time, with texts of 512 bytes together. */
+/* The text that an agent leaves if it keeps its events: an event of each time, whose texts together have 512 bytes. */
 static size_t kept_text(char *text) {
     size_t len = 0;
     for (int time = 1; time <= SLOTS; time++) {
@@ -241,7 +241,7 @@ static size_t kept_text(char *text) {
     return len;
 }
 
-/* An opening on such a text: the least of many. */
+/* Opens an agent on this text. It prints the minimum of many samples. */
 static void bench_opening(void) {
     static char text[SLOTS * 1200];
     struct serf_agent_settings keeping = settings;

@@ -1,8 +1,8 @@
-"""explain.py PROGRAM: `explain` and `explain --stream` beside `replay`, on schedules of deliveries, firings and merges.
+"""explain.py PROGRAM: compares `explain` and `explain --stream` with `replay`, on schedules of deliveries, firings and merges.
 
-Runs them by turns. Prints for each schedule the least processor seconds of five runs, the peak of the resident set in
-MB of 1,000,000 bytes, and how many times those of `replay` these are of the two. `explain` writes a line for each event
-of a merged state, so how many times the bytes it writes stands beside.
+It runs them alternately. For each schedule it prints the minimum processor seconds of five runs, the peak of the resident set in MB
+of 1,000,000 bytes, and the ratios of these to the figures of `replay`. `explain` writes a line for each event of a merged state, so
+the ratio of the bytes that it writes is also printed.
 """
 
 import os
@@ -25,7 +25,8 @@ def fire(n):
 
 
 def fresh(count, per_time):
-    """So many new events, so many of a time, each delivered once. Each is sent on too, so these have the even numbers."""
+    """`count` new events, `per_time` of each time, each delivered once. Each is also sent on, so the numbers of the injected packets
+    are even."""
     for n in range(count):
         yield f"inject {event(1 + n // per_time, b'v%d' % (n % per_time)).hex()}\ndeliver 0 {2 * n} 0\n"
 
@@ -36,7 +37,7 @@ def new(per_time):
 
 
 def seen(per_time):
-    """Deliveries of the events of 512 times, all of which were seen."""
+    """Deliveries of events of 512 times that were all seen before."""
     count = 512 * per_time
     yield agents(1)
     yield from fresh(count, per_time)
@@ -75,7 +76,7 @@ SCHEDULES = {
 }
 
 
-# What is run, by turns.
+# The commands that run alternately.
 WAYS = (["replay"], ["explain"], ["explain", "--stream"])
 
 

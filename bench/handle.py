@@ -1,9 +1,9 @@
-"""handle.py BENCH [ROUNDS] [FOLDER..]: what a call through C's handle costs, beside the same call of a Rattle program.
+"""handle.py BENCH [ROUNDS] [FOLDER..]: prints what a call through C's handle costs, compared with the same call in a Rattle program.
 
-BENCH is serf_bench. It and bench/embedding.c, which times the same calls in the same way, run by turns, so many rounds;
-the least time of each line is printed, and how many times as long the call through the handle takes. A line of Rattle's
-ends where the agent has answered; one of the handle's has also read what the call left for the file, and the event.
-In each FOLDER lines are flushed to a file. The library of crates/serf_agent_c has to be there.
+BENCH is serf_bench. It runs alternately with bench/embedding.c, which measures the same calls in the same way. After ROUNDS rounds
+the script prints the minimum time of each line, and the ratio of the call through the handle to the other. In Rattle a call ends
+when the agent has answered. Through the handle, the host has also read what the call left for the file, and the event. In each
+FOLDER lines are flushed to a file. The library of crates/serf_agent_c has to be built.
 """
 
 import os

@@ -1,7 +1,7 @@
-"""lines.py PROGRAM COUNT: replays so many deliveries of one packet, whole and line by line.
+"""lines.py PROGRAM COUNT: replays COUNT deliveries of one packet, as a whole and line by line.
 
-Prints for each the processor seconds and the peak of the resident set, in MB of 1,000,000 bytes. Where a whole schedule
-is too long, only the other is printed.
+It prints for each the processor seconds and the peak of the resident set, in MB of 1,000,000 bytes. If the schedule is too long to
+be replayed as a whole, it prints only the other.
 """
 
 import os
@@ -14,7 +14,7 @@ LONGEST = 16_777_216
 
 
 def cost(program, words, schedule, trace):
-    """The processor seconds and the greatest resident set, in bytes, of the program with these words."""
+    """Runs the program with these words. Returns its processor seconds and the peak of its resident set in bytes."""
     child = os.posix_spawn(
         program,
         [program, *words],

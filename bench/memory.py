@@ -1,7 +1,7 @@
-"""memory.py PROGRAM NAME < SCHEDULE: replays a schedule and prints what memory that took.
+"""memory.py PROGRAM NAME < SCHEDULE: replays a schedule and prints how much memory that took.
 
-The peak of the resident set, as a ratio to the bytes of the schedule and its trace together. Where the run is
-small, it is the peak of this interpreter that the system tells: some ten megabytes.
+This is the ratio of the peak of the resident set to the bytes of the schedule and its trace together. If the run is small, the
+system reports the peak of this interpreter instead: some ten megabytes.
 """
 
 import os
@@ -10,7 +10,7 @@ import tempfile
 
 
 def replay(program, schedule, trace):
-    """Replays it, and gives the peak of the program's resident set in bytes."""
+    """Replays the schedule. Returns the peak of the program's resident set in bytes."""
     child = os.posix_spawn(
         program,
         [program, "replay", "-"],

@@ -1,6 +1,6 @@
 """schedules.py KIND SIZE: writes a schedule for the bench to standard output.
 
-SIZE is how many actions there are for `run`, `one_time`, `newer_times` and `oversize`, and bytes for the others.
+SIZE is the number of actions for `run`, `one_time`, `newer_times` and `oversize`, and the number of bytes for the others.
 """
 
 import sys
@@ -34,7 +34,7 @@ def agent(name):
 
 
 def filled(first, lines, size):
-    """The first lines, and then as many of the others as so many bytes hold."""
+    """The first lines, and then as many of the others as fit into `size` bytes."""
     length = sum(map(len, first))
     yield from first
     for line in lines:
@@ -52,13 +52,13 @@ def forever():
 
 
 def injections(size):
-    """Events that a stranger sends, and nobody gets."""
+    """Events that a stranger sends and nobody receives."""
     lines = (f"inject {event(n % 60000, b'payload').hex()}\n" for n in forever())
     return filled([], lines, size)
 
 
 def deliveries(size):
-    """A hundred agents get the hundred events of one of them, again and again."""
+    """A hundred agents receive the hundred events of one of them, again and again."""
     first = [agent(f"{n:02x}") for n in range(100)]
     first += [f"fire 0 6465706c6f79 {n:02x} 0\n" for n in range(100)]
     lines = (f"deliver {n % 100} {(n + n // 100) % 100} {n}\n" for n in forever())
@@ -66,12 +66,12 @@ def deliveries(size):
 
 
 def agents(size):
-    """Agents of small buffers."""
+    """Agents with small buffers."""
     lines = (f"agent {n:064x} 1 1 512 8 keep 1024\n" for n in forever())
     return filled([], lines, size)
 
 
-# The shortest lines of each word, behind those that they need.
+# The shortest line of each word, and the lines that have to be before it.
 SHORTEST = {
     "saves": ("", "save 0\n"),
     "fires": ("", "fire 0 61 - 0\n"),
@@ -91,13 +91,13 @@ SHORTEST = {
 
 
 def shortest(kind):
-    """The schedules of a word's shortest line."""
+    """Returns a function that makes schedules of a word's shortest line."""
     first, line = SHORTEST[kind]
     return lambda size: filled(["agent 61 1 1 512 8 keep\n", first], (line for _ in forever()), size)
 
 
 def run(actions):
-    """An agent fires, and another gets the event."""
+    """An agent fires events, and another receives each of them."""
     yield agent("61")
     yield agent("62")
     for n in range(actions // 2):
@@ -106,7 +106,7 @@ def run(actions):
 
 
 def hostile(packets, actions):
-    """A stranger sends packets, and an agent gets each of them as it comes."""
+    """A stranger sends packets, and an agent receives each of them at once."""
     yield agent("61")
     for n in range(actions // 2):
         yield f"inject {packets(n).hex()}\n"
@@ -114,17 +114,17 @@ def hostile(packets, actions):
 
 
 def one_time(actions):
-    """Ever other events of one time."""
+    """Events of one time that are all different."""
     return hostile(lambda n: event(7, b"%d" % n), actions)
 
 
 def newer_times(actions):
-    """Events of ever newer times."""
+    """Events with increasing times."""
     return hostile(lambda n: event(n + 1, b"v1"), actions)
 
 
 def oversize(actions):
-    """Five hundred events with more bytes than any agent takes, again and again."""
+    """Five hundred events with more bytes than any agent accepts, again and again."""
     yield agent("61")
     for n in range(500):
         yield f"inject {event(n + 1, bytes(9217)).hex()}\n"

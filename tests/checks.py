@@ -1,6 +1,6 @@
 """What the scripts of tests/ share: checks and their count, the program that they run, and the files that they read.
 
-A script begins with these lines, and ends with `run`, or with `over_program` where it runs the program:
+A script begins with these lines. It ends with `run`, or with `over_program` if it runs the program:
 
     sys.dont_write_bytecode = True
     sys.path.insert(0, os.path.dirname(os.path.dirname(os.path.abspath(__file__))))
@@ -28,7 +28,7 @@ COMMAND = os.path.join(TOP, "serf-replay")
 EXAMPLES = os.path.join(TOP, "examples")
 ROWS = os.path.join(TOP, "tests", "rows")
 
-# The end of a worked row: what is wanted of its schedule, each line as a comment.
+# The end of a worked row: the expected result of its schedule, each line as a comment.
 WANTED = re.compile(r"^# (trace|fault|lines):\n((?:# .*\n)*)\Z", re.M)
 
 # The kinds of random schedules.
@@ -40,12 +40,12 @@ KINDS = (
 # How many bytes a schedule, a packet or a line of a stream may have.
 LONGEST = 16_777_216
 
-# How long one call of the program may take by the clock, in seconds. `./test --quick` is for any machine, a busy one too,
-# so there a limit in processor seconds is what counts.
+# How long one call of the program may take by the clock, in seconds. `./test --quick` has to work on any machine, a busy one too,
+# so there the limit that matters is in processor seconds.
 PROCESSOR_LIMIT = 600
 LIMIT = 6 * PROCESSOR_LIMIT if programs.IS_UNPROVED else PROCESSOR_LIMIT
 
-# How much is printed of what a failed check saw, in characters.
+# How much of what a failed check saw is printed, in characters.
 SHOWN = 1500
 
 
@@ -66,12 +66,12 @@ def names_in(folder, ending=".schedule"):
 
 
 def row_of(name):
-    """A worked row: its schedule, what kind of thing is wanted of it, and its text; no kind where it says none."""
+    """A worked row: its schedule, the kind of result that it expects, and the expected text. A row that expects none has None as kind."""
     text = text_of(ROWS, name + ".schedule")
-    wanted = WANTED.search(text)
-    if not wanted:
+    expected = WANTED.search(text)
+    if not expected:
         return text, None, ""
-    return text[: wanted.start()], wanted[1], wanted[2].replace("# ", "", 1).replace("\n# ", "\n")
+    return text[: expected.start()], expected[1], expected[2].replace("# ", "", 1).replace("\n# ", "\n")
 
 
 def gate_script():
@@ -89,49 +89,49 @@ def ran(words, given=b""):
 
 
 def processor_seconds():
-    """What all programs took that this script has run to their end. Unlike a clock's, it doesn't grow with what else the machine does."""
+    """The processor time of all programs that this script has run to their end. The load of the machine doesn't change it."""
     used = resource.getrusage(resource.RUSAGE_CHILDREN)
     return used.ru_utime + used.ru_stime
 
 
 class Checks:
-    """How many checks passed, and how many failed. Each that fails is printed."""
+    """How many checks passed, and how many failed. Each failed check is printed."""
 
     def __init__(self):
         self.passed = self.failed = 0
 
-    def check(self, name, holds, said=""):
-        """Counts a check. Where it doesn't hold, what was seen in its place is printed."""
+    def check(self, name, holds, seen=""):
+        """Counts a check. If it doesn't hold, prints what was seen instead."""
         if holds:
             self.passed += 1
             return
         self.failed += 1
-        said = str(said)
-        if len(said) > SHOWN:
-            said = f"{said[: SHOWN // 2]} .. {said[-SHOWN // 2 :]}"
-        print(f"FAILED {name}: {said}", flush=True)
+        seen = str(seen)
+        if len(seen) > SHOWN:
+            seen = f"{seen[: SHOWN // 2]} .. {seen[-SHOWN // 2 :]}"
+        print(f"FAILED {name}: {seen}", flush=True)
 
     def exactly(self, name, words, status, out, err, given=b""):
-        """Checks all that the program answers to these words and this input. Gives what it wrote on standard output."""
-        got = ran(words, given)
-        wanted = (status, out[:300], err[:300])
-        self.check(name, got == (status, out, err), f"wanted {wanted}, got {(got[0], got[1][:300], got[2][:300])}")
-        return got[1]
+        """Checks the status and all output of the program for these words and this input. Returns what it wrote on standard output."""
+        result = ran(words, given)
+        expected = (status, out[:300], err[:300])
+        self.check(name, result == (status, out, err), f"expected {expected}, got {(result[0], result[1][:300], result[2][:300])}")
+        return result[1]
 
     def add(self, passed, failed):
         self.passed += passed
         self.failed += failed
 
     def finish(self):
-        """Prints the count, and gives the status."""
+        """Prints the count, and returns the status."""
         print(f"{self.passed} passed, {self.failed} failed")
         return 1 if self.failed else 0
 
 
 def run(*parts):
-    """Runs the parts of a script, each of which adds to the checks that it is passed. Gives the status."""
+    """Runs the parts of a script, each of which adds to the checks that it is passed. Returns the status."""
     if programs.IS_UNPROVED:
-        # what takes more ends by SIGXCPU; a busy machine has more time by the clock
+        # a part that uses more is ended by SIGXCPU; on a busy machine the limit by the clock is longer
         resource.setrlimit(resource.RLIMIT_CPU, (PROCESSOR_LIMIT, resource.RLIM_INFINITY))
     count = Checks()
     for part in parts:
@@ -144,17 +144,17 @@ def run(*parts):
 
 
 def by_speed(proved_alone, parts):
-    """Runs the parts of a script over the program, and before them those that look at how long it takes and at its memory, or
-    have much for it to do: they are left out where it was compiled unproved, with checks in it."""
+    """Runs the parts of a script over the program. Before them it runs the parts that measure time or memory, or that have much
+    work for the program. They are left out if the program was compiled unproved, since it then has run-time checks."""
     if programs.IS_UNPROVED:
         for part in proved_alone:
-            print(f"not run: {part.__name__}, over a program that was compiled with checks")
+            print(f"not run: {part.__name__}, since the program was compiled with checks")
         return over_program(*parts)
     return over_program(*proved_alone, *parts)
 
 
 def over_program(*parts):
-    """Runs the parts of a script over the program, which is built first where it isn't of the sources as they are."""
+    """Runs the parts of a script over the program, which is built first if the sources have changed."""
     fault = programs.fault_of_build("serf_replay_program")
     if fault:
         count = Checks()

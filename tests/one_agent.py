@@ -1,7 +1,7 @@
-"""One agent that is told what to do, by `replay`: for the scripts that ask the program about the rules.
+"""One agent that is driven through `replay`: for the scripts that check the rules.
 
-What agent 0 is told is a call a line, with no agent's number. A packet that a call names is injected before all others. Of
-an answer all lines are compared, in place of a packet's bytes `sent`.
+Each call of agent 0 is a line without the agent's number. The packet of a call is injected before all calls. All lines of an
+answer are compared, but a packet is only compared as `sent`, without its bytes.
 """
 
 import os
@@ -33,7 +33,7 @@ def answer(time, id, source, flags=0, payload=b""):
 
 
 def state(member=0, events=0, queries=0, slots=()):
-    """A push/pull. A slot is its time and its events' names."""
+    """The packet of a push/pull. A slot is its time and its events' names."""
     held = [messages.Slot(time, [messages.Texts(name, b"") for name in names]) for time, names in slots]
     return messages.encode_state(messages.PushPull(member, [], [], events, held, queries))
 
@@ -47,7 +47,7 @@ def merge(packet, mode="sync"):
 
 
 def answers(calls, agent=AGENT):
-    """What agent 0 answers to each call, its lines joined by commas."""
+    """What agent 0 answers to each call, with the lines joined by commas."""
     packets = [call[1] for call in calls if isinstance(call, tuple)]
     lines = [agent, *(f"inject {packet.hex() or '-'}" for packet in packets)]
     taken = 0
@@ -67,7 +67,7 @@ def answers(calls, agent=AGENT):
 
 
 def rows_of(page):
-    """The cells of the rows of a page's tables, their heads aside."""
+    """The cells of each row of a page's tables, the heads among them."""
     for line in page.splitlines():
         cells = [cell.strip() for cell in line.strip("|").split("|")]
         if line.startswith("|") and not set(line) <= set("|-"):

@@ -1,7 +1,7 @@
 """The commands that the pages show in indented blocks, and which script of tests/ runs each.
 
-A script takes its commands by `of`, and runs them as they stand. So what a page shows anew is run too, and what no script
-takes is a fault of tests/repository/documents.py (`faults`).
+A script gets its commands from `of`, and runs them exactly as the page shows them. So a new command of a page is run too. If no
+script runs it, tests/repository/documents.py fails (`faults`).
 """
 
 import fnmatch
@@ -31,7 +31,7 @@ CONFORM = "tests/program/conform.py"
 EXITS = "tests/repository/exits.py"
 FIRST_CALL = "tests/repository/first_call.py"
 
-# Who runs a command: the pages, how it begins, and the script. The first row that fits counts.
+# Which script runs a command: the pages, how the command begins, and the script. The first row that matches is used.
 RUN_BY = (
     ("docs/WRONG_BODIES.md", "tools/wrong_bodies", EXITS),
     ("CONTRIBUTING.md", "SERF_UNPROVED=1 ", FIRST_CALL),
@@ -44,11 +44,11 @@ RUN_BY = (
     ("*", "(?:./)?serf-replay |for |cut |grep ", COMMAND_LINE),
 )
 
-# The pages whose blocks are a script as they stand, with what they print, and who runs it.
+# The pages whose blocks are a whole script with its output, and the script that runs them.
 SCRIPTS = {"docs/START.md": PACKAGES}
 
-# What is run by no script, and why.
-NOT_RUN = {("README.md", "./test"): "it is what runs them all"}
+# The commands that no script runs, and why.
+NOT_RUN = {("README.md", "./test"): "it runs all the tests"}
 
 # The blocks that aren't commands, by the page and the word that they begin with: what compares them, or what they are.
 LISTINGS = {
@@ -61,23 +61,23 @@ LISTINGS = {
     "bindings/go/README.md": {"require": "two lines of a go.mod"},
     "bindings/python/README.md": {"import": EMBED},
     "bindings/rust/README.md": {"[dependencies]": "two lines of a Cargo.toml", "let": "how a host with tokio calls, which no test compiles"},
-    "crates/*/CALLING.md": {"": "contracts, made of the sources by tools/calling.py"},
-    "docs/ARCHITECTURE.md": {"serf_agent_c": "what is there in Go, as a picture"},
+    "crates/*/CALLING.md": {"": "contracts, generated from the sources by tools/calling.py"},
+    "docs/ARCHITECTURE.md": {"serf_agent_c": "what exists in Go, as a picture"},
     "docs/CONFORMANCE.md": {"agent": CONFORM, "seed": CONFORM},
     "docs/GO.md": {
         "require": "lines of a go.mod",
-        "mkdir": "what lays a program beside the package, and compiles it",
+        "mkdir": "commands that put a program next to the package and compile it",
         "package": "a whole program over bindings/go/serf",
     },
     "docs/SPEC.md": {"open": CONFORM},
     "docs/PROMISES.md": {"--": "tests/repository/documents.py", "fn": "lines of the toolchain, cut short"},
-    "examples/capture/README.md": {"tcpdump": "a capture of a reader's own cluster, which needs root"},
+    "examples/capture/README.md": {"tcpdump": "a capture of a reader's own cluster, which needs root", "#": CAPTURE},
     "tests/README.md": {"tests/": "the folders, as a picture"},
 }
 
 
 class Shown:
-    """A command that a page shows: the page, its line there, the command, and the lines right under it, which it writes."""
+    """A command that a page shows: the page, its line there, the command, and the lines right under it, which are its output."""
 
     def __init__(self, page, line, text):
         self.page, self.line, self.text, self.output = page, line, text, ""
@@ -104,7 +104,7 @@ def blocks(page):
 
 
 def commands_in(page, line, block):
-    """The commands of a block that begins with one. A command goes on behind a backslash at its line's end."""
+    """The commands of a block that begins with one. After a backslash at the end of a line, the command continues on the next line."""
     found, went_on = [], False
     for at, text in enumerate(block.split("\n")[:-1]):
         if went_on:
@@ -120,7 +120,7 @@ def commands_in(page, line, block):
 
 
 def shown():
-    """All commands of all pages, but for those whose blocks are scripts."""
+    """All commands of all pages, except those whose blocks are scripts."""
     for page in documents():
         for line, block in blocks(page):
             if page not in SCRIPTS and COMMAND.match(block):
@@ -136,24 +136,24 @@ def runner(command):
 
 
 def of(script, pages="*"):
-    """The commands that a script has to run, of these pages."""
+    """The commands that a script has to run, from these pages."""
     return [it for it in shown() if runner(it) == script and fnmatch.fnmatch(it.page, pages)]
 
 
 def listing(page, block):
-    """What is told of a block that isn't a command, or None."""
+    """What the table has for a block that isn't a command, or None."""
     word = block.split()[0]
-    told = [own for pages, own in LISTINGS.items() if fnmatch.fnmatch(page, pages)]
-    return next((own.get(word, own.get("")) for own in told), None)
+    listed = [own for pages, own in LISTINGS.items() if fnmatch.fnmatch(page, pages)]
+    return next((own.get(word, own.get("")) for own in listed), None)
 
 
 def faults():
-    """Each block and each command, its page, and what is wrong with it, or None."""
+    """Each block and each command, what is wrong with it, or None, and its page."""
     for page in documents():
         for line, block in blocks(page):
             if page not in SCRIPTS and not COMMAND.match(block):
-                told = listing(page, block)
-                yield f"line {line}", None if told else "is no command, and tests/pages.py says not what it is", page
+                listed = listing(page, block)
+                yield f"line {line}", None if listed else "is no command, and tests/pages.py doesn't say what it is", page
     for command in shown():
         script = runner(command)
         if not script and (command.page, command.text) not in NOT_RUN:
@@ -165,4 +165,4 @@ def faults():
     for script in sorted({script for *_, script in RUN_BY}):
         parts = [script, *glob.glob(f"{script[:-3]}/*.py", root_dir=checks.TOP)]
         takes = any("pages.of(" in checks.text_of(part) for part in parts)
-        yield script, None if takes else "doesn't take the commands that tests/pages.py gives it", "tests/pages.py"
+        yield script, None if takes else "doesn't run the commands that tests/pages.py has for it", "tests/pages.py"

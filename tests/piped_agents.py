@@ -1,19 +1,19 @@
-"""Agents behind the pipe (docs/SPEC.md), held by `conform`: for the scripts that hold one, or run what a page shows of it."""
+"""Agents on the pipe (docs/SPEC.md), compared by `conform`: for the scripts that compare one, or run what a page shows of it."""
 
 import os
 import subprocess
 
 import checks
 
-# The agent in Python; `--wrong NAME` behind it turns one of its bodies wrong.
+# The agent in Python; with `--wrong NAME` after it, one of its bodies is wrong.
 PYTHON_AGENT = os.path.join(checks.TOP, "conformance", "python", "agent.py")
 
-# How long a comparison may take, in seconds: none of ours may hang.
+# How long a comparison may take, in seconds: none of our agents may hang.
 LIMIT = checks.LIMIT / 2
 
 
 def compare(words, agent, program=None):
-    """Runs an agent against the program, each on the other's pipe. Gives the status and the report."""
+    """Runs an agent and the program, each on the other's pipe. Returns the status and the report."""
     to_agent, from_program = os.pipe()
     to_program, from_agent = os.pipe()
     subject = None
@@ -38,8 +38,8 @@ def compare(words, agent, program=None):
 
 
 def folder_of_reader(path, agent=None, program=None):
-    """Makes a folder as a reader's of the pages: with the program, what the pages name beside it, and an agent of the
-    reader's own where one is given."""
+    """Makes a folder as a reader of the pages has it: with the program, the files that the pages name next to it, and the
+    reader's own agent if one is passed."""
     os.mkdir(path)
     for name in ("examples", "conformance"):
         os.symlink(os.path.join(checks.TOP, name), os.path.join(path, name))
@@ -52,7 +52,7 @@ def folder_of_reader(path, agent=None, program=None):
 
 
 def by_shell(folder, lines, **env):
-    """What lines of a page do, by a shell in such a folder."""
+    """What a shell does with lines of a page, in a folder of this kind."""
     env = {**os.environ, "PATH": f"{folder}{os.pathsep}{os.environ['PATH']}", **env}
     words = {"cwd": folder, "env": env, "stdin": subprocess.DEVNULL, "capture_output": True, "text": True}
     return subprocess.run(["bash", "-c", lines], timeout=LIMIT, **words)

@@ -1,8 +1,8 @@
-"""Agents that reply what a trace shows, in the words of docs/SPEC.md, or otherwise: for the scripts that hold them by
+"""Agents that reply what a trace shows, in the words of docs/SPEC.md, or something else: for the scripts that compare them by
 `conform`.
 
-A script has parts, each of which is given the cases that it adds to. It ends with `sys.exit(run(PARTS, sys.argv[1:]))`,
-and with a word it runs them over the program of that path.
+Each part of a script gets the cases that it adds to. The script ends with `sys.exit(run(PARTS, sys.argv[1:]))`. If it is called
+with a word, it runs the parts over the program of that path.
 """
 
 import json
@@ -13,8 +13,8 @@ import tempfile
 import checks
 from piped_agents import compare
 
-# A subject: it reads calls and answers each with the next of its replies, and then ends. `look` is unsupported, or where a
-# file is named for it, answered with the next of that file's replies.
+# A subject: it reads calls and answers each with the next of its replies, and then ends. It answers `look` by unsupported, or if
+# a file is named for it, by the next of that file's replies.
 SUBJECT = """import sys
 replies = open(sys.argv[1], "rb").read().split(b"\\0")
 looks = open(sys.argv[2], "rb").read().split(b"\\0") if len(sys.argv) > 2 else None
@@ -36,7 +36,7 @@ while True:
 
 
 class Packet:
-    """A reader of a packet's MessagePack value, and a writer that spells it otherwise."""
+    """A reader of a packet's MessagePack value."""
 
     def __init__(self, packet):
         self.bytes, self.at = packet, 1
@@ -68,7 +68,7 @@ class Packet:
 
 
 def spell(value):
-    """A value with wide numbers, and a map's fields the other way round."""
+    """Spells a value with wide numbers, and with a map's fields in reverse order."""
     if value is None:
         return b"\xc0"
     if isinstance(value, bool):
@@ -87,7 +87,7 @@ def respelled(packet):
 
 
 def without_nils(packet):
-    """A state with an empty slot more behind its others."""
+    """A state with one more empty slot after its others."""
     value = Packet(packet).value()
     value[b"Events"] = value[b"Events"] + [None]
     return packet[:1] + spell(value)
@@ -98,7 +98,7 @@ def hexed(text):
 
 
 class Turn:
-    """What a call is replied: its lines, and the packet that it gave."""
+    """The reply to a call: its lines, and the packet that the call passes to the agent."""
 
     def __init__(self, lines, given):
         self.lines, self.given = lines, given
@@ -114,7 +114,7 @@ class Turn:
 
 
 def turns_of(path):
-    """The turns of each agent of a schedule, by its trace."""
+    """The turns of each agent of a schedule, from its trace."""
     schedule, trace = checks.text_of(path + ".schedule"), checks.text_of(path + ".trace")
     actions = [line.split() for line in schedule.split("\n") if line.split() and line[0] != "#"]
     agents = sum(1 for words in actions if words[0] == "agent")
@@ -150,12 +150,12 @@ def text_of(turns, change=lambda packet, given: packet):
 
 
 def otherwise(packet, given):
-    """Each packet that is not sent on, spelled otherwise."""
+    """Spells each packet in another way, except one that is sent on."""
     return packet if packet == given else respelled(packet)
 
 
 class Cases:
-    """Agents that are held, in a folder for what they need, and the checks that these add to."""
+    """Agents to compare, in a folder for what they need, and the checks that these comparisons add to."""
 
     def __init__(self, folder, count):
         self.folder, self.count = folder, count
@@ -180,10 +180,10 @@ class Cases:
     def run(self, name, agent, schedule, status, said, words=()):
         got = compare([schedule, *words], agent)
         missing = [part for part in said if part not in got[1]]
-        self.count.check(name, got[0] == status and not missing, f"wanted {status} and {said}, got {got}")
+        self.count.check(name, got[0] == status and not missing, f"expected {status} and {said}, got {got}")
 
-    def machine_told(self, name, agent, words, status, wanted):
-        """Holds an agent with a report, whose lines have to have just these members, and be printable ASCII."""
+    def machine_report(self, name, agent, words, status, wanted):
+        """Compares an agent with a report, whose lines have to have exactly these members, and be printable ASCII."""
         path = os.path.join(self.folder, "told.jsonl")
         got = compare([*words, "--report", path], agent)
         with open(path, "rb") as file:
@@ -195,7 +195,7 @@ class Cases:
 
 
 def run(parts, words):
-    """Runs the parts of a script over the program, or over the one that a word names. Gives the status."""
+    """Runs the parts of a script over the program, or over the one that a word names. Returns the status."""
 
     def all_parts(count):
         with tempfile.TemporaryDirectory() as folder:

@@ -1,4 +1,4 @@
-"""The static library of the agent in C, and what is compiled over it: for the tests that run hosts."""
+"""Builds the static library of the agent for C, and compiles hosts that use it, for tests."""
 
 import fcntl
 import hashlib
@@ -17,34 +17,34 @@ LIBRARY = os.path.join(CRATE, "out", "libserf_agent_c.a")
 INCLUDE = os.path.join(TOP, "include")
 BINDINGS_C = os.path.join(TOP, "bindings", "c")
 
-# What every host in C is compiled with.
+# The flags with which every host in C is compiled.
 STRICT = ["-std=c11", "-Wall", "-Wextra", "-Werror", f"-I{INCLUDE}", f"-I{BINDINGS_C}"]
-# What Go's compilers are told, so that they take fewer processor seconds: one thread each, and to collect garbage seldom. What
-# they make is the same. No test runs with it.
+# Settings with which Go's compilers take fewer processor seconds: one thread each, and rare garbage collection. Their output is the
+# same. No test runs with them.
 LEAN_GO = {"GOMAXPROCS": "1", "GOGC": "400"}
-# What every host is linked with, beside the library.
+# What every host is linked with, in addition to the library.
 STORE = os.path.join(BINDINGS_C, "serf_agent_store.c")
 HEAP = os.path.join(BINDINGS_C, "serf_agent_heap.c")
 
 
 def ran(words, **more):
-    """A command's status and all that it said."""
+    """Runs a command. Returns its status and its output."""
     done = subprocess.run(words, stdin=subprocess.DEVNULL, stdout=subprocess.PIPE, stderr=subprocess.STDOUT, text=True, errors="replace", **more)
     return done.returncode, done.stdout
 
 
 def fault_of_library(over_ci=False):
-    """Proves and builds the library; what went wrong, or None. `over_ci` takes what `rt ci` has just proved, of the library
-    itself and of those below it, as the gate does. What was built once of the same sources is kept on this machine."""
+    """Proves and builds the library. Returns what went wrong, or None. With `over_ci` it uses what `rt ci` has just proved, of the
+    library itself and of those below it, as the gate does. A library that was built from the same sources before is reused."""
     os.makedirs(os.path.dirname(LIBRARY), exist_ok=True)
     with open(f"{LIBRARY}.lock", "w", encoding="utf-8") as lock:
-        # two tests may ask at once: the first one builds
+        # If two tests need the library at once, the first one builds it.
         fcntl.flock(lock, fcntl.LOCK_EX)
         if is_noted() or taken():
             return None
         status, said = built(over_ci)
         if status or not os.path.exists(LIBRARY):
-            return said[-2000:] or "no library was made"
+            return said[-2000:] or "rt lib made no library"
         note()
         keep()
     return None
@@ -55,7 +55,7 @@ def crate_of(rt):
 
 
 def built(over_ci):
-    """Builds the library, and proves it where `rt ci` has not left what it proved: the status, and what was said."""
+    """Builds the library, and proves it unless `rt ci` left its proof. Returns the status and the output."""
     if not over_ci:
         return ran(["rt", "lib"], cwd=CRATE)
     rt = toolchain.load()
@@ -78,19 +78,19 @@ def built(over_ci):
 
 
 def note_checked(crate):
-    """Notes, behind `rt ci`, of which sources it is what `rt ci` proved."""
+    """Records, after `rt ci`, from which sources it proved the library."""
     if os.path.isdir(os.path.join(crate.folder, toolchain.CHECKED)):
         with open(os.path.join(crate.folder, f"{toolchain.CHECKED}.of_ci"), "w", encoding="utf-8") as file:
             file.write(crate.stamp())
 
 
 def drop_checked(crate):
-    """Takes away what an earlier `rt ci` left."""
+    """Removes what an earlier `rt ci` left."""
     shutil.rmtree(os.path.join(crate.folder, toolchain.CHECKED), ignore_errors=True)
 
 
 def is_checked(crate):
-    """Whether what `rt ci` proved stands, of the sources as they are."""
+    """Whether what `rt ci` proved is there, and is from the current sources."""
     try:
         with open(os.path.join(crate.folder, f"{toolchain.CHECKED}.of_ci"), encoding="utf-8") as file:
             return file.read() == crate.stamp() and os.path.isdir(os.path.join(crate.folder, toolchain.CHECKED))
@@ -99,7 +99,7 @@ def is_checked(crate):
 
 
 def of_sources():
-    """A sum of the toolchain and of all sources that the library is made from."""
+    """A hash of the toolchain and of all sources that the library is made from."""
     said = [ran(words)[1] for words in (["rt", "version"], [os.path.join(TOP, "tools", "sources"), os.path.basename(CRATE)])]
     return hashlib.sha256("".join(said).encode()).hexdigest()
 
@@ -110,7 +110,7 @@ def hash_of(path):
 
 
 def state():
-    """A sum of what the library is made from, and one of the library itself."""
+    """A hash of what the library is made from, and a hash of the library itself."""
     return f"{of_sources()} {hash_of(LIBRARY)}\n"
 
 
@@ -120,7 +120,7 @@ def note():
 
 
 def is_noted():
-    """Whether the library stands that was built from the sources as they are."""
+    """Whether the library is there, and was built from the current sources."""
     try:
         with open(f"{LIBRARY}.sources", encoding="utf-8") as file:
             return file.read() == state()
@@ -133,7 +133,7 @@ def kept_at():
 
 
 def keep():
-    """Keeps the library on this machine, with its own sum, as `rt ci` keeps its proofs. Where that can't be written, it isn't."""
+    """Keeps the library on this machine with its hash, as `rt ci` keeps its proofs, if the folder can be written."""
     try:
         machine.write(kept_at(), [LIBRARY, f"{LIBRARY}.sources"])
     except OSError:
@@ -141,7 +141,7 @@ def keep():
 
 
 def taken():
-    """Takes the library of the same sources that an earlier run on this machine built, if its bytes are still those."""
+    """Copies the library that an earlier run on this machine built from the same sources, if its hash is still right."""
     try:
         for name in (LIBRARY, f"{LIBRARY}.sources"):
             shutil.copyfile(os.path.join(kept_at(), os.path.basename(name)), name)
@@ -151,25 +151,25 @@ def taken():
 
 
 def fault_of_host(to, source, library=LIBRARY, more=()):
-    """Compiles a host in C; what the compiler said where it failed, or None."""
+    """Compiles a host in C. Returns the compiler's output if it failed, or None."""
     cc = os.environ.get("CC", "cc")
     status, said = ran([cc, *STRICT, "-O2", *more, "-o", to, source, STORE, HEAP, library])
     return said[-2000:] or f"{cc} failed" if status else None
 
 
 def go_flags(library):
-    """What Go is told of a library's folder, as variables of the environment: nothing of that one which the module finds by
-    itself. A flag for all packages has Go compile its own anew, for each folder."""
+    """The environment variables that name a library's folder to Go. There are none for the folder that the module finds by itself,
+    because a flag for all packages makes Go compile its own packages again for each folder."""
     return {} if os.path.realpath(library) == os.path.realpath(LIBRARY) else {"CGO_LDFLAGS": f"-L{os.path.dirname(library)}"}
 
 
 def go_env(*paths, own=os.environ):
-    """The variables of Go's compiler over packages in folders, as Debian lays them: in order, where one stands in two."""
+    """The environment of Go's compiler with packages from folders like Debian's. The first folder that has a package is used."""
     return {**own, "GO111MODULE": "off", "GOFLAGS": "-trimpath", "GOPATH": os.pathsep.join(paths), **LEAN_GO}
 
 
 def linked_packages(path, *packages, bindings=os.path.join(TOP, "bindings", "go")):
-    """Has Go find packages of bindings/go in a folder by their own paths, all of them where none is named: the folder."""
+    """Lets Go find packages of bindings/go by their own paths in a folder, which it returns. Without names, these are all of them."""
     own = os.path.join(path, "src", "kitchenrue.example")
     os.makedirs(own if packages else os.path.dirname(own), exist_ok=True)
     for name in packages:
@@ -180,13 +180,13 @@ def linked_packages(path, *packages, bindings=os.path.join(TOP, "bindings", "go"
 
 
 def put_beside(module, library):
-    """Has a copy of Go's module serfagent take another library: beside its sources it is found first. Unlike a flag with a
-    folder, that has Go compile none of its own packages anew."""
+    """Makes a copy of Go's module serfagent use another library, which is found first if it is next to the sources. Unlike a flag
+    with a folder, this doesn't make Go compile its own packages again."""
     os.symlink(os.path.abspath(library), os.path.join(module, os.path.basename(LIBRARY)))
 
 
 def fault_of_shared(to, library=LIBRARY):
-    """Makes the shared library for other languages, as bindings/c does: a file of the name libserf_agent.so. What went wrong,
+    """Makes the shared library for other languages, as bindings/c does, in a file named libserf_agent.so. Returns what went wrong,
     or None."""
     status, said = ran(["make", "-s", "-C", BINDINGS_C, f"OUT={os.path.dirname(to)}", f"LIBRARY={library}", to])
     return said[-2000:] or "make failed" if status else None

@@ -1,10 +1,9 @@
 #!/usr/bin/env python3
-"""tools/calling.py [--check | CRATE]: writes CALLING.md of the crates that programs outside are likely to call: what each is
-for, a caller that the gate compiles, and its calls in a line each, with the clauses of each. All of it is read from the
-sources.
+"""tools/calling.py [--check | CRATE]: writes CALLING.md of the crates that other programs are likely to call: the purpose of each,
+a caller that the gate compiles, and its calls with their clauses, one per line. All of it is read from the sources.
 
---check writes nothing, and has status 1, with a line a page, where one isn't what the sources give. CRATE prints such a page of
-any library, and behind it what the words of its clauses mean, by the comments of its specs.
+--check writes nothing. It prints a line for each page that is outdated; the status is then 1. CRATE prints a page of this kind for
+any library, and after it what the words of its clauses mean, from the comments of its specs.
 """
 
 import glob
@@ -33,7 +32,7 @@ DEFINITION = re.compile(r"((?:^-- .*\n)+)(?:abbrev|unfoldable|pub record|abbrev 
 IMPL = re.compile(r"^impl(?:<.*?>)? (?:(\w+)(?:<.*>)? for )?(\w+)")
 METHOD = re.compile(r"^    pub (?:const )?fn (\w+)")
 TRAIT_METHOD = re.compile(r"^    fn (\w+)")
-# Where a signature is over, and its clauses or its body begin.
+# The end of a signature: the beginning of its clauses or of its body.
 BODY = re.compile(r"\s*(?:ensures\b|requires\b|where\b|ghost\b|\{|;|measure\b)")
 
 
@@ -43,13 +42,13 @@ def read(*parts):
 
 
 def exported(lib):
-    """The names that a crate shows."""
+    """The names that a crate exports."""
     words = " ".join(re.findall(r"^pub use (?!serf_)[\w:]*?(?:::)?(\{[^}]*\}|\w+);", lib, re.M))
     return set(re.findall(r"\w+", words))
 
 
 def signature(lines):
-    """A function's signature in a line, up to its clauses."""
+    """A function's signature on one line, up to its clauses."""
     text = ""
     for line in lines:
         if BODY.match(line):
@@ -66,7 +65,7 @@ def signature(lines):
 
 
 def contract(lines):
-    """The lines of a function that begins here, up to its body."""
+    """The lines of the function that begins here, up to its body."""
     indent, found, is_begun = re.match(r" *", "".join(lines[:1]))[0], [], False
     for line in lines:
         is_begun = is_begun or bool(re.match(r" *(?:ensures|requires|ghost)\b", line))
@@ -79,12 +78,12 @@ def contract(lines):
 
 
 def clauses(lines):
-    """The names of the clauses of a function that begins here; one without a name is `one`."""
+    """The names of the clauses of the function that begins here. A clause without a name is `one`."""
     return [clause[1] or "one" for clause in map(CLAUSE.match, contract(lines)) if clause]
 
 
 def has_conditions(lines):
-    """Whether a function that begins here asks something of its caller."""
+    """Whether the function that begins here requires something of its caller."""
     return any(re.match(r" *requires\b", line) for line in contract(lines))
 
 
@@ -114,7 +113,7 @@ def items_in(path):
             is_fn = item[1] == "fn"
             yield None, item[2], signature(lines[at:]) if is_fn else item[2], sentence(docs), lines[at:] if is_fn else []
         elif impl:
-            # (a trait's calls stand at the trait)
+            # A trait's calls are listed at the trait.
             kind, owner = ("for", None) if impl[1] else ("impl", impl[2])
         elif method and owner:
             yield owner, method[1], f"{owner}::{signature(lines[at:])}", sentence(docs), lines[at:]
@@ -133,7 +132,7 @@ def shown_items(crate):
 
 
 def conditions(crate):
-    """The public calls of a crate that ask something of their caller."""
+    """The public calls of a crate that require something of their caller."""
     return {f"{owner}::{name}" if owner else name for owner, name, _, _, lines in shown_items(crate) if lines and has_conditions(lines)}
 
 
@@ -144,7 +143,7 @@ def calls(crate):
 
 
 def function(text, name):
-    """A function of a file as it stands, with its docs."""
+    """A function of a file, unchanged, with its docs."""
     found = re.search(rf"^(?:///.*\n|#\[.*\n)*(?:pub )?fn {name}\b(?s:.*?)^\}}$", text, re.M)
     if not found:
         sys.exit(f"calling: there is no function {name}")
@@ -152,7 +151,7 @@ def function(text, name):
 
 
 def caller(crate):
-    """The part of a page that shows a caller, where the crate has one."""
+    """The part of a page that shows a caller, if the crate has one."""
     if crate not in CALLERS:
         return ""
     path, names = CALLERS[crate]
@@ -160,7 +159,7 @@ def caller(crate):
     shown = re.sub(r"^(?=.)", "    ", text, flags=re.M)
     return f"""## A caller
 
-Of `{path}`, as it stands there:
+From `{path}`:
 
 {shown}
 
@@ -178,7 +177,7 @@ def page(crate):
 
 {caller(crate)}## Its calls
 
-The contract of each stands at its function, clause by clause. `tools/calling.py {crate}` prints what their words mean. [PROMISES.md](../../docs/PROMISES.md) says what they promise together.
+Each call has its contract at its function, clause by clause. `tools/calling.py {crate}` prints what the words of the clauses mean. [PROMISES.md](../../docs/PROMISES.md) says what they promise together.
 
 | Call | What it is | Its clauses |
 |---|---|---|
@@ -187,7 +186,7 @@ The contract of each stands at its function, clause by clause. `tools/calling.py
 
 
 def words(crate):
-    """What the words of a crate's clauses mean, by the comments of its specs."""
+    """What the words of a crate's clauses mean, from the comments of its specs."""
     rows = []
     for path in sorted(glob.glob(os.path.join(TOP, "crates", crate, "specs", "**", "*.antt"), recursive=True)):
         for comment, name in DEFINITION.findall(read(os.path.relpath(path, TOP))):
@@ -196,7 +195,7 @@ def words(crate):
 
 
 def made():
-    """Each page, and whether it is what the sources give."""
+    """Each page, and whether it equals what the sources yield."""
     for crate in CALLERS:
         path = os.path.join("crates", crate, "CALLING.md")
         yield path, os.path.exists(os.path.join(TOP, path)) and read(path) == page(crate)
@@ -212,7 +211,7 @@ def main(given):
     if given:
         faults = [path for path, is_made in made() if not is_made]
         for path in faults:
-            print(f"{path} isn't what the sources give: tools/calling.py makes it")
+            print(f"{path} is outdated: run tools/calling.py")
         return int(bool(faults))
     for crate in CALLERS:
         with open(os.path.join(TOP, "crates", crate, "CALLING.md"), "w", encoding="utf-8") as file:

@@ -1,7 +1,7 @@
-"""What the checks of a command cost: the processor seconds of each crate's proof and edits.
+"""Measures what the checks of a command cost: the processor seconds of each crate's proof and edits.
 
-The toolchain tells no times, so its processes are looked at while they run, a few times a second. What a process took
-after the last look, at most that long, is missing.
+The toolchain reports no times, so this module reads the processor time of its processes a few times a second while they run.
+The time that a process uses after the last reading is missing: at most one interval.
 """
 
 import os
@@ -14,7 +14,7 @@ TICKS_A_SECOND = os.sysconf("SC_CLK_TCK")
 def stat_of(pid):
     """A process's parent, and the processor seconds of it and of its children that have ended."""
     with open(f"/proc/{pid}/stat", encoding="utf-8", errors="replace") as file:
-        # the name stands in brackets, and may have any text
+        # The name is in brackets, and may contain any text.
         words = file.read().rpartition(")")[2].split()
     return int(words[1]), sum(int(word) for word in words[11:15]) / TICKS_A_SECOND
 
@@ -25,17 +25,17 @@ def words_of(pid):
 
 
 def check_in(words):
-    """The crate that a process checks, and whether that is its proof or an edit; None for any other process."""
-    # (beside an unproved run a crate's names are looked at with --start, which proves nothing)
+    """The crate that a process checks, and whether it checks a proof or an edit. None for any other process."""
+    # An unproved run also checks a crate's names with --start, which proves nothing.
     if os.path.basename(words[0]) != "rattle" or "--crate-name" not in words or "fmt" in words[:2] or "--start" in words:
         return None
     crate = words[words.index("--crate-name") + 1]
-    # a proof writes what it made; an edit's check writes nothing
+    # A proof writes its result. An edit's check writes nothing.
     return crate, "proof" if "-o" in words else "edits"
 
 
 class Costs:
-    """Looks at the processes below one, from `watch` until `end`."""
+    """Samples the processes below a process, from `watch` until `end`."""
 
     def __init__(self):
         self.seconds = {}
@@ -62,7 +62,7 @@ class Costs:
             if self.is_below(pid, root, parents):
                 try:
                     found = check_in(words_of(pid))
-                    # a copy that a check made of itself counts with it
+                    # If a check forks, the copy counts with it.
                     if found and check_in(words_of(parents[pid])) != found:
                         self.seconds[pid, found] = used[pid]
                 except (OSError, KeyError):
@@ -75,7 +75,7 @@ class Costs:
         return pid == root
 
     def end(self):
-        """For each crate and kind the seconds of all its processes."""
+        """Returns the seconds of all processes, for each crate and kind."""
         self.ending.set()
         self.looks.join()
         sums = {}

@@ -1,18 +1,18 @@
-"""What refuses a wrong body: many edits in one check of a copy of their crate.
+"""Finds out what refuses each wrong body. One check of a copy of the crate tries many edits.
 
-Since each function is proved against the contracts of the others, edits of different functions stand in the sources
-together. `rattle check --only` looks at the edited functions alone, since each other function of the crate gets a body
-that does nothing and a hole for its proof, and is taken by its statement (`rt ci` has proved it). The check names the
-goals of each edited function that are open. An edit is refused where one of these is of meaning: a clause of an
-`ensures`, an invariant, or the `requires` of a call. It is not where only a sum may overflow, or a name is gone.
+Each function is proved against the contracts of the others, so edits of different functions can be in the sources together.
+`rattle check --only` checks only the edited functions: each other function of the crate gets a body that does nothing and a
+hole for its proof, and its statement is assumed (`rt ci` has proved it). The check names the open goals of each edited
+function. An edit is refused if one of these is a goal of meaning: a clause of an `ensures`, an invariant, or the `requires`
+of a call. It is not refused if only a sum may overflow, or a name is missing.
 
-An open goal shows nothing where the change of shape alone would have opened it. So a refusal is of one of these kinds:
+An open goal shows nothing if the change of shape alone would have opened it. So a refusal has one of these kinds:
 
 - `false`: the prover found values at which the goal is false;
-- `shape`: the edit has the shape of what it replaces, whose goals are proved;
-- `twin`: its neutral twin, of the same shape, is proved;
-- `law`: it edits a definition, and a lemma on it, which was proved, is none any more;
-- `open`: none of these. The goal may be open by the edit's shape alone.
+- `shape`: the edit has the same shape as the text that it replaces, whose goals are proved;
+- `twin`: its neutral twin, with the same shape, is proved;
+- `law`: it edits a definition, and a lemma about the definition, which was proved before, is not proved any more;
+- `open`: none of these. The goal may be open only because of the edit's shape.
 """
 
 import os
@@ -24,10 +24,10 @@ import time
 
 import edits
 
-# How long a check waits, in seconds, before it is made again on a machine that was out of something.
+# How long to wait, in seconds, before a check is repeated because the machine ran out of a resource.
 WAITS = [5, 30, 120]
 
-# What the toolchain says of an open goal, and of a goal whose written answer no longer proves it.
+# What the toolchain prints about an open goal, and about a goal whose written answer no longer proves it.
 OPEN = re.compile(r"^note: (src/\S+?):(\d+):\d+: (.*?) \(`([^`]+)`\)")
 ANSWER = re.compile(r"^\./proofs/(\S+?)/(?:Answers|Invariants|Proof)\.antt:\d+:\d+: error: (?:`([^`]*)`: )?(.*)")
 MEANING = re.compile(r"what the function ensures holds|invariant|requires|what the call")
@@ -36,7 +36,7 @@ LAW = re.compile(r"^fn \S+::laws::\S+: not proved; it stands on `Rattle\.\w+\.pr
 ENDED = re.compile(r"^fn (\S+): (no proof|not proved|could not tell)")
 FALSE = "values at which this goal is false"
 
-# The proof of a function that no edit turns.
+# The proof of a function that no edit changes.
 STUB = (
     "use Rattle.{crate}.proofs.{module}.Statement as stated\n\n"
     "pub {name}_spec : {{M : Type 1}} → stated.statement M\n"
@@ -53,7 +53,7 @@ class Goal:
 
 
 class Refusal:
-    """Which goal of which function refused an edit, and of what kind that is."""
+    """The goal that refused an edit, its function, and the kind of the refusal."""
 
     def __init__(self, kind, goal):
         self.kind = kind
@@ -64,7 +64,7 @@ class Refusal:
 
 
 def stubs_for(crate, batch):
-    """A proof with a hole for each function of the crate that no edit of a batch turns, by its file's path."""
+    """A proof with a hole for each function of the crate that no edit of a batch changes, by its file's path."""
     turned = {name for edit in batch for name in edit.functions}
     stubs = {}
     for path in edits.source_files(crate):
@@ -75,7 +75,8 @@ def stubs_for(crate, batch):
 
 
 def texts_of(crate, batch, is_control):
-    """The texts of a crate's files for a batch: its edits, but for a control, and no body but of the functions that they turn."""
+    """The texts of a crate's files for a batch: with its edits, except in a control, and only with the bodies of the functions that
+    they change."""
     texts = {} if is_control else edits.applied(batch)
     for path in edits.source_files(crate):
         texts[path] = emptied(crate, path, texts.get(path) or edits.text_of(crate, path), batch)
@@ -83,8 +84,8 @@ def texts_of(crate, batch, is_control):
 
 
 def emptied(crate, file, text, batch):
-    """A file's text in which each function that no edit of a batch turns has a body that does nothing: its callers see
-    its contract alone, and its proof has a hole, so nothing of it has to be read."""
+    """A file's text in which each function that no edit of a batch changes has a body that does nothing. Its callers see only its
+    contract, and its proof has a hole, so the body is not needed."""
     turned = {name for edit in batch for name in edit.functions}
     kept = {name.split("::")[-1] for _, name, in_cycle in edits.functions_in(crate, file) if in_cycle or name in turned}
     lines, out, at = text.split("\n"), [], 0
@@ -110,13 +111,13 @@ def goals_in(said):
         if is_open and (MEANING.search(is_open[3]) or is_open[4].startswith("invariant_of-")):
             open_goals.append(Goal(is_open[4], FALSE in line))
         elif answer and answer[2] and not GONE.search(answer[3]):
-            # its written answer, which proved the goal before, does not prove what it is now
+            # The written answer proved the goal before, and doesn't prove the goal as it is now.
             function, goal = answered_by(answer[1], answer[2])
             answered.setdefault(function, []).append(Goal(goal))
         elif line.startswith("fn "):
             if ended:
                 name = function_of(ended[1].partition("::")[2])
-                # a law is refused where a lemma on the definitions is
+                # An edit of a definition is refused if a lemma about the definition is not proved.
                 own = open_goals + answered.get(name, [])
                 goals.setdefault(name, []).extend(own or ([Goal(law[1])] if law else []))
             open_goals = []
@@ -124,7 +125,7 @@ def goals_in(said):
 
 
 def answered_by(folder, goal):
-    """The function and the goal of a written answer; those of a cycle of calls stand in one file."""
+    """The function and the goal of a written answer. The answers of a cycle of calls are in one file."""
     parts = folder.split("/")
     if parts[-1].startswith("+"):
         name, _, goal = goal.partition("-")
@@ -133,13 +134,13 @@ def answered_by(folder, goal):
 
 
 def function_of(name):
-    """The function of a closure; any other function's name is its own."""
+    """The function that contains a closure. For any other function, its own name."""
     found = re.fullmatch(r"(?:(.*)::)?fn::(.*)::\w+", name)
     return "::".join(filter(None, found.groups())) if found else name
 
 
 class Checks:
-    """The checks of one crate's edits. `kept` is a folder in which a check leaves what the next one need not read again."""
+    """The checks of one crate's edits. In the folder `kept`, a check leaves what the next one doesn't have to read again."""
 
     def __init__(self, rt, crate, kept):
         self.lib = rt.rtlib
@@ -147,8 +148,8 @@ class Checks:
         self.kept = kept
 
     def said_of(self, batch, is_control=False):
-        """What the toolchain says of a copy of the crate with the edits of a batch in it, or with none for a control.
-        Where the machine has no room, memory or process left for it, it is made again, up to three times."""
+        """The toolchain's output for a copy of the crate with the edits of a batch, or without them for a control. If the machine
+        has no disk space, memory or process left, the check is repeated, up to three times."""
         for seconds in WAITS:
             try:
                 return self.check(batch, is_control)
@@ -180,7 +181,7 @@ class Checks:
             return ran.stdout
 
     def open_goals(self, batch, is_control=False):
-        """For each edit of a batch, the functions that it turns with their open goals of meaning; and what was said."""
+        """For each edit of a batch, the functions that it changes with their open goals of meaning; and the output."""
         said = self.said_of(batch, is_control)
         goals = goals_in(said)
         return [[(name, goals[name]) for name in edit.functions if name in goals] for edit in batch], said
@@ -194,7 +195,7 @@ class Checks:
         return {edit.name for (edit, twin), own in zip(having, goals) if not own and all(is_proved(said, name) for name in twin.functions)}
 
     def refusals(self, batch):
-        """For each edit of a batch what refused it, or None; and what the toolchain said."""
+        """For each edit of a batch what refused it, or None; and the toolchain's output."""
         goals, said = self.open_goals(batch)
         unclear = [edit for edit, own in zip(batch, goals) if own and not is_clear(edit, own)]
         twins = self.proved_twins(unclear)
@@ -202,7 +203,7 @@ class Checks:
 
 
 def is_proved(said, name):
-    """Whether the toolchain said that a function is proved, but for the holes that stand for the other functions' proofs."""
+    """Whether the toolchain's output has a function as proved, apart from the holes that stand for other functions' proofs."""
     return re.search(rf"^fn \w+::{re.escape(name)}: (?:no holes|depends on a hole in )", said, re.M) is not None
 
 
@@ -212,7 +213,7 @@ def is_clear(edit, own):
 
 
 def refusal_of(edit, own, has_proved_twin):
-    """What refused an edit that left these goals open, or None where there are none."""
+    """What refused an edit that left these goals open, or None if it left none."""
     if not own:
         return None
     for name, goals in own:

@@ -1,17 +1,17 @@
-"""The files of wrong bodies, crates/NAME/mutants/*.edits: what each says of its edits. How an edit is tried and judged is
-decided elsewhere (tools/edits.py, tools/edit_checks.py).
+"""Reads the files of wrong bodies, crates/NAME/mutants/*.edits. tools/edits.py and tools/edit_checks.py decide how an edit is tried
+and judged.
 
 A file has a block of lines for each edit:
 
     edit: NAME      its name, which no other edit of the crate has
     why: WORDS      what the wrong body does
     turns: PATH     a function whose contract has to refuse it; there may be none, or several
-    old: TEXT       a line's text that stands once in the source
-    new: TEXT       what stands there instead
-    twin: TEXT      what stands there in its neutral twin; there may be none
+    old: TEXT       a line's text that is in the source once
+    new: TEXT       the text that replaces it
+    twin: TEXT      the text that replaces it in the neutral twin; there may be none
 
-A line `file: src/lib.rt` (or a file of specs/) says where the texts below it stand, up to the next such line. An edit may
-have several pairs of `old:` and `new:`. Blank lines mean nothing, and no other line may stand in a file.
+A line `file: src/lib.rt` (or a file of specs/) names the file of the texts below it, up to the next line of this kind. An edit
+may have several pairs of `old:` and `new:`. Blank lines are ignored, and a file has no other lines.
 """
 
 import os
@@ -25,8 +25,8 @@ class BadEdit(Exception):
 
 
 class Written:
-    """What a file says of an edit: its name, what it does, its texts with their file and their twins, and the functions
-    that it names."""
+    """An edit as it is in a file: its name, what it does, its texts with their file and their twins, and the functions that it
+    names."""
 
     def __init__(self, name):
         self.name = name
@@ -37,7 +37,7 @@ class Written:
 
 
 class Reader:
-    """Reads the lines of one file in turn."""
+    """Reads the lines of a file, one after another."""
 
     def __init__(self, name):
         self.name = name
@@ -52,7 +52,7 @@ class Reader:
             return
         found = LINE.match(line)
         if not found:
-            raise self.fault(f"this is no line of an edit: {line[:80]}")
+            raise self.fault(f"this isn't a line of an edit: {line[:80]}")
         key, text = found[1], found[2] or ""
         if key == "file":
             self.file = text.strip()
@@ -60,7 +60,7 @@ class Reader:
             self.end()
             self.edits.append(Written(text.strip()))
         elif not self.edits:
-            raise self.fault(f"a '{key}:' line stands before any 'edit:' line")
+            raise self.fault(f"a '{key}:' line is before any 'edit:' line")
         else:
             self.take_of_edit(self.edits[-1], key, text)
 
@@ -74,12 +74,12 @@ class Reader:
             self.old = text
         elif key == "new":
             if self.file is None or self.old is None:
-                raise self.fault("a 'new:' line stands before any 'file:' or 'old:' line")
+                raise self.fault("a 'new:' line is before any 'file:' or 'old:' line")
             edit.pairs.append((self.file, self.old, text))
             edit.twins.append(None)
             self.old = None
         elif not edit.pairs or self.old is not None:
-            raise self.fault("a 'twin:' line stands before any 'new:' line")
+            raise self.fault("a 'twin:' line is before any 'new:' line")
         else:
             edit.twins[-1] = text
 
@@ -88,14 +88,14 @@ class Reader:
             raise self.fault("an 'old:' line has no 'new:' line")
 
     def end(self):
-        """The block of an edit ends."""
+        """Ends the block of an edit."""
         self.end_pair()
         if self.edits and not self.edits[-1].why:
-            raise self.fault("no line 'why:' says what it does")
+            raise self.fault("it has no line 'why:' with what it does")
 
 
 def read(name, text):
-    """The edits of a file's text, as they stand."""
+    """The edits of a file's text, as they are written."""
     reader = Reader(name)
     for line in text.split("\n"):
         reader.take(line)
@@ -104,11 +104,11 @@ def read(name, text):
 
 
 def written_in(folder):
-    """The edits of the files of a folder, by name; none where it isn't there."""
+    """The edits of a folder's files, by name. If there is no folder, there are none."""
     found = {}
     for name in sorted(os.listdir(folder)) if os.path.isdir(folder) else []:
         if not name.endswith(".edits"):
-            raise BadEdit(f"{name}: edits stand in files whose names end in .edits")
+            raise BadEdit(f"{name}: the names of files of edits end in .edits")
         with open(os.path.join(folder, name), encoding="utf-8") as file:
             for edit in read(name, file.read()):
                 if edit.name in found:

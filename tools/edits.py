@@ -1,9 +1,10 @@
-"""Wrong bodies, as edits: what is tried of the files of crates/NAME/mutants/ (tools/edit_files.py reads them), and the
-functions that each edit turns.
+"""Wrong bodies, as edits: the edits that are tried from the files of crates/NAME/mutants/ (tools/edit_files.py reads them), and
+the functions that each edit changes.
 
-An edit's texts apply in turn: a later pair to what an earlier one made. Its lines 'turns:' name the functions whose
-contracts have to refuse it; without one they are those in which a text stands. An edit of a definition, in specs/, names so
-the law that a wrong definition breaks. A neutral twin is the same change of shape, with no change of meaning.
+An edit's texts are applied one after another, a later pair to the result of the earlier ones. Its lines 'turns:' name the
+functions whose contracts have to refuse it. Without such a line, these are the functions that contain its texts. For an edit of a
+definition, in specs/, they name the law that the wrong definition breaks. A neutral twin makes the same change of shape, but
+doesn't change the meaning.
 """
 
 import os
@@ -23,10 +24,10 @@ KEYWORD = re.compile(r"(?:if|else|match|let|for|while|loop|return|break|continue
 # A clause of a contract.
 CLAUSE = re.compile(r"^ *(requires|ensures|ghost)\b")
 
-# The head of an impl: what it is of, and the trait.
+# The head of an impl: its type, and the trait.
 IMPL = re.compile(r"^impl(?P<generic><[^{]*?>)? (?:(?P<trait>[\w:]+)(?:<(?P<with>\w+)[^{]*>)? for )?(?:&(?:'\w+ )?)?(?P<type>\w+)(?:<(?P<of>\w+)>)?", re.M)
 
-# What makes the shape of a text: branches, bindings, exits and calls.
+# The parts that make the shape of a text: branches, bindings, exits and calls.
 SHAPE = re.compile(r"\"(?:[^\"\\]|\\.)*\"|'(?:[^'\\]|\\.)'|(\b(?:if|else|match|let|for|while|loop|return|break|continue)\b|&&|\|\||\?|\|(?=[\w, ]*\|)|\w+!?(?=\())")
 
 
@@ -36,7 +37,7 @@ def text_of(crate, file):
 
 
 class Edit:
-    """An edit: where it stands, its pairs of texts by file, its twin, and the functions that it turns."""
+    """An edit: its place, its pairs of texts by file, its twin, and the functions that it changes."""
 
     def __init__(self, crate, written):
         self.crate = crate
@@ -57,7 +58,7 @@ class Edit:
 
     @property
     def keeps_shape(self):
-        """Whether no text has a branch, binding, exit or call more than the one that it replaces."""
+        """Whether no text has more branches, bindings, exits or calls than the text that it replaces."""
         return all(not shape_of(new) - shape_of(old) for _, old, new in self.pairs)
 
     def twin(self):
@@ -70,7 +71,7 @@ class Edit:
         return other
 
     def spans(self):
-        """What it replaces, as it would alone: by file, where a piece begins and ends, and what stands there then."""
+        """What it replaces, if it is applied alone: by file, the beginning and the end of each piece, and its new text."""
         spans = {}
         for file in dict.fromkeys(file for file, _, _ in self.pairs):
             before = after = text_of(self.crate, file)
@@ -82,7 +83,7 @@ class Edit:
             if all(before.count(old) == 1 for old, _ in pairs):
                 spans[file] = [(before.index(old), before.index(old) + len(old), new) for old, new in pairs]
             else:
-                # a later pair turns what an earlier one made
+                # A later pair changes the result of the earlier ones.
                 begin = len(os.path.commonprefix([before, after]))
                 end = len(os.path.commonprefix([before[begin:][::-1], after[begin:][::-1]]))
                 spans[file] = [(begin, len(before) - end, after[begin : len(after) - end])]
@@ -90,7 +91,7 @@ class Edit:
 
 
 def shape_of(text):
-    """How many branches, bindings, exits and calls of each kind a text has; a call's name doesn't matter."""
+    """How many branches, bindings, exits and calls a text has of each kind. The names of calls don't matter."""
     found = (match[1] for match in SHAPE.finditer(text))
     return Counter("call" if re.match(r"\w+!?$", word) and not KEYWORD.match(word) else word for word in found if word)
 
@@ -101,13 +102,13 @@ def edits_of(crate):
 
 
 def overlap(one, other):
-    """Whether two edits replace one and the same text."""
+    """Whether two edits replace the same text."""
     others = other.spans()
     return any(begin < end_2 and begin_2 < end for file, spans in one.spans().items() for begin, end, _ in spans for begin_2, end_2, _ in others.get(file, []))
 
 
 def applied(batch):
-    """The texts of the files, with all edits of a batch in them."""
+    """The texts of the files with all edits of a batch."""
     spans = {}
     for edit in batch:
         for file, own in edit.spans().items():
@@ -122,7 +123,7 @@ def applied(batch):
 
 
 def batches_of(edits):
-    """The edits in as few lists as can be in which no two turn one function; one of a definition stands alone."""
+    """The edits in as few lists as possible, so that no two of a list change the same function. An edit of a definition is alone."""
     batches = [[edit] for edit in edits if edit.is_definition]
     alone = len(batches)
     for edit in edits:
@@ -138,7 +139,7 @@ def batches_of(edits):
 
 
 def source_files(crate):
-    """The paths of a crate's source files but its tests, below the crate's folder."""
+    """The paths of a crate's source files without its tests, relative to the crate's folder."""
     source = os.path.join(TOP, "crates", crate, "src")
     for folder, _, files in sorted(os.walk(source)):
         for file in sorted(files):
@@ -148,7 +149,7 @@ def source_files(crate):
 
 
 def function_at(crate, file, old):
-    """The path of the function in which a text stands, as the toolchain names it below the crate."""
+    """The path of the function that contains a text, as the toolchain names it below the crate."""
     text = text_of(crate, file)
     if text.count(old) != 1:
         raise BadEdit(f"{crate}: a text stands {text.count(old)} times in {file}: {old}")
@@ -161,7 +162,7 @@ def function_at(crate, file, old):
 
 
 def functions_in(crate, file):
-    """Where each function of a file begins, its path, and whether it is in a cycle of calls."""
+    """The line at which each function of a file begins, its path, and whether it is in a cycle of calls."""
     text, head, found = text_of(crate, file), None, []
     in_cycle = False
     for line in re.finditer(r".*\n", text):
@@ -183,11 +184,11 @@ def path_of(crate, file, head, name):
     module = module_of(file)
     if head is None:
         return "::".join([*module, name])
-    # a trait's argument that is the impl's own type is not in its name
+    # If a trait's argument is the impl's own type, it is not in the name.
     at_trait = head["with"] if head["with"] and head["with"] != head["type"] else ""
-    # a drop that is written out is named as a function of the type's own
+    # A `drop` is named like one of the type's own functions.
     trait = head["trait"].split("::")[-1] + at_trait if head["trait"] not in (None, "Drop") else ""
-    # an impl of a generic type at one type has that type in its name
+    # An impl of a generic type for one type argument has that type in its name.
     at_type = f"+{head['of']}" if head["of"] and not head["generic"] else ""
     if not trait and not at_type:
         module = home_of(crate, head["type"]) or module
@@ -200,7 +201,7 @@ def module_of(file):
 
 
 def home_of(crate, name):
-    """The module in which a type of the crate stands."""
+    """The module that contains a type of the crate."""
     for path in source_files(crate):
         if re.search(rf"^(?:pub(?:\([^)]*\))? )?(?:struct|enum) {name}\b", text_of(crate, path), re.M):
             return module_of(path)
@@ -208,11 +209,11 @@ def home_of(crate, name):
 
 
 def body_at(lines, at):
-    """The lines that open and close the body of the function whose head begins at a line, or None where it has none."""
+    """The lines that open and close the body of the function whose head begins at a line, or None if it has no body."""
     indent = re.match(r" *", lines[at])[0]
     open_braces = 0
     for begin in range(at, len(lines)):
-        # a clause may go over several lines
+        # A clause may have several lines.
         is_clause = open_braces or CLAUSE.match(lines[begin])
         if is_clause:
             open_braces += lines[begin].count("{") - lines[begin].count("}")
@@ -220,7 +221,7 @@ def body_at(lines, at):
             return None
         if is_clause:
             continue
-        # a body begins at the head's end, or on a line of its own behind the clauses
+        # A body begins at the head's end, or on a separate line after the clauses.
         if lines[begin] == indent + "{" or lines[begin].endswith(" {"):
             return begin, lines.index(indent + "}", begin)
     return None

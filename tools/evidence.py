@@ -1,11 +1,11 @@
-"""What refused each edit, kept in the repository: tests/refused/CRATE.txt.
+"""The evidence of what refused each edit, which is kept in the repository: tests/refused/CRATE.txt.
 
-A file's first lines name the toolchain, and a sum of the scripts that judged. Then each edit has a line: its name, a sum
-of all that its check reads (tools/reach.py), the kind of its refusal (tools/edit_checks.py) and the goal. A line is
-believed only where the toolchain's logic, scripts and sum are those of now; else the edit is tried.
+A file's first lines name the toolchain, and a hash of the scripts that judged. Then each edit has a line: its name, a hash
+of everything that its check reads (tools/reach.py), the kind of its refusal (tools/edit_checks.py) and the goal. A line is
+believed only if the toolchain's logic, the scripts and the hash are still the same. Otherwise the edit is tried.
 
-Of the edits whose lines are believed the gate tries a share all the same, drawn by the commit's hash: nobody knows
-before a commit which these are. So a line that claims what isn't so is found sooner or later.
+The gate also tries a share of the edits whose lines are believed, drawn by the commit's hash. Nobody knows before a commit which
+these are, so a false line is found sooner or later.
 """
 
 import hashlib
@@ -19,17 +19,17 @@ from edit_checks import Refusal
 
 FOLDER = os.path.join(edits.TOP, "tests", "refused")
 
-# Of 100 crates, how many a commit draws, and of 100 edits of such a crate how many are tried though their lines are
-# believed: 2 in 100 of all. A crate's first check reads all that stands below it, so as many edits of a few crates cost
-# half of what they cost where each crate has some.
+# How many of 100 crates a commit draws, and how many of 100 edits of a drawn crate are tried although their lines are believed: 2
+# in 100 of all. A crate's first check reads everything below it, so the same number of edits costs half as much if they belong to
+# a few crates.
 CRATES, EDITS = 20, 10
 
-# The scripts that decide how an edit is tried and judged. How its file is read isn't among them (tools/edit_files.py): what
-# was read of it is in the sum of its line.
+# The scripts that decide how an edit is tried and judged. tools/edit_files.py, which reads the files, isn't one of them: what it
+# read is in the hash of each line.
 JUDGES = ["edits.py", "edit_checks.py"]
 
-# What a toolchain says of itself: its name, and the sum of its logic. Two of one logic refuse an edit by one goal, so what
-# one refused needn't be tried by the other; what else they differ in is for the share that a commit draws.
+# What a toolchain reports about itself: its name, and the hash of its logic. Two toolchains with the same logic refuse an edit by
+# the same goal, so the second needn't try what the first refused. The share that a commit draws covers their other differences.
 TOOLCHAIN = re.compile(r"toolchain \S+ logic ([0-9a-f]+)$")
 
 LINE = re.compile(r"(\w+) ([0-9a-f]{32}) (false|shape|twin|law|open) (.+)$")
@@ -40,7 +40,7 @@ def said_by(*words):
 
 
 def judge():
-    """A sum of the scripts that judge, without their comments."""
+    """A hash of the scripts that judge, without their comments and docstrings."""
     texts = []
     for name in JUDGES:
         with open(os.path.join(edits.TOP, "tools", name), encoding="utf-8") as file:
@@ -53,7 +53,7 @@ def head():
 
 
 def logic_of(first):
-    """The logic that the first line of a file is of, or all of the line where it names none."""
+    """The logic that the first line of a file names, or the whole line if it names none."""
     named = TOOLCHAIN.match(first)
     return named[1] if named else first
 
@@ -77,27 +77,27 @@ class Evidence:
         first, second, *lines = [line for line in text.split("\n") if not line.startswith("#")] + ["", ""]
         toolchain, judged = now.split("\n")
         if logic_of(first) != logic_of(toolchain) or second != judged:
-            why = "was judged by other scripts" if logic_of(first) == logic_of(toolchain) else "is of a toolchain of another logic"
-            self.faults.append(f"tests/refused/{crate}.txt {why}: its edits are tried anew")
+            why = "was written by other scripts" if logic_of(first) == logic_of(toolchain) else "is of a toolchain of another logic"
+            self.faults.append(f"tests/refused/{crate}.txt {why}: all its edits are tried again")
             return
         for line in lines:
             found = LINE.match(line)
             if found:
                 self.lines[found[1]] = (found[2], Refusal(found[3], found[4]))
             elif line:
-                self.faults.append(f"tests/refused/{crate}.txt: this line is none of an edit: {line[:80]}")
+                self.faults.append(f"tests/refused/{crate}.txt: this line isn't the line of an edit: {line[:80]}")
 
     def refusal(self, edit, sum_now):
-        """What refused an edit, where its line is of the present sum."""
+        """What refused an edit, if its line has the current hash."""
         total, refusal = self.lines.get(edit.name, (None, None))
         return refusal if total == sum_now else None
 
     def gone(self, names):
-        """The edits of the file that the crate has no more."""
+        """The edits of the file that the crate doesn't have any more."""
         return [f"tests/refused/{self.crate}.txt: there is no edit {name}" for name in self.lines if name not in names]
 
     def write(self, now, sums, refusals):
-        """Writes the lines of these edits, by name, in place of what the file has."""
+        """Replaces the file's lines by the lines of these edits, by name."""
         os.makedirs(FOLDER, exist_ok=True)
         lines = [f"{name} {sums[name]} {refusals[name].kind} {refusals[name].goal}" for name in sorted(refusals)]
         with open(f"{path_of(self.crate)}.new", "w", encoding="utf-8") as file:
@@ -106,7 +106,7 @@ class Evidence:
 
 
 def commit():
-    """The hash of the commit that stands, or None where this is no repository."""
+    """The hash of the current commit, or None if this is not a repository."""
     try:
         return said_by("git", "rev-parse", "HEAD")
     except (OSError, subprocess.CalledProcessError):
@@ -114,11 +114,11 @@ def commit():
 
 
 def drawn_number(*words):
-    """A number below 100 that these words give, and nobody knows before."""
+    """A number below 100 that follows from these words, and that nobody knows before."""
     return int(hashlib.sha256(" ".join(words).encode()).hexdigest(), 16) % 100
 
 
 def is_drawn(name, at_commit):
-    """Whether a commit draws an edit, CRATE/EDIT, so that it is tried though its line is believed."""
+    """Whether a commit draws an edit, CRATE/EDIT, so that it is tried although its line is believed."""
     crate = name.partition("/")[0]
     return drawn_number(at_commit, crate) < CRATES and drawn_number(at_commit, name) < EDITS

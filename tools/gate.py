@@ -1,4 +1,4 @@
-"""The parts of the gate: what each ran and took, how far the whole is, and the rows of tools/gate.rows."""
+"""The parts of the gate: what each ran and took, the progress of the whole, and the rows of tools/gate.rows."""
 
 import os
 import re
@@ -13,24 +13,24 @@ ROWS = os.path.join(TOP, "tools", "gate.rows")
 
 COUNT = re.compile(r"^(\d+) passed, (\d+) failed$", re.M)
 
-# What `rt ci` says of a crate that stands, by a proof of this run or of an earlier one on this machine.
+# What `rt ci` prints about a crate that is proved, in this run or in an earlier one on this machine.
 PROVED = re.compile(r"^rt: (\w+) (proved$|is kept: an earlier run on this machine proved the same files)", re.M)
 REFUSED = re.compile(r"^rt: must-fail \S+: refused", re.M)
 
-# What `rt ci` says where all is well; before any other of its lines the toolchain's own are shown.
+# What `rt ci` prints if all is well. Before any other of its lines, the toolchain's own lines are shown.
 WELL = re.compile(r"^rt: (\w+ proved$|\w+ is kept|\w+: trying its must-fail|must-fail \S+: refused|\w+: its tests are proved|chose|ok)")
 
-# How long a gate that kept nothing may take by the clock, in seconds, where it has two processors or more: CI ends it at 180
+# How long a gate for which no proof was kept may take by the clock, in seconds, with two processors or more. CI ends it after 180
 # minutes.
 LONGEST = 150 * 60
 
 # The parts of the whole, as the rows name them.
 PROOFS, EDITS, MUTANTS, SCRIPTS = PARTS = ("proofs and programs", "must-fail edits", "tools/mutants.py", "other scripts")
 
-# What a crate is taken to cost that no row names, in processor seconds.
+# The assumed cost of a crate without a row, in processor seconds.
 UNKNOWN = 60
 
-# One part prints at a time.
+# Only one part prints at a time.
 PRINTING = threading.Lock()
 
 
@@ -46,7 +46,7 @@ class Part:
         self.seconds = self.processor = 0.0
 
     def run(self, words, env=None):
-        """Runs a command, and adds up what its last count says. Its lines go to `on_line`, or are shown behind its end."""
+        """Runs a command, and adds the counts of its last line. Its lines go to `on_line`, or are shown after it ends."""
         began = time.monotonic()
         watch = costs.Costs()
         lines = []
@@ -57,7 +57,7 @@ class Part:
                 lines.append(line)
                 if self.on_line:
                     self.on_line(line)
-            # what the command used, and all that it waited for
+            # What the command and all its children used.
             _, status, used = os.wait4(ran.pid, 0)
             ran.returncode = os.waitstatus_to_exitcode(status)
         self.crates = watch.end()
@@ -78,7 +78,7 @@ class Part:
 
 
 class Progress:
-    """Shows how far `rt ci` is: a line a crate, and all that it says where something is not well."""
+    """Shows the progress of `rt ci`: a line for each crate, and its whole output if something is not well."""
 
     def __init__(self, crates):
         self.left = dict.fromkeys(crates)
@@ -98,35 +98,35 @@ class Progress:
         proved = PROVED.match(line)
         if proved and proved[1] in self.left:
             del self.left[proved[1]]
-            print(f"-- {self.count - len(self.left)} of {self.count} crates, {self.share():.0f} in 100 of the proofs' cost, after {(time.monotonic() - self.began) / 60:.0f} minutes", flush=True)
+            print(f"-- {self.count - len(self.left)} of {self.count} crates, {self.share():.0f} % of the proofs' cost, after {(time.monotonic() - self.began) / 60:.0f} minutes", flush=True)
 
     def share(self):
-        """How much of the proofs' cost is done, in parts of 100, by the rows."""
+        """How many percent of the proofs' cost are done, by the rows."""
         total = sum(self.costs.values()) or 1
         return 100 * (1 - sum(self.costs.get(name, 0) for name in self.left) / total)
 
 
 def rows():
-    """What has to run, by its name: how much at least, and the processor seconds, None where a row has none."""
+    """What has to run, by its name: the minimum number, and the processor seconds, or None if a row has none."""
     with open(ROWS, encoding="utf-8") as file:
         lines = [line.split(None, 2) for line in file if not line.startswith("#")]
     return {name.strip(): [None if number == "-" else int(number) for number in numbers] for *numbers, name in lines}
 
 
 def crate_costs():
-    """The processor seconds of each crate's proof, as the rows have them."""
+    """The processor seconds of each crate's proof, from the rows."""
     return {name: seconds for name, (_, seconds) in rows().items() if name.startswith("serf_")}
 
 
 def chain_costs(crates):
-    """What each of these crates costs together with the dearest chain of crates that waits for it, by the rows. Where
-    there are none, each costs as much as any other."""
+    """What each of these crates costs together with the most expensive chain of crates that waits for it, by the rows. Without
+    rows, all crates cost the same."""
     found = {}
     try:
         costs = crate_costs()
     except OSError:
         costs = {}
-    # those above come behind those below
+    # The crates above a crate are before it in this order, so their costs are known.
     for crate in sorted(crates, key=lambda it: -len(it.below())):
         above = [found[it.folder] for it in crates if it.folder in found and any(below.folder == crate.folder for below in it.below())]
         found[crate.folder] = costs.get(crate.name, UNKNOWN) + max(above, default=0)
@@ -134,7 +134,7 @@ def chain_costs(crates):
 
 
 def wanted():
-    """How much has to run at least, by its name."""
+    """The minimum number that has to run, by its name."""
     return {name: least for name, (least, _) in rows().items() if least is not None}
 
 
@@ -144,13 +144,13 @@ def all_seconds():
 
 
 def kept_nothing(said):
-    """Whether `rt ci` proved each crate in this run, by what it said."""
+    """Whether `rt ci` proved each crate in this run, by its output."""
     found = [how for _, how in PROVED.findall(said)]
     return bool(found) and all(how == "proved" for how in found)
 
 
 def too_long(said, seconds, processors):
-    """Why the whole took too long by the clock, or None: one that kept nothing, on two processors or more."""
+    """Why the whole took too long by the clock, or None. The limit is for a run without kept proofs on two processors or more."""
     if processors < 2 or seconds <= LONGEST or not kept_nothing(said):
         return None
-    return f"the gate, which kept nothing, took {seconds / 60:.0f} minutes by the clock, and {LONGEST // 60} are the most"
+    return f"the gate, for which no proof was kept, took {seconds / 60:.0f} minutes by the clock; the limit is {LONGEST // 60}"

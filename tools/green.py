@@ -1,5 +1,5 @@
-"""The mark that a green gate leaves: which state of the repository passed the whole of ./test here, and which program and
-library that was with."""
+"""The mark that a green gate leaves: the state of the repository that passed all of ./test here, and the program and the library
+that were tested."""
 
 import hashlib
 import os
@@ -7,7 +7,7 @@ import subprocess
 
 TOP = os.path.dirname(os.path.dirname(os.path.abspath(__file__)))
 
-# What the gate builds and tests, and a release takes.
+# What the gate builds and tests, and a release contains.
 PROGRAM = os.path.join("crates", "serf_replay_program", "out", "serf_replay_program")
 LIBRARY = os.path.join("crates", "serf_agent_c", "out", "libserf_agent_c.a")
 
@@ -21,7 +21,7 @@ def git(top, *words):
 
 
 def state(top):
-    """The hash of all that is committed, or None where something beside it has changed, or where this is no repository."""
+    """The hash of everything that is committed, or None if something else has changed, or if this is not a repository."""
     try:
         return None if git(top, "status", "--porcelain") else git(top, "rev-parse", "HEAD^{tree}")
     except (OSError, subprocess.CalledProcessError):
@@ -29,7 +29,7 @@ def state(top):
 
 
 def hash_of(path):
-    """The hash of a file, or a word that is none where it isn't there."""
+    """The hash of a file, or a word that is no hash if there is no file."""
     try:
         with open(path, "rb") as file:
             return hashlib.sha256(file.read()).hexdigest()
@@ -43,14 +43,14 @@ def text_of(top, of_state):
 
 
 def keep(top, before):
-    """Notes that this state passed, where it is still the one that it was before the gate began."""
+    """Records that this state passed, if it is still the state from before the gate began."""
     if before is not None and state(top) == before:
         with open(mark(top), "w", encoding="utf-8") as file:
             file.write(text_of(top, before))
 
 
 def holds(top):
-    """Whether the gate was green on the state that stands, with the program and the library that stand."""
+    """Whether the gate was green on the current state, with the current program and library."""
     try:
         with open(mark(top), encoding="utf-8") as file:
             return file.read() == text_of(top, state(top) or "-")

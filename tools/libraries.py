@@ -1,9 +1,8 @@
-"""The libraries that `rt ci` left, and whether they are of the sources as they are.
+"""The libraries that `rt ci` left, and whether they are from the current sources.
 
-`rt ci` proves each crate over libraries that it makes itself, leaves these behind, and notes no sum beside them. So
-`./test` takes away what an earlier run left before it calls `rt ci`, and notes then what stands there: of each library a
-sum of all that it is made from, the toolchain's kit among it, and one of its own bytes. What is tried over them asks for
-both.
+`rt ci` proves each crate with libraries that it makes itself. It leaves these libraries, but no hash of them. So `./test` removes
+what an earlier run left before it calls `rt ci`. Afterwards it records two hashes of each library: one of everything that it is
+made from, including the toolchain's kit, and one of the library's bytes. A script that uses the libraries checks both.
 """
 
 import hashlib
@@ -22,7 +21,7 @@ def note_of(crate):
 
 
 def bytes_of(crate):
-    """A sum of a library's own bytes."""
+    """A hash of a library's own bytes."""
     total, top = hashlib.sha256(), os.path.join(folder_of(crate), f"{crate.name}.rlib")
     for folder, folders, names in os.walk(top):
         folders.sort()
@@ -38,13 +37,13 @@ def state_of(crate):
 
 
 def drop(crates):
-    """Takes away what earlier runs left of these crates' libraries."""
+    """Removes what earlier runs left of these crates' libraries."""
     for crate in crates:
         shutil.rmtree(folder_of(crate), ignore_errors=True)
 
 
 def note(crates):
-    """Notes what `rt ci` has just left of these crates' libraries."""
+    """Records what `rt ci` has just left of these crates' libraries."""
     for crate in crates:
         if os.path.isdir(folder_of(crate)):
             with open(note_of(crate), "w", encoding="utf-8") as file:
@@ -52,7 +51,7 @@ def note(crates):
 
 
 def is_of_ci(crate):
-    """Whether a crate's library is the one that `rt ci` made of the sources as they are."""
+    """Whether a crate's library is the one that `rt ci` made from the current sources."""
     try:
         with open(note_of(crate), encoding="utf-8") as file:
             return file.read() == state_of(crate)
@@ -61,8 +60,8 @@ def is_of_ci(crate):
 
 
 def fault_of(crates):
-    """Which library below these crates `rt ci` has not made of the sources as they are, in words; or None."""
+    """Describes a library below these crates that `rt ci` has not made from the current sources, or returns None."""
     for below in {it.folder: it for crate in crates for it in crate.below()}.values():
         if not is_of_ci(below):
-            return f"the library of {below.name} is not what rt ci made of the sources as they are"
+            return f"the library of {below.name} is not the one that rt ci built from the sources as they are; run ./test"
     return None

@@ -1,4 +1,4 @@
-"""What the repository's scripts may use of this machine, and what they keep on it, outside each checkout."""
+"""What the repository's scripts may use of this machine, and the files that they keep on it outside each checkout."""
 
 import os
 import shutil
@@ -6,7 +6,7 @@ import time
 
 FOLDER = os.path.join(os.environ.get("XDG_CACHE_HOME") or os.path.expanduser("~/.cache"), "kitchenrue")
 
-# How long something stays that no run asks for, in seconds.
+# How long unused files are kept, in seconds.
 MONTH = 30 * 24 * 3600
 
 
@@ -16,7 +16,7 @@ def processors():
 
 
 def lanes(room):
-    """How many checks may run side by side where each takes up to so many bytes of memory: at most five, and at most one a
+    """How many checks may run in parallel if each takes up to this many bytes of memory: at most five, and at most one per
     processor."""
     with open("/proc/meminfo", encoding="utf-8") as file:
         free = next(int(line.split()[1]) << 10 for line in file if line.startswith("MemAvailable:"))
@@ -36,7 +36,7 @@ def write(folder, files):
 
 
 def forget_old():
-    """Lets go of what is older than a month."""
+    """Removes what is older than a month."""
     if os.path.isdir(FOLDER):
         for entry in os.scandir(FOLDER):
             if time.time() - entry.stat().st_mtime > MONTH:

@@ -2,7 +2,7 @@
 """tools/manual_of_header.py [--check]: writes docs/serf_agent.3, the manual page of the calls in C, from include/serf_agent.h
 and bindings/c/serf_agent_store.h.
 
---check writes nothing, and has status 1 where the page isn't what the header gives.
+--check writes nothing. The status is 1 if the page is outdated.
 """
 
 import os
@@ -17,23 +17,23 @@ PAGE = os.path.join(TOP, "docs", "serf_agent.3")
 COMMENT = re.compile(r"/\*(.*?)\*/", re.S)
 # How a line of a long comment of the store's header begins.
 STAR = re.compile(r"^ \*(?: |$)", re.M)
-# What of the header stands on the page: its calls and the heads above them, its enums and its structs.
+# The parts of the header that are on the page: its calls and the headings above them, its enums and its structs.
 PART = re.compile(r"(?P<comments>(?:/\*(?:(?!\*/).)*\*/\n)*)(?:(?P<gives>uint32_t|enum \w+|void|const char \*) ?(?P<call>serf_\w+)\((?P<words>[^)]*)\);|(?P<kind>enum|struct) (?P<name>\w+) \{\n(?P<body>.*?)\n\};)|(?P<head>/\* [A-Z][^*]* \*/)(?=\n\n)", re.S)
 
 
 def escaped(text):
-    """A text for groff: no backslash, dash or leading dot of its own means anything to it."""
+    """A text escaped for groff, so that its backslashes, dashes and leading dots are printed."""
     text = re.sub(r"\s+", " ", text.strip()).replace("\\", "\\e").replace("-", "\\-")
     return re.sub(r"^([.'])", r"\\&\1", text)
 
 
 def said(comments):
-    """The sentences of comments."""
+    """The text of comments."""
     return escaped(" ".join(text.strip() for text in COMMENT.findall(comments)))
 
 
 def paragraphs(text):
-    """The header's first comment: paragraphs, and the items of its lists."""
+    """The paragraphs of the header's first comment, and the items of its lists."""
     for part in re.split(r"\n\s*\n", text.strip()):
         lines = re.split(r"\n\s*(?=\d\. |- )", part.strip())
         yield f".PP\n{escaped(lines[0])}" if not re.match(r"\d\. |- ", lines[0]) else item(lines[0])
@@ -52,7 +52,7 @@ def call(found):
 
 
 def values(body):
-    """The lines of an enum or a struct: each name, and what is said of it, behind it or on the line above."""
+    """The lines of an enum or a struct: each name with its comment, which is after it or on the line above."""
     above = ""
     for line in body.split("\n"):
         comment = re.fullmatch(r" {4}/\* (.*) \*/", line)
@@ -84,9 +84,9 @@ def parts_of(path):
 def page():
     title, rest, calls, types = parts_of(HEADER)
     file_title, file_rest, file_calls, file_types = parts_of(STORE)
-    lines = ['.\\" Made of include/serf_agent.h by tools/manual_of_header.py.', '.TH SERF_AGENT 3 "" "Kitchenrue"', ".SH NAME", "serf_agent \\- one proved Serf agent in C", ".SH SYNOPSIS", ".nf"]
+    lines = ['.\\" Made from include/serf_agent.h by tools/manual_of_header.py.', '.TH SERF_AGENT 3 "" "Kitchenrue"', ".SH NAME", "serf_agent \\- one proved Serf agent in C", ".SH SYNOPSIS", ".nf"]
     lines += [".B #include <serf_agent.h>", ".B #include <serf_agent_store.h>", ".PP", ".B cc host.c $(pkg\\-config \\-\\-cflags \\-\\-libs serf_agent)", ".fi", ".SH DESCRIPTION", escaped(title), *paragraphs(rest)]
-    lines += [".SH CALLS", "Each answers a number of", ".IR \"enum serf_agent_code\" .", *calls, ".SH THE FILE", escaped(file_title), *paragraphs(file_rest), *file_calls, ".SH TYPES", *types, *file_types, ".SH SEE ALSO", ".BR serf\\-replay (1),", "docs/HOST.md: what to call when, and the file."]
+    lines += [".SH CALLS", "Each call returns a value of", ".IR \"enum serf_agent_code\" .", *calls, ".SH THE FILE", escaped(file_title), *paragraphs(file_rest), *file_calls, ".SH TYPES", *types, *file_types, ".SH SEE ALSO", ".BR serf\\-replay (1),", "docs/HOST.md: what to call when, and the file."]
     return "\n".join(lines) + "\n"
 
 

@@ -1,18 +1,19 @@
 #!/usr/bin/env python3
-"""Wrong bodies: each edit of crates/NAME/mutants turns one function, and its contract has to refuse it.
+"""Wrong bodies: each edit of crates/NAME/mutants changes one function, whose contract has to refuse it.
 
     python3 tools/mutants.py [CRATE..] [--list] [--control] [--over-ci] [--anew] [--write]
 
-What refused an edit stands in tests/refused (tools/evidence.py). The edits whose line is not of what their check reads
-now are tried, and of the others 2 in 100, drawn by the commit's hash; where one of these is not refused any more, all
-edits of its crate are. tools/edit_checks.py says how edits are tried, and what shows that one is refused.
+tests/refused has what refused each edit (tools/evidence.py). The script tries the edits whose line there is outdated, because
+something that their check reads has changed. Of the other edits it tries 2 in 100, which are drawn by the commit's hash. If
+one of these is not refused any more, it tries all edits of the crate. tools/edit_checks.py says how edits are tried, and what
+shows that one is refused.
 
---list prints each edit with the functions that it turns, and tries none. --control makes the same checks without the
-edits: each function that an edit turns has to be proved there. --over-ci takes the libraries that `rt ci` left, as the
-gate does; without it they are built first. --anew tries all. --write writes what was found to tests/refused.
+--list prints each edit with the functions that it changes, and tries none. --control makes the same checks without the
+edits: each function that an edit changes has to be proved there. --over-ci uses the libraries that `rt ci` left, as the
+gate does; without it they are built first. --anew tries all edits. --write writes the results to tests/refused.
 
-Status 0 where each edit is refused, 1 where one isn't, or only by its shape, or an edit can't be read, 2 for an option
-that is none of these or a crate without edits, and 3 where the toolchain isn't there.
+The status is 0 if each edit is refused, and 1 if an edit isn't refused, is refused only because of its shape, or can't be read.
+It is 2 for an unknown option or a crate without edits, and 3 if the toolchain isn't there.
 """
 
 import os
@@ -38,12 +39,12 @@ import toolchain
 
 OPTIONS = ("--list", "--control", "--over-ci", "--anew", "--write")
 
-# How many crates are tried side by side: a check takes one processor, and up to 3 GB.
+# How many crates are tried in parallel. A check takes one processor, and up to 3 GB.
 LANES = min(machine.processors(), 5)
 
 
 class Counts:
-    """What came of a run's edits."""
+    """The results of a run's edits."""
 
     def __init__(self):
         self.lock = threading.Lock()
@@ -63,7 +64,7 @@ class Counts:
         return f"{self.tried} edits tried, {self.drawn} of them for the draw, {self.believed} believed; refused by kind: {kinds}"
 
     def draw(self, number):
-        """So many edits are tried for the commit's draw alone, though their lines are believed."""
+        """Counts edits that are tried only because the commit draws them, although their lines are believed."""
         with self.lock:
             self.drawn += number
 
@@ -73,13 +74,13 @@ class Counts:
 
 
 class Run:
-    """One run over crates: what is known of their edits, and which of them are tried."""
+    """One run over crates: what is known about their edits, and which of them are tried."""
 
     def __init__(self, rt, words):
         self.rt = rt
         self.is_control, self.is_anew, self.writes = "--control" in words, "--anew" in words, "--write" in words
         self.now = evidence.head()
-        # (an archive has no commit: the share is drawn by a number that nobody knows)
+        # An archive has no commit, so a random number draws the share.
         self.commit = evidence.commit() or secrets.token_hex(20)
         self.reach = reach.Reach(TOP)
         self.counts = Counts()
@@ -99,7 +100,7 @@ class Run:
         return [edit for edit in own if edit.name not in rest], rest, believed.keys() - rest.keys()
 
     def try_crate(self, crate):
-        """Tries the edits of a crate, prints what came of them, and writes it where that is asked."""
+        """Tries the edits of a crate, prints the results, and writes them if --write is given."""
         own = edits.edits_of(crate.name)
         known, sums = evidence.Evidence(crate.name, self.now), self.sums(crate.name, own)
         for line in [*known.faults, *known.gone({edit.name for edit in own})]:
@@ -108,20 +109,20 @@ class Run:
         self.counts.draw(len(drawn))
         found = self.tried(crate, todo)
         if any(found[name] is None for name in drawn):
-            say(f"{crate.name}: a drawn edit is not refused any more: all its edits are tried")
+            say(f"{crate.name}: a drawn edit is not refused any more, so all edits of the crate are tried")
             found |= self.tried(crate, [edit for edit in own if edit.name in rest])
             rest = {}
         for refusal in rest.values():
             self.counts.add(refusal, False)
         for name, refusal in sorted((rest | found).items()):
             if refusal and refusal.kind == "open":
-                say(f"FAILED {crate.name}/{name}: {refusal}: it may be its change of shape alone that was refused")
+                say(f"FAILED {crate.name}/{name}: {refusal}: perhaps only the change of shape was refused")
         if self.writes and not self.is_control and sums == evidence_sums(crate.name, own):
             known.write(self.now, sums, {name: refusal for name, refusal in (rest | found).items() if refusal})
 
     def tried(self, crate, own):
-        """What refused each of these edits, by name. Where a batch of several shows nothing at all, as where one of them
-        can't be read by the toolchain, its halves are tried."""
+        """What refused each of these edits, by name. If a batch of several shows nothing at all, for example because the toolchain
+        can't read one of them, its halves are tried."""
         found = {}
         with tempfile.TemporaryDirectory(prefix="mutants-", ignore_cleanup_errors=True) as kept:
             checks = edit_checks.Checks(self.rt, crate, kept)
@@ -144,15 +145,15 @@ class Run:
         return found
 
     def refusals(self, checks, batch):
-        """What refused each edit of a batch, or None, and what the toolchain said; for a control, whether each function
-        is proved without its edit."""
+        """What refused each edit of a batch, or None, and the toolchain's output. For a control, whether each function is proved
+        without its edit."""
         if not self.is_control:
             return checks.refusals(batch)
         goals, said = checks.open_goals(batch, True)
         return [None if own else edit_checks.Refusal("control", "proved without the edit") for own in goals], said
 
     def tell(self, crate, edit, refusal):
-        """Counts and says what came of one edit."""
+        """Counts and prints the result of one edit."""
         self.counts.add(refusal, True)
         name = f"{crate.name}/{edit.name}"
         say(f"{name}: {refusal}" if refusal else f"FAILED {name}: {self.failure(edit)}")
@@ -166,8 +167,8 @@ class Run:
         )
 
     def try_whole(self, crate):
-        """Tries the edits of a crate. What ends this too early is said and counts as a failure, and the other crates
-        go on."""
+        """Tries the edits of a crate. An error that ends this too early is printed and counted as a failure, and the other crates
+        continue."""
         try:
             self.try_crate(crate)
         except Exception as why:
@@ -177,7 +178,7 @@ class Run:
 
 
 def evidence_sums(crate, own):
-    """The sums of edits over the sources as they are now, read anew."""
+    """The hashes of edits over the current sources, which are read again."""
     now = reach.Reach(TOP)
     return {edit.name: now.sum_of(crate, edit)[:32] for edit in own}
 
@@ -188,15 +189,14 @@ def say(text):
 
 
 def log(crate, batch, began, said):
-    """Appends what the toolchain said to a file, where MUTANTS_LOG names a folder."""
+    """Appends the toolchain's output to a file, if MUTANTS_LOG names a folder."""
     if os.environ.get("MUTANTS_LOG"):
         with open(os.path.join(os.environ["MUTANTS_LOG"], f"{crate.name}.log"), "a", encoding="utf-8") as file:
             file.write(f"==== {time.monotonic() - began:.1f} {[edit.name for edit in batch]}\n{said}\n")
 
 
 def unbuilt(crates, over_ci):
-    """Why the libraries below these crates are not those of the sources as they are, or None. Without `over_ci` they
-    are built."""
+    """Why the libraries below these crates are not from the current sources, or None. Without `over_ci` they are built."""
     if over_ci:
         return libraries.fault_of(crates)
     for below in {it.folder: it for crate in crates for it in crate.below()}.values():
@@ -222,8 +222,8 @@ def main(words):
     crates = [crate for crate in crates if os.path.isdir(os.path.join(crate.folder, "mutants"))]
     try:
         listed = {crate.name: edits.edits_of(crate.name) for crate in crates}
-    except edits.BadEdit as why:
-        print(f"FAILED {why}\n0 passed, 1 failed")
+    except edits.BadEdit as bad:
+        print(f"FAILED {bad}\n0 passed, 1 failed")
         return 1
     if "--list" in words:
         for name, own in listed.items():
@@ -235,7 +235,7 @@ def main(words):
         print(f"FAILED {why}\n0 passed, 1 failed")
         return 1
     began, run = time.monotonic(), Run(rt, words)
-    # the crates with most edits first
+    # The crates with the largest number of edits are first.
     with ThreadPoolExecutor(LANES) as pool:
         list(pool.map(run.try_whole, sorted(crates, key=lambda it: -len(listed[it.name]))))
     used, counts = resource.getrusage(resource.RUSAGE_CHILDREN), run.counts

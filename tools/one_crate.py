@@ -1,4 +1,4 @@
-"""What one crate has, for the quick loop of `./test CRATE`: its check, its wrong bodies, and the scripts that ask it."""
+"""What one crate has, for the quick loop of `./test CRATE`: its check, its wrong bodies, and the scripts that test it."""
 
 import os
 import subprocess
@@ -11,7 +11,7 @@ TOP = os.path.dirname(os.path.dirname(os.path.abspath(__file__)))
 UNITS = "tests/library/units.py"
 FORM = tuple(f"tests/repository/{name}.py" for name in ("clauses", "imports", "layout"))
 
-# The scripts that ask each crate what it does, beside those of FORM.
+# The scripts that test each crate, in addition to those of FORM.
 SCRIPTS = {
     "serf_lamport": (UNITS,),
     "serf_pack": (UNITS, "tests/program/decode.py"),
@@ -33,7 +33,7 @@ SCRIPTS = {
     "serf_draw": ("tests/program/draw.py",),
     "serf_explain": ("tests/program/explain.py",),
     "serf_packets": ("tests/program/decode.py", "tests/program/encode.py"),
-    "serf_judge": ("tests/program/judge.py", "tests/program/log_handler.py", "tests/program/clocks.py"),
+    "serf_judge": ("tests/program/judge.py", "tests/program/judge_stock_serf.py", "tests/program/log_handler.py", "tests/program/clocks.py"),
     "serf_replay": ("tests/program/replay.py", "tests/program/stream.py"),
     "serf_replay_program": ("tests/program/command_line.py", "tests/program/completions.py", "tests/program/replay.py", "tests/program/capture.py"),
 }
@@ -45,7 +45,7 @@ def edits_of(crate):
 
 
 def commands_of(crate, is_slow):
-    """What is run of a crate: what each is called, its words, and the folder; and the scripts that are left to the whole."""
+    """The commands that run for a crate, each with its name, words and folder, and the scripts that only the whole gate runs."""
     python = sys.executable
     found = [("rt check", ["rt", "check"], os.path.join(TOP, "crates", crate))]
     if edits_of(crate):
@@ -56,7 +56,7 @@ def commands_of(crate, is_slow):
 
 
 def run(crate, is_slow):
-    """Names what a crate has, and runs it, the program without its proofs. Gives how many passed, and how many failed."""
+    """Prints what a crate has, and runs it, with the unproved program. Returns how many passed, and how many failed."""
     commands, left = commands_of(crate, is_slow)
     print(f"test: {crate} has {', '.join(name for name, *_ in commands)}", flush=True)
     passed = 0
@@ -67,12 +67,12 @@ def run(crate, is_slow):
         if done.returncode:
             print(f"FAILED {name}", flush=True)
     for name in left:
-        print(f"not run: {name}, which takes what `rt ci` leaves: python3 {name} makes that first")
+        print(f"not run: {name}, which needs what `rt ci` leaves; python3 {name} makes that first")
     return passed, len(commands) - passed
 
 
 def install():
-    """Has tools/packages install what the tests need, where it may."""
+    """Lets tools/packages install what the tests need, if it is allowed to."""
     done = subprocess.run([os.path.join(TOP, "tools", "packages")], stdin=subprocess.DEVNULL)
     if done.returncode:
-        print("test: it goes on without them, and says at its end what did not run", flush=True)
+        print("test: continuing without them; the tests that did not run are listed at the end", flush=True)

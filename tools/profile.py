@@ -1,15 +1,15 @@
 #!/usr/bin/env python3
-"""Where the processor seconds of a crate's proof go.
+"""Prints where the processor seconds of a crate's proof go.
 
     python3 tools/profile.py CRATE [ROWS]
 
-proves the crate from nothing by one job, over the libraries below it as they stand built, into a folder of its own. So
-nothing in the repository changes. The toolchain tells no times, but it writes a file for each module that it has checked.
-What the processor spent from one file to the next is what the later one took. The table has the dearest rows, 40 where
-no number is given, and then the sums of kinds of rows. CONTRIBUTING.md says how to read it.
+proves the crate from nothing with one job, over the libraries below it that are already built, into a temporary folder. So
+nothing in the repository changes. The toolchain reports no times, but it writes a file for each module that it has checked.
+The processor time from one file to the next is counted for the later module. The table has the most expensive rows, 40 by
+default, and then the sums of kinds of rows. CONTRIBUTING.md says how to read it.
 
-Status 0 where the crate is proved, 1 where it isn't (the table then ends where the proof did), 2 for a bad command line,
-and 3 where the toolchain isn't there, or a library below isn't built.
+The status is 0 if the crate is proved, and 1 if it isn't (the table then ends with the last checked module). It is 2 if the command
+line is refused, and 3 if the toolchain isn't there, or a library below isn't built.
 """
 
 import bisect
@@ -26,17 +26,17 @@ sys.dont_write_bytecode = True
 import costs
 import toolchain
 
-# How often the processor time is looked at.
+# The interval at which the processor time is read.
 PERIOD_SECONDS = 0.05
 
 ROWS = 40
 
 BEFORE = "(before the first module)"
-BEHIND = "(behind the last module)"
+BEHIND = "(after the last module)"
 FACADE = "(the facade, once all else is proved)"
 LINKS = "(links of functions)"
 
-# The kinds of rows that are added up behind the table. A row counts for the first kind that fits.
+# The kinds of rows whose sums follow the table. A row belongs to the first kind that fits.
 KINDS = [
     ("drops", r"Destruct|-drop$"),
     ("derived Debug", r"Debug"),
@@ -54,7 +54,7 @@ class Unready(Exception):
 
 
 def crate_of(name):
-    """The crate, and the words that begin a command of the toolchain, which ends with this script."""
+    """The crate, and the words that begin a command of the toolchain. The command ends when this script ends."""
     rt = toolchain.load()
     if rt is None:
         raise Unready("rt, the command of the Rattle toolchain, is not on PATH")
@@ -64,12 +64,12 @@ def crate_of(name):
     crate = rt.rtlib.Crate(folder, TOP, {})
     missing = [below.name for below in crate.below() if not os.path.isdir(below.rlib)]
     if missing:
-        raise Unready(f"not built: {' '.join(missing)}. `rt check` in the crate builds what is below it")
+        raise Unready(f"not built: {' '.join(missing)}; `rt check` in the crate builds the libraries below it")
     return crate, [*rt.rtlib.guarded(), rt.rtlib.RATTLE]
 
 
 def children_of(pid):
-    """The processes that a process has started, of which none has ended yet."""
+    """The processes that a process has started and that have not ended yet."""
     found = []
     for task in os.listdir(f"/proc/{pid}/task"):
         try:
@@ -81,19 +81,19 @@ def children_of(pid):
 
 
 def used_below(pid):
-    """What a process has used, and all that it started. A large crate's functions are checked by copies of the process."""
+    """The processor time of a process and of everything that it started. Copies of the process check a large crate's functions."""
     _, used = costs.stat_of(pid)
     for child in children_of(pid):
         try:
             used += used_below(child)
         except (OSError, IndexError):
-            # (it has ended meanwhile, and the next look has it)
+            # It has ended in the meantime, and the next reading counts it.
             continue
     return used
 
 
 class Meter:
-    """How much of the processor a process and its copies had used at each time, by looks at them until it ends."""
+    """The processor time that a process and its copies had used at each moment, read repeatedly until it ends."""
 
     def __init__(self, process):
         self.times, self.used = [time.time()], [0.0]
@@ -105,14 +105,14 @@ class Meter:
             while True:
                 used = used_below(pid)
                 self.times.append(time.time())
-                # (a copy that ends between two readings of one look is missing in that look)
+                # If a copy ends while the processes are read, it is missing in this reading.
                 self.used.append(max(used, self.used[-1]))
                 time.sleep(PERIOD_SECONDS)
         except (OSError, IndexError):
             return
 
     def used_at(self, when):
-        """What it had used at this time, taken as even between two looks."""
+        """The time that it had used at this moment, interpolated between two readings."""
         at = bisect.bisect(self.times, when)
         if at in (0, len(self.times)):
             return self.used[min(at, len(self.times) - 1)]
@@ -121,7 +121,7 @@ class Meter:
 
 
 def checked_modules(folder):
-    """When each module was checked, and its name, in this order."""
+    """The moment at which each module was checked, and its name, in order of these moments."""
     found = []
     for at, _, names in os.walk(folder):
         if os.path.basename(at) != "records":
@@ -145,7 +145,7 @@ def row_of(module, crate, functions):
 
 
 class Profile:
-    """What each row of a crate's proof took, and of how many modules."""
+    """The time of each row of a crate's proof, and its number of modules."""
 
     def __init__(self, name, meter, modules, functions):
         self.seconds, self.count = {}, {}
@@ -172,7 +172,7 @@ class Profile:
 
 
 def proved(crate, begin):
-    """Proves a crate from nothing: the process's meter, what it said, its status, and the checked modules."""
+    """Proves a crate from nothing. Returns the process's meter, its output, its status, and the checked modules."""
     with tempfile.TemporaryDirectory() as kept, tempfile.TemporaryFile("w+") as crate.out:
         words = [*begin, "check", *crate.words(["--jobs", "1"]), "--incremental", kept]
         with subprocess.Popen(words, cwd=crate.folder, stdin=subprocess.DEVNULL, stdout=subprocess.PIPE, stderr=subprocess.STDOUT, text=True, errors="replace") as ran:
@@ -192,7 +192,7 @@ def main(name, rows=ROWS):
     print(f"{name}: {meter.used[-1]:.0f} processor seconds, {len(modules)} modules, {len(functions)} functions")
     Profile(name, meter, modules, functions).show(rows)
     if status:
-        print(f"{said[-2000:]}\nprofile: {name} is not proved; the last lines are above", file=sys.stderr)
+        print(f"{said[-2000:]}\nprofile: {name} is not proved; see the errors above", file=sys.stderr)
         return 1
     return 0
 

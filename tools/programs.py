@@ -1,4 +1,4 @@
-"""The programs, for the tests that run them: the proved ones, or in `./test --quick` those that are compiled unproved."""
+"""The programs for the tests that run them: the proved ones, or, in `./test --quick`, the ones that are compiled unproved."""
 
 import os
 import subprocess
@@ -12,12 +12,12 @@ IS_UNPROVED = bool(os.environ.get("SERF_UNPROVED"))
 
 
 def path_of(name):
-    """Where a program stands once it is built."""
+    """The path of a program after it was built."""
     return os.path.join(TOP, "crates", name, "out", *(["unproved"] if IS_UNPROVED else []), name)
 
 
 def fault_of_build(*names):
-    """Builds these programs, where they are not current; what went wrong, or None."""
+    """Builds these programs if they are not current. Returns what went wrong, or None."""
     if IS_UNPROVED:
         try:
             for name in names:

@@ -1,17 +1,17 @@
-"""What the check of an edit reads: a sum of all that is reached by imported names, in turn, from what it edits.
+"""What the check of an edit reads: a hash of everything that can be reached by imported names, step by step, from what it edits.
 
-An edit's sum is of
+An edit's hash covers
 
 - its own texts, and the line of crates.txt of its crate;
 - the edited functions: their bodies, contracts and attributes;
-- their proof files, and the lemma files that these import, in turn, each without its imports, but with the place from which
-  each imported name that it uses comes, however many files of proofs pass it on;
-- each definition of specs/, type, trait, constant and contract that is reached from these by names, where each name is
-  what the imports of its own file say, of the crate and of those below it, in turn. A type reaches its trait impls
-  whole, and of its own methods those whose names stand in the edited function.
+- their proof files, and the lemma files that these import, and so on. A file is hashed without its imports, but with the origin
+  of each imported name that it uses, however many files of proofs re-export the name;
+- each definition of specs/, type, trait, constant and contract that can be reached from these by names. Each name means what its
+  own file imports under it, in the crate and in the crates below it. A type reaches the whole of its trait impls, and those
+  methods of the type itself whose names are in the edited function.
 
-No other body and no other proof counts, nor comments and layout. What a sum can't see (a set of lemmas that a tactic
-takes by a wide name, an instance that is found and not named) the gate's drawn share of all edits is for.
+Other bodies, other proofs, comments and layout don't count. A hash can't see a set of lemmas that a tactic uses by a wide name, or
+an instance that is found and not named. The gate's drawn share of all edits covers these.
 """
 
 import hashlib
@@ -46,7 +46,7 @@ def sha(*texts):
 
 
 def plain_code(text):
-    """Code without comments, layout, and what only hints at the compiler."""
+    """Code without comments, layout, and hints to the compiler."""
     out = []
     for line in text.split("\n"):
         at = line.find("//")
@@ -57,7 +57,7 @@ def plain_code(text):
 
 
 def plain_proof(text):
-    """A file of definitions or proofs without comments and blank lines. Its layout means something."""
+    """A file of definitions or proofs without comments and blank lines. Its layout has a meaning."""
     out = []
     for line in text.split("\n"):
         at = 0 if line.startswith("-- ") or line == "--" else line.find(" -- ")
@@ -66,17 +66,17 @@ def plain_proof(text):
 
 
 def one_line_uses(text):
-    """A file of definitions or proofs whose imports stand on a line each."""
+    """A file of definitions or proofs with each import on one line."""
     return re.sub(r"\n\s+(?=[^\n]*\})", " ", text)
 
 
 def without_uses(text):
-    """The lines of a file of proofs that are no imports, and name no other file."""
+    """The lines of a file of proofs that are not imports, and name no other file."""
     return "\n".join(line for line in one_line_uses(text).split("\n") if not USE.match(line) and not MOD.match(line))
 
 
 def without_bodies(text):
-    """Code without the bodies of its functions but const ones."""
+    """Code without the bodies of its functions, except const functions."""
     lines, out, at = text.split("\n"), [], 0
     while at < len(lines):
         function = edits.FUNCTION.match(lines[at])
@@ -98,7 +98,7 @@ def body_at(lines, at):
 
 
 def functions_of(text):
-    """Each function of a file with its whole text, attributes included."""
+    """Each function of a file with its whole text, including attributes."""
     lines, at = text.split("\n"), 0
     while at < len(lines):
         function = edits.FUNCTION.match(lines[at])
@@ -114,7 +114,7 @@ def functions_of(text):
 
 
 def definitions_of(text):
-    """The definitions of a file of specs/: the names that reach each, and its text. Its imports have none."""
+    """The definitions of a file of specs/: the names that reach each, and its text. Imports have no names."""
     groups = []
     for line in plain_proof(text).split("\n"):
         if line.startswith((" ", "\t", "}")) and groups:
@@ -136,7 +136,7 @@ def definitions_of(text):
 
 
 class Sources:
-    """The sources of all crates, each read once."""
+    """The sources of all crates. Each file is read once."""
 
     def __init__(self, top):
         self.uses, self.lines, self.texts = {}, {}, {}
@@ -162,7 +162,7 @@ class Sources:
         return [path for part in parts for path in self.by_crate.get((crate, part), [])]
 
     def below(self, crate):
-        """The crates below one, in turn."""
+        """The crates below a crate, directly or indirectly."""
         if crate not in self.below_memo:
             found = {}
             for name in self.uses.get(crate, []):
@@ -172,7 +172,7 @@ class Sources:
         return self.below_memo[crate]
 
     def proof_files(self, crate, edit):
-        """The proof files of the functions that an edit turns, and the lemma files that these import, in turn."""
+        """The proof files of the functions that an edit changes, and the lemma files that these import, directly or indirectly."""
         base = f"{crate}/proofs/"
         proofs = self.files(crate, "proofs")
         found = [path for path in proofs for name in edit.functions if path.startswith(base + name.replace("::", "/") + "/")]
@@ -180,7 +180,7 @@ class Sources:
         if edit.is_definition or is_in_cycle:
             found += [path for path in proofs if "/+" in path or "/laws/" in path]
         named = [re.findall(r"crate::proofs::([\w:]+)", self.texts[path]) for path in self.files(crate, "src")]
-        # the attribute of a function, or of the crate, may name lemmas
+        # An attribute of a function, or of the crate, may name lemmas.
         found += [base + name.rpartition("::")[0].replace("::", "/") + ".antt" for names in named for name in names]
         found = [path for path in dict.fromkeys(found) if path in self.texts]
         for path in found:
@@ -196,15 +196,15 @@ class Reach:
 
     def __init__(self, top):
         self.sources = Sources(top)
-        # what each item says, by its key, and the file in which it stands
+        # The text of each item, by its key, and the file that contains it.
         self.items = {}
-        # the items that a name of a crate's code stands for, and the methods of a crate's types
+        # The items that a name in a crate's code stands for, and the methods of a crate's types.
         self.code, self.methods = {}, {}
-        # of each file what it imports, what it imports whole or as an operator, its own definitions, and its crate
+        # For each file: what it imports, what it imports whole or as an operator, its own definitions, and its crate.
         self.files = {}
-        # of each file of proofs where each name that it imports comes from, or each module that it imports whole
+        # For each file of proofs: the origin of each name that it imports, or each module that it imports whole.
         self.origins = {}
-        # of each file of code what its imports of code stand for, and the attributes of the whole file
+        # For each file of code: what its imports of code stand for, and the attributes of the whole file.
         self.rust = {}
         self.memo = {}
         for crate in self.sources.uses:
@@ -237,7 +237,7 @@ class Reach:
 
     @staticmethod
     def origins_of(uses):
-        """Each name that imports give a file, with the module that it is from, and its name there."""
+        """Each name that a file gets from imports, with the module that it is from, and its name there."""
         for use in USE.finditer(uses):
             if use[2] is None:
                 yield use[3] or use[1].split(".")[-1], (use[1], None)
@@ -247,7 +247,7 @@ class Reach:
                 yield (local or name).strip(), (use[1], name.strip())
 
     def origin(self, module, name, depth=0):
-        """Where an imported name comes from, however many files of proofs pass it on."""
+        """The origin of an imported name, however many files of proofs re-export it."""
         passing = re.match(r"Rattle\.(serf_\w+)\.proofs\.(.+)$", module)
         own = self.origins.get(f"{passing[1]}/proofs/{passing[2].replace('.', '/')}.antt", {}) if passing else {}
         return self.origin(*own[name], depth + 1) if name in own and depth < 6 else f"{module} {name}"
@@ -303,7 +303,7 @@ class Reach:
         return code
 
     def add_item(self, crate, file, block, head, begin, code):
-        """Adds an item of code: an impl to what it is of, anything else under its own name."""
+        """Adds an item of code. An impl is added to its type, and anything else under its own name."""
         if not IMPL_HEAD.match(head):
             name = NAMED_ITEM.search(head)
             key = ("item", crate, file, begin)
@@ -323,13 +323,13 @@ class Reach:
         key = ("item", crate, file, begin)
         self.items[key] = (file, plain_code("\n".join(block)))
         self.code.setdefault(owner, set()).add(key)
-        # a trait that is implemented for a foreign type is reached by the trait's name
+        # If a trait is implemented for a foreign type, the impl is reached by the trait's name.
         trait = re.search(r"([A-Z]\w*)(?:<[^{]*?>)?\s+for\b", top)
         if trait:
             self.code.setdefault(code.get(trait[1], (crate, trait[1])), set()).add(key)
 
     def add_methods(self, crate, file, block, owner, begin):
-        """Adds an impl of a type's own: its head and ghost members with the type, and each method by its own name."""
+        """Adds a type's own impl: its head and ghost members with the type, and each method by its own name."""
         rest, at = [], 0
         while at < len(block):
             function = edits.FUNCTION.match(block[at])
@@ -353,7 +353,7 @@ class Reach:
     def named(self, crate, part, module, name, depth=0):
         """What a name of a module stands for: definitions, or names of code."""
         if part == "proofs":
-            # a function's own modules, or a lemma file (which is followed as a file), or what such a file passes on
+            # The module of a function, or a lemma file (which is followed as a file), or a name that a lemma file re-exports.
             file = f"{crate}/proofs/{module.replace('.', '/')}.antt"
             if file not in self.sources.texts:
                 return [("name", (crate, word)) for word in module.split(".")[-2:]]
@@ -370,14 +370,14 @@ class Reach:
             if name in imports and depth < 6:
                 return self.named(*imports[name], depth + 1)
             return [key for keys in own.values() for key in keys]
-        # passed on from a crate below
+        # The name is re-exported from a crate below.
         for other in self.sources.below(crate):
             if f"{other}/specs/{module.replace('.', '/')}.antt" in self.files:
                 return self.named(other, part, module, name, depth + 1)
         return []
 
     def reached_by(self, file, text):
-        """What the names of a text reach, as the imports of its file say."""
+        """What the names in a text reach, by the imports of its file."""
         imports, always, own, crate = self.files[file]
         names = set(NAME.findall(text)) | set(WORD.findall(text))
         found = set()
@@ -406,7 +406,7 @@ class Reach:
         return self.memo[key]
 
     def starts_of(self, crate, edit):
-        """The texts that an edit's check begins with, what they reach, and the words of the edited functions."""
+        """The texts with which an edit's check begins, what they reach, and the words of the edited functions."""
         sources, said, todo, words = self.sources, [repr((edit.pairs, edit.functions))], set(), set()
         names = {name.split("::")[-1] for name in edit.functions}
         owners = {name.split("::")[-2] for name in edit.functions if "::" in name}
@@ -430,8 +430,8 @@ class Reach:
         return said, todo, words
 
     def said_by_proof(self, file):
-        """What a file of proofs says: its lines, and where the names in them come from; and what they reach. A file that only
-        passes names on says nothing."""
+        """The content of a file of proofs: its lines, and the origins of the names in them; and what they reach. A file that only
+        re-exports names has no content."""
         text = without_uses(plain_proof(self.sources.texts[file]))
         if not text:
             return "", set()
@@ -441,11 +441,11 @@ class Reach:
         return "\n".join([file, *places, text]), self.reached_by(file, text)
 
     def sum_of(self, crate, edit):
-        """The sum of all that the check of an edit of a crate reads."""
+        """The hash of everything that the check of a crate's edit reads."""
         said, todo, words = self.starts_of(crate, edit)
         if any(edit.twins):
             said.append(repr(edit.twins))
-        # (a trait of the crate may have impls in crates above)
+        # A trait of the crate may have impls in crates above.
         allowed = {crate, *self.sources.below(crate)}
         done, found = set(), set()
         while todo:
@@ -461,12 +461,12 @@ class Reach:
         return sha(self.sources.lines[crate], *said, *sorted("\n".join(self.items[key]) for key in found))
 
     def of_name(self, name, words):
-        """The items that a name of a crate's code stands for, with those of a type's methods that these words name."""
+        """The items that a name in a crate's code stands for, with those methods of a type that these words name."""
         found = set(self.code.get(name, ()))
         own_methods = self.methods.get(name, {})
         for method in words & own_methods.keys():
             found |= own_methods[method]
         if name not in self.code:
-            # passed on by another crate: the name as it is in any crate below
+            # Another crate re-exports the name: take it as it is in any crate below.
             found |= {("name", (other, name[1])) for other in self.sources.below(name[0]) if (other, name[1]) in self.code}
         return found

@@ -1,4 +1,5 @@
-"""A crate of its own over copies of the repository's, in a temporary folder: what the tests compile and run unproved, and the bench."""
+"""Makes a separate crate over copies of the repository's crates, in a temporary folder: for tests, which compile and run it
+unproved, and for the bench."""
 
 import contextlib
 import os
@@ -29,7 +30,7 @@ def lines_below(uses):
 
 @contextlib.contextmanager
 def crate(name, uses, parts=("src", "specs")):
-    """The folder src of a new crate over copies of these parts of these crates and of those below them. It is gone at the
+    """The folder src of a new crate over copies of these parts of these crates and of those below them. It is removed at the
     end."""
     with tempfile.TemporaryDirectory(prefix=name) as root:
         lines = lines_below(uses)
@@ -45,7 +46,7 @@ def crate(name, uses, parts=("src", "specs")):
 
 
 def copy_sources(folder, source):
-    """Copies the sources of a folder, whose names end in .rattle there, since `rt ci` takes no .rt outside a crate."""
+    """Copies the sources of a folder. Their names end in .rattle there, because `rt ci` accepts no .rt file outside a crate."""
     for file in sorted(os.listdir(folder)):
         name, kind = os.path.splitext(file)
         if kind == ".rattle":
@@ -58,6 +59,6 @@ def write(source, name, text):
 
 
 def tried(source, *words):
-    """Compiles a crate without a proof and runs its tests, each in a process of its own: the status, and what was said."""
+    """Compiles a crate without a proof and runs its tests, each in a separate process. Returns the status and the output."""
     ran = subprocess.run([*TRY, "--test", "--seconds", "600", *words], cwd=os.path.dirname(source), stdin=subprocess.DEVNULL, stdout=subprocess.PIPE, stderr=subprocess.STDOUT, timeout=3600)
     return ran.returncode, ran.stdout.decode("utf-8", "replace")

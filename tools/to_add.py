@@ -1,8 +1,8 @@
 #!/usr/bin/env python3
-"""tools/to_add.py THING: prints the files that name the nearest thing of its kind: who adds another one looks at these.
+"""tools/to_add.py THING: prints the files that name the nearest thing of its kind. If you add another one, inspect these files.
 
-THING is `reason` (why a packet is ignored, as Oversize; one of the window as TimeFull), `refusal` (as RespondersFull), `word` (of
-a schedule, as save) or `field` (of the query, as relay_factor).
+THING is `reason` (why a packet is ignored, for example Oversize, or TimeFull for a reason of the window), `refusal` (for example
+RespondersFull), `word` (of a schedule, for example save) or `field` (of the query, for example relay_factor).
 """
 
 import os
@@ -20,7 +20,7 @@ THINGS = {
     "field": re.compile(r"relay_factor|RelayFactor"),
 }
 
-# What names a thing only to try it, or is made of the sources.
+# Files that name a thing only to test it, or that are made from the sources.
 LEFT_OUT = re.compile(r"/mutants/|/CALLING\.md$|^CHANGELOG\.md$|^tests/refused/|^examples/.*\.(?:svg|trace|log)$|^conformance/schedules/|^docs/completions/|\.1$|\.3$")
 
 

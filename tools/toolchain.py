@@ -1,8 +1,8 @@
-"""The toolchain's own library, loaded from where `rt` on PATH stands: its crates, its checks, and how it tries an edit.
+"""Loads the toolchain's own library, from the folder of `rt` on PATH: its crates, its checks, and how it tries an edit.
 
     python3 tools/toolchain.py WORD..
 
-does what `rt WORD..` does, with sums made once, and `try` without a hint that takes as much of the processor again.
+does the same as `rt WORD..`, but computes each hash once, and runs `try` without a hint that doubles its processor time.
 """
 
 import importlib.machinery
@@ -12,12 +12,12 @@ import shutil
 import sys
 import threading
 
-# Where `rt ci` leaves what it proved of a static library, in the crate's folder.
+# The path, in the crate's folder, at which `rt ci` leaves what it proved of a static library.
 CHECKED = "out/checked"
 
 
 def load():
-    """The module that is the command `rt`, or None where it isn't on PATH."""
+    """The module of the command `rt`, or None if it isn't on PATH."""
     path = shutil.which("rt")
     if path is None:
         return None
@@ -31,14 +31,14 @@ def load():
 
 
 def sum_once(kind):
-    """Has a crate's sum, which holds those of the libraries below it, take each of these once. The toolchain takes them
-    again on each way down, of which the program has more than 8,000."""
+    """Computes a crate's hash, which contains those of the libraries below it, so that each of these is computed once. The
+    toolchain computes them again on each path through the crates below, and the program has more than 8,000 of these paths."""
     own, calls = kind.stamp, threading.local()
 
     def stamp(crate):
         sums = getattr(calls, "sums", None)
         if sums is None:
-            # the outermost call: what it has read is forgotten behind it, since a source may change
+            # This is the outermost call. What it has read is forgotten afterwards, because a source may change.
             calls.sums = {}
             try:
                 return own(crate)
@@ -52,8 +52,8 @@ def sum_once(kind):
 
 
 def keep_checked(kind):
-    """Has `rt ci` keep what it proved of a static library, as it does of a program, so that it isn't proved once more
-    when it is compiled (tools/c_library.py). The check and its verdict are the same."""
+    """Makes `rt ci` keep what it proved of a static library, as it does for a program, so that the library isn't proved again when
+    it is compiled (tools/c_library.py). The check and its verdict are the same."""
     own = kind.ci
 
     def ci(crate, flags, tests):
@@ -65,8 +65,8 @@ def keep_checked(kind):
 
 
 def leave_out_hint(rtlib):
-    """Has `rt try` only compile and run. Beside that it begins a check, up to the first proof, which can but say that a
-    proof will refuse a name. What is tried in this repository is proved too."""
+    """Makes `rt try` only compile and run. It would also begin a check, up to the first proof, which can only report that a proof
+    will refuse a name. Everything that is tried in this repository is also proved."""
     rtlib.RATTLE = "true"
 
 

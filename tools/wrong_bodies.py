@@ -1,8 +1,8 @@
 #!/usr/bin/env python3
-"""tools/wrong_bodies.py [CRATE..]: prints each wrong body that is tried: its name, what it does, the function that it turns, and
+"""tools/wrong_bodies.py [CRATE..]: prints each wrong body that is tried: its name, what it does, the function that it changes, and
 the kind of its refusal with the goal that stays open (tests/refused).
 
-Then, of all crates, the wrong bodies of the stores that a test plants, each with the check that finds it.
+If no crate is named, it also prints the wrong bodies of the stores that a test plants, each with the check that finds it.
 """
 
 import os
@@ -51,7 +51,7 @@ def planted_lines():
 def main(words):
     unknown = [word for word in words if word not in crates()]
     if unknown:
-        print(f"wrong_bodies: no crate {unknown[0]} with wrong bodies", file=sys.stderr)
+        print(f"wrong_bodies: {unknown[0]} is not a crate with wrong bodies", file=sys.stderr)
         return 2
     for crate in words or crates():
         found = list(lines_of(crate))

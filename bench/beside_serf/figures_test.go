@@ -1,7 +1,7 @@
 package serf
 
-// What calls of Serf's own cost: a figure a line, each the least of many samples. bench/beside_serf.py puts this file into a
-// copy of Serf's package, without Serf's own tests, and runs it there.
+// This test prints what Serf's own calls cost: a figure per line, each the minimum of many samples. bench/beside_serf.py puts the
+// file into a copy of Serf's package, without Serf's own tests, and runs it there.
 
 import (
 	"fmt"
@@ -19,7 +19,7 @@ const (
 	longest = 5 * time.Second
 )
 
-// least prints the least time of a sample of so many calls, a call, with what is prepared before each sample not timed.
+// least prints the minimum time per call of samples with this many calls. The preparation before each sample is not measured.
 func least(name string, calls int, prepare func(), call func(number int)) {
 	best, spent := time.Duration(1<<62), time.Duration(0)
 	for i := 0; i < samples && spent < longest; i++ {
@@ -39,7 +39,7 @@ func least(name string, calls int, prepare func(), call func(number int)) {
 
 func nothing() {}
 
-// agent makes an agent of Serf without a snapshot, whose events are read and thrown away.
+// agent makes an agent of Serf without a snapshot. Its events are read and discarded.
 func agent(t *testing.T) *Serf {
 	events := make(chan Event, 4096)
 	go func() {

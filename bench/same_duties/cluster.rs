@@ -47,7 +47,7 @@ pub struct EventOut {
     pub coalesce: bool,
 }
 
-/// What an action answered, the packet that it sent, and the event that it handed out.
+/// The answer to an action, the packet that it sent, and the event that it handed out.
 pub struct Line {
     pub answer: Answer,
     pub sent: Option<usize>,
@@ -136,7 +136,7 @@ pub fn answered(answer: Answer) -> Line {
 }
 
 impl World {
-    /// Notes that what stands in `packets` from here on was sent, and gives its number.
+    /// Records that what is in `packets` from here on was sent. Returns its number.
     pub fn note_sent(&mut self, from: usize) -> Result<usize, Fault> {
         self.sent.try_reserve(1)?;
         self.sent.push((from, self.packets.len()));

@@ -1,9 +1,9 @@
-//! A replay in plain Rust that proves nothing, to compare `serf-replay replay` with: what it takes to have the same
-//! duties. `bench/beside_rust.py` builds and runs it.
+//! A replay in plain Rust that proves nothing. Comparing `serf-replay replay` with it shows the cost of the same duties without
+//! proofs. `bench/beside_rust.py` builds and runs it.
 //!
-//! It does schedules of the words agent, inject, fire and deliver. Its duties there are those of the program: each bad
-//! line has a cause, an agent or a packet may be missing, a packet may hold any bytes, an event may be ignored for each
-//! reason, and an allocation may fail. It keeps no snapshot, and knows no query and no state.
+//! It runs schedules with the words agent, inject, fire and deliver. For these it has the program's duties: each bad line has a
+//! cause, an agent or a packet may be missing, a packet may contain any bytes, an event may be ignored for each reason, and an
+//! allocation may fail. It keeps no snapshot, and knows no queries and no states.
 mod cluster;
 mod packets;
 mod text;
@@ -202,8 +202,8 @@ fn main() -> ExitCode {
                 .expect("a place for the trace");
             ExitCode::SUCCESS
         }
-        Err((line, fault)) => {
-            eprintln!("line {line} of the schedule is bad: {fault}");
+        Err((line, error)) => {
+            eprintln!("line {line} of the schedule is bad: {error}");
             ExitCode::FAILURE
         }
     }

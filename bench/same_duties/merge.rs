@@ -1,8 +1,8 @@
-//! `merge ROUNDS STATE`: plain Rust, with no proof, merges a push/pull's state into a buffer of events, so many times.
+//! `merge ROUNDS STATE`: merges a push/pull's state into a buffer of events ROUNDS times, in plain Rust without proofs.
 //!
-//! It has a merge's duties: a packet that is faulty anywhere leaves the buffer as it was, so the whole packet is walked
-//! before; each event may be ignored for each reason; a new one has its line written first; each allocation may fail.
-//! STATE is the packet, in hex. The first merge takes the events in. Prints the nanoseconds of a later one, the least.
+//! It has a merge's duties: a packet that is faulty anywhere leaves the buffer unchanged, so the whole packet is checked first;
+//! each event may be ignored for each reason; the line of a new event is written first; each allocation may fail. STATE is the
+//! packet, in hex. The first merge accepts the events. It prints the minimum nanoseconds of the later merges.
 
 #[allow(dead_code)]
 mod packets;
@@ -16,7 +16,7 @@ const SLOTS: u64 = 512;
 const PER_TIME: usize = 1024;
 const LONGEST_TEXTS: usize = 9216;
 
-/// Why a packet isn't merged, with how many bytes were left there.
+/// Why a packet isn't merged, with the number of bytes that were left at that point.
 #[allow(dead_code)]
 #[derive(Debug)]
 enum Fault {
@@ -56,7 +56,7 @@ struct Buffer {
     snapshot: String,
 }
 
-/// What a state says that is merged: its clocks, and how many slots stand in which bytes.
+/// The parts of a state that are merged: its clocks, and the number and the bytes of its slots.
 #[derive(Default)]
 struct State<'a> {
     member_clock: u64,
@@ -72,7 +72,7 @@ impl From<TryReserveError> for Fault {
     }
 }
 
-/// A header of `short` with up to 15 parts, or of two bytes behind `long`.
+/// A header: `short` with up to 15 parts, or `long` with a count of two bytes.
 fn read_head(short: u8, long: u8, bytes: &[u8]) -> Option<(usize, &[u8])> {
     let (head, rest) = bytes.split_first()?;
     if *head & 0xf0 == short {
@@ -101,7 +101,7 @@ fn number(bytes: &[u8]) -> Result<(u64, &[u8]), Fault> {
     read_number(bytes).ok_or(Fault::Value(bytes.len()))
 }
 
-/// Notes that a field was found, once.
+/// Records that a field was found. It must not be found again.
 fn once(found: &mut u8, field: u8, at: usize) -> Result<(), Fault> {
     if *found & field != 0 {
         return Err(Fault::Twice(at));
@@ -144,7 +144,7 @@ fn skip_events(count: usize, bytes: &[u8]) -> Result<&[u8], Fault> {
     Ok(rest)
 }
 
-/// A slot: its time, how many events it has and where, and what follows it.
+/// A slot: its time, the number and the place of its events, and the bytes after it.
 fn read_slot(bytes: &[u8]) -> Result<(u64, usize, &[u8], &[u8]), Fault> {
     if let [0xc0, rest @ ..] = bytes {
         return Ok((0, 0, b"", rest));
@@ -196,7 +196,7 @@ fn skip_texts(bytes: &[u8]) -> Result<&[u8], Fault> {
     Ok(rest)
 }
 
-/// The state of a packet, once the whole of it was walked.
+/// The state of a packet, after the whole packet was checked.
 fn read_state(packet: &[u8]) -> Result<State<'_>, Fault> {
     let [2, map @ ..] = packet else {
         return Err(Fault::Type);
@@ -255,7 +255,7 @@ impl Buffer {
         }
     }
 
-    /// Why an event is ignored, if it is.
+    /// Why an event is ignored, or `None`.
     fn reason(&self, time: u64, event: &Event) -> Option<Reason> {
         if event.name.len() + event.payload.len() > LONGEST_TEXTS {
             return Some(Reason::Oversize);
@@ -281,7 +281,7 @@ impl Buffer {
         (slot.events.len() >= PER_TIME).then_some(Reason::TimeFull)
     }
 
-    /// Takes in an event that is new, and hands it out, once its line is written.
+    /// Accepts a new event, and hands it out after its line is written.
     fn take_in(&mut self, time: u64, event: &Event, out: &mut Vec<u64>) -> Result<(), Fault> {
         out.try_reserve(1)?;
         let copied = (copy(event.name)?, copy(event.payload)?);
@@ -310,7 +310,7 @@ impl Buffer {
         Ok(())
     }
 
-    /// Merges a packet: the first walk looks for a fault, and the second takes the events in.
+    /// Merges a packet. The first pass checks it for errors, and the second accepts the events.
     fn merge(&mut self, packet: &[u8], out: &mut Vec<u64>) -> Result<(), Fault> {
         let state = read_state(packet)?;
         self.clock = self.clock.max(state.event_clock);
@@ -355,6 +355,6 @@ fn main() {
             .expect("a state");
         least = least.min(start.elapsed().as_nanos());
     }
-    assert_eq!(out.len(), new, "an event came twice");
+    assert_eq!(out.len(), new, "an event was handed out twice");
     println!("{least} {new}");
 }

@@ -1,4 +1,4 @@
-//! Faults, and bytes, numbers and hex as text.
+//! Errors of a schedule's lines, and bytes, numbers and hex as text.
 
 use std::collections::TryReserveError;
 use std::fmt::{self, Display, Formatter};
@@ -17,7 +17,7 @@ impl Display for Fault {
             Fault::WordCount => write!(out, "it has too few or too many words"),
             Fault::BadWord(place) => write!(out, "word {} is wrong", place + 1),
             Fault::UnknownWord => write!(out, "its first word is unknown"),
-            Fault::LateAgent => write!(out, "an agent comes behind an action"),
+            Fault::LateAgent => write!(out, "an agent is after an action"),
             Fault::OutOfMemory => write!(out, "out of memory"),
         }
     }
@@ -29,7 +29,7 @@ impl From<TryReserveError> for Fault {
     }
 }
 
-/// The digits of hex, and the other way round.
+/// The hex digits, and their values.
 pub struct Hex {
     pub pairs: [[u8; 2]; 256],
     pub values: [u8; 256],

@@ -1,21 +1,21 @@
-/* The agent of the C library behind the pipe of docs/SPEC.md: calls on standard input, replies on standard output.
+/* The agent of the C library behind the pipe of docs/SPEC.md. It reads calls on standard input and writes replies to standard output.
  *
- * Its snapshot is in memory. `break` is unsupported, since the library has no disk. */
+ * Its snapshot is in memory. `break` is unsupported, because the library has no disk. */
 #define _GNU_SOURCE
 #include "pipe.h"
 
 enum { WORDS = 4096, ROOM = 1 << 20 };
 
 static struct serf_agent agent, other;
-/* the one that the last call's getters read */
+/* The agent from which getters read the result of the last call. */
 static struct serf_agent *given = &agent;
 static struct serf_agent_settings settings;
 static struct bytes name, text;
-/* whether the next agent that is made keeps its events */
+/* Whether the next agent that is made keeps its events. */
 static bool keeps;
 static char *words[WORDS];
 static size_t count;
-/* the queries that were handed out in this life: a packet, the moment at which it came, and whether no answer was sent yet */
+/* The queries that were handed out in this life: the packet, the moment at which it arrived, and whether it can still be answered. */
 static struct asked {
     struct bytes packet;
     uint64_t now;
@@ -27,7 +27,7 @@ static uint64_t number_of(size_t word) {
     return strtoull(words[word], NULL, 10);
 }
 
-/* What the call left for the file is in the snapshot's text from now on. */
+/* Puts what the call left for the file into the snapshot's text. */
 static void settle(void) {
     struct serf_agent_bytes about;
     if (serf_agent_unwritten(&agent, &about, NULL, 0) == SERF_AGENT_OK) {
@@ -39,7 +39,7 @@ static void settle(void) {
     }
 }
 
-/* The packets, the events and the query that the call gave. */
+/* Prints the packets, the events and the query of the call's result. */
 static void put_given(const struct serf_agent_gave *gave) {
     static uint8_t one[ROOM], two[ROOM];
     struct serf_agent_event event;
@@ -86,7 +86,7 @@ static void put_clocks(const char *answer) {
     }
 }
 
-/* Opens the agent, or opens it again, on its snapshot's text and what was behind it. */
+/* Opens the agent, or opens it again, on its snapshot's text followed by more bytes. */
 static void open_on(struct bytes more, const char *answer) {
     serf_agent_close(&agent);
     asked_count = 0;
@@ -96,7 +96,7 @@ static void open_on(struct bytes more, const char *answer) {
     put_clocks(answer);
 }
 
-/* Makes an agent. To the library a limit of 0 says that Serf's own is meant, so no agent has it. */
+/* Makes an agent. A limit of 0 is unsupported, because the library uses Serf's own limit for it. */
 static void make(void) {
     bool limits = count == 11, keep_events = keeps || strchr(words[6], '+') != NULL;
     keeps = false;
@@ -120,15 +120,15 @@ static void make(void) {
     open_on(bytes_of(words[count - 1]), "opened");
 }
 
-/* Keeps the packet of a query that was handed out. */
+/* Remembers the packet of a query that was handed out. */
 static void remember(struct bytes packet, uint64_t now) {
     asked = realloc(asked, (asked_count + 1) * sizeof *asked);
     asked[asked_count] = (struct asked){.now = now, .waits = true};
     append(&asked[asked_count++].packet, packet);
 }
 
-/* Answers a query. The moments of a schedule go back, as those of a host's clock don't: so a query that the library has forgotten,
- * since a moment was past its deadline, is answered by another agent, which gets it anew. */
+/* Answers a query. Unlike a host's clock, the moments of a schedule may go back. So if the library has forgotten a query, because an
+ * earlier call had a moment after its deadline, another agent receives the query again and answers it. */
 static uint32_t respond(uint64_t now, uint64_t query, struct bytes payload) {
     struct asked *one = query < asked_count ? &asked[query] : NULL;
     uint32_t code = serf_agent_respond(&agent, now, query + 1, payload.at, payload.len);
@@ -160,7 +160,7 @@ static uint32_t query(void) {
     return serf_agent_query(&agent, number_of(1), (uint32_t)number_of(2), called.at, called.len, payload.at, payload.len, NULL, 0, &params);
 }
 
-/* A call that can be refused: its code, how its answer begins, and the packet or name that came with it. */
+/* Makes a call that can be refused. Returns its code, the beginning of its answer, and the packet or name in its arguments. */
 static uint32_t called(const char *call, const char **answer, struct bytes *one) {
     struct bytes payload;
     *one = strchr("fdm", call[0]) != NULL ? bytes_of(words[1]) : (struct bytes){0};

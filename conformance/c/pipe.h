@@ -7,7 +7,7 @@
 #include <stdlib.h>
 #include <string.h>
 
-/* A number, as it is printed. */
+/* The type of a number for printf. */
 typedef unsigned long long number;
 
 struct bytes {
@@ -33,7 +33,7 @@ static int digit(int of) {
     return of <= '9' ? of - '0' : (of | 32) - 'a' + 10;
 }
 
-/* A word's bytes, in the place of its digits. */
+/* Converts a word's hex digits to bytes, which replace them in memory. */
 static struct bytes bytes_of(char *word) {
     size_t len = strcmp(word, "-") == 0 ? 0 : strlen(word) / 2;
     for (size_t i = 0; i < len; i++) {
@@ -48,7 +48,7 @@ static void append(struct bytes *to, struct bytes more) {
     to->len += more.len;
 }
 
-/* Bytes behind what was printed. */
+/* Prints bytes after what was printed before. */
 static void put(const uint8_t *bytes, size_t len, const char *end) {
     putchar(' ');
     for (size_t i = 0; i < len; i++) {
@@ -57,13 +57,13 @@ static void put(const uint8_t *bytes, size_t len, const char *end) {
     printf("%s%s", len == 0 ? "-" : "", end);
 }
 
-/* A line of one word and bytes. */
+/* Prints a line with a word and bytes. */
 static void put_line(const char *word, struct bytes bytes) {
     fputs(word, stdout);
     put(bytes.at, bytes.len, "\n");
 }
 
-/* The line of a packet that is no message: its fault, with the byte and the place that it names. */
+/* Prints the line for a packet that is no message: what is wrong with it, with the byte and the place. */
 static void put_packet_fault(struct bytes packet) {
     struct serf_agent_packet_fault fault = {0};
     serf_agent_packet_fault(packet.at, packet.len, &fault);
@@ -71,14 +71,14 @@ static void put_packet_fault(struct bytes packet) {
     if (fault.kind == SERF_AGENT_FAULT_UNKNOWN_TYPE || fault.kind == SERF_AGENT_FAULT_UNSUPPORTED) {
         printf(" %u", fault.byte);
     }
-    /* a place is never the type's own */
+    /* The place is never that of the type, so 0 means that there is none. */
     if (fault.offset != 0) {
         printf(" %zu", fault.offset);
     }
     putchar('\n');
 }
 
-/* The line of an answer that was counted: what its packet says. */
+/* Prints the line for an answer that was counted, from its packet. */
 static void put_counted(struct bytes packet) {
     static uint8_t from[1 << 20], payload[1 << 20];
     struct serf_agent_answer said;

@@ -1,9 +1,9 @@
 #!/usr/bin/env python3
-"""An agent behind the pipe: calls on standard input, replies on standard output (docs/SPEC.md).
+"""An agent behind the pipe: it reads calls on standard input and writes replies to standard output (docs/SPEC.md).
 
     agent.py [--wrong NAME].. [--list]
 
---wrong makes one of its bodies wrong, and --list prints the names of these and what is wrong then.
+--wrong makes one of its bodies wrong, and --list prints the names of these bodies, each with what is then wrong.
 """
 
 import argparse

@@ -1,6 +1,6 @@
-// An agent of Serf's own code behind the pipe (docs/SPEC.md). It stands in Serf's package, since it calls what a test of
-// Serf would: the moments, the IDs and the snapshot's moments of writing are those of the calls. Each answer is what
-// Serf's code did; where Serf only says nothing, the reason is read off its state.
+// An agent with Serf's own code behind the pipe (docs/SPEC.md). It is in Serf's package, because it calls the same functions as a
+// test of Serf would: the calls determine the moments, the IDs and when the snapshot is written. Each answer is what Serf's code did.
+// If Serf does nothing, the agent finds the reason in Serf's state.
 package serf
 
 import (
@@ -20,18 +20,18 @@ import (
 	"github.com/hashicorp/memberlist"
 )
 
-// A transport that keeps what is sent.
+// keptPackets is a transport that keeps what is sent.
 type keptPackets struct {
 	memberlist.Transport
 	packets [][]byte
 }
 
 func (k *keptPackets) WriteTo(b []byte, addr string) (time.Time, error) {
-	k.packets = append(k.packets, append([]byte{}, b[1:]...)) // behind memberlist's byte for a user message
+	k.packets = append(k.packets, append([]byte{}, b[1:]...)) // without memberlist's byte for a user message
 	return time.Now(), nil
 }
 
-// got is a value that came with no fault.
+// got returns a value, and panics if there is an error.
 func got[T any](value T, err error) T {
 	if err != nil {
 		panic(err)
@@ -43,21 +43,19 @@ func must(err error) { got(0, err) }
 
 // PipeAgent is an agent that the calls drive.
 type PipeAgent struct {
-	NoteAll             bool // the snapshot sees all queries that enter
-	folder              string
-	kept                *keptPackets
-	members             *memberlist.Memberlist
-	serf                *Serf
-	snap                *Snapshotter
-	events              chan Event
-	config              *Config
-	ignoreOld           bool
-	responders, perTime int
-	handed              []*Query
-	deadlines           []uint64               // of the queries that were handed out
-	deadline            uint64                 // of the query that enters now
-	closing             map[LamportTime]uint64 // the deadlines of its own queries
-	taken               map[LamportTime]int
+	folder     string
+	kept       *keptPackets
+	members    *memberlist.Memberlist
+	serf       *Serf
+	snap       *Snapshotter
+	events     chan Event
+	config     *Config
+	ignoreOld  bool
+	responders int
+	handed     []*Query
+	deadlines  []uint64               // the deadlines of the queries that were handed out
+	deadline   uint64                 // the deadline of the query that enters now
+	closing    map[LamportTime]uint64 // the deadlines of this agent's queries
 }
 
 // NewPipeAgent makes an agent that is not open yet.
@@ -69,10 +67,10 @@ func NewPipeAgent() *PipeAgent {
 	return &PipeAgent{folder: got(ioutil.TempDir("", "serf")), kept: kept, members: got(memberlist.Create(settings))}
 }
 
-// Close removes what it kept.
+// Close removes the agent's folder.
 func (a *PipeAgent) Close()          { os.RemoveAll(a.folder) }
 func (a *PipeAgent) path() string    { return a.folder + "/snapshot" }
-func (a *PipeAgent) told() *delegate { return &delegate{serf: a.serf} } // what memberlist hands packets to
+func (a *PipeAgent) told() *delegate { return &delegate{serf: a.serf} } // what memberlist passes packets to
 
 func unhexed(word string) []byte {
 	if word == "-" {
@@ -90,7 +88,7 @@ func hexed(data []byte) string {
 
 func number(word string) uint64 { return got(strconv.ParseUint(word, 10, 64)) }
 
-// later is a moment and a duration behind it, at most the greatest moment.
+// later returns the moment after a duration, at most the largest moment.
 func later(now uint64, timeout time.Duration) uint64 {
 	if timeout < 0 {
 		return now
@@ -101,7 +99,7 @@ func later(now uint64, timeout time.Duration) uint64 {
 	return math.MaxUint64
 }
 
-// moment is one of the clock that Serf reads, before or behind now as the given moment stands to this deadline.
+// moment returns a deadline for the clock that Serf reads. It has passed if now is after the given deadline.
 func moment(now, deadline uint64) time.Time {
 	if now > deadline {
 		return time.Now().Add(-time.Hour)
@@ -109,7 +107,7 @@ func moment(now, deadline uint64) time.Time {
 	return time.Now().Add(time.Hour)
 }
 
-// queue is one that gives each message once.
+// queue returns a queue that returns each message once.
 func queue() *memberlist.TransmitLimitedQueue {
 	return &memberlist.TransmitLimitedQueue{NumNodes: func() int { return 1 }, RetransmitMult: 1}
 }
@@ -134,11 +132,10 @@ func (a *PipeAgent) live() {
 		clock.Increment()
 		clock.Witness(time)
 	}
-	a.taken = map[LamportTime]int{}
 	a.serf, a.handed, a.deadlines, a.closing = s, nil, nil, map[LamportTime]uint64{}
 }
 
-// did is what a call did: its packets, and what was handed out, which goes through the snapshot.
+// did returns the lines of what a call did: its packets, and what was handed out, which it also writes to the snapshot.
 func (a *PipeAgent) did(answer string) string {
 	lines := []string{answer}
 	packets := append(a.serf.eventBroadcasts.GetBroadcasts(0, 1<<30), a.serf.queryBroadcasts.GetBroadcasts(0, 1<<30)...)
@@ -149,7 +146,6 @@ func (a *PipeAgent) did(answer string) string {
 		switch e := (<-a.events).(type) {
 		case UserEvent:
 			a.snap.processUserEvent(e)
-			a.taken[e.LTime]++
 			lines = append(lines, fmt.Sprintf("event %d %s %s %d", e.LTime, hexed([]byte(e.Name)), hexed(e.Payload), map[bool]int{true: 1}[e.Coalesce]))
 		case *Query:
 			a.snap.processQuery(e)
@@ -160,7 +156,7 @@ func (a *PipeAgent) did(answer string) string {
 	return strings.Join(lines, "\n")
 }
 
-// Reply does a call, and gives the lines that answer it. A call at which Serf's code panics is answered as unsupported.
+// Reply makes a call, and returns the lines of its reply. If Serf's code panics, the reply is "unsupported".
 func (a *PipeAgent) Reply(line string) (reply string) {
 	defer func() {
 		if fault := recover(); fault != nil {
@@ -184,7 +180,7 @@ var pipeCalls = map[string]func(a *PipeAgent, words []string) string{
 }
 
 func (a *PipeAgent) open(words []string) string {
-	if strings.HasSuffix(words[5], "+events") { // Serf keeps no events over a restart
+	if strings.HasSuffix(words[5], "+events") { // Serf keeps no events across a restart
 		return "unsupported"
 	}
 	config := DefaultConfig()
@@ -195,7 +191,7 @@ func (a *PipeAgent) open(words []string) string {
 	if len(words) == 10 { // else both limits are Serf's own
 		config.QuerySizeLimit, config.QueryResponseSizeLimit = int(number(words[7])), int(number(words[8]))
 	}
-	a.config, a.responders, a.perTime, a.ignoreOld = config, int(number(words[4])), int(number(words[6])), words[5] == "ignore"
+	a.config, a.responders, a.ignoreOld = config, int(number(words[4])), words[5] == "ignore"
 	return a.restartOn(unhexed(words[len(words)-1]), "opened")
 }
 
@@ -213,7 +209,7 @@ func (a *PipeAgent) restart(words []string) string {
 	return a.restartOn(append(got(ioutil.ReadFile(a.path())), unhexed(words[0])...), "restarted")
 }
 
-// look is what Serf has: its clocks, its least times, and its snapshot's text.
+// look returns Serf's state: its clocks, its minimum times, and its snapshot's text.
 func (a *PipeAgent) look([]string) string {
 	a.snap.buffered.Flush()
 	s := a.serf
@@ -243,16 +239,10 @@ func (a *PipeAgent) merge(words []string) string {
 		return "unsupported" // Serf's member clock follows the status times
 	}
 	a.told().MergeRemoteState(packet, words[1] == "join")
-	lines := a.did("merged")
-	for _, count := range a.taken {
-		if count > a.perTime {
-			return "unsupported" // Serf takes any number of one time
-		}
-	}
-	return lines
+	return a.did("merged")
 }
 
-// old is why Serf doesn't take a time: its two tests, and what is left.
+// old returns why Serf ignores a time: by its two tests, or else because it was seen.
 func old(time, minimum, clock LamportTime, slots int) string {
 	if time < minimum {
 		return "BelowMinimum"
@@ -299,17 +289,17 @@ func (a *PipeAgent) deliverQuery(packet []byte, now uint64) string {
 	if a.told().NotifyMsg(packet); a.idsAt(query.LTime) == before {
 		return "ignored " + why
 	}
-	return a.entered("query", query.LTime, later(now, query.Timeout))
+	return a.entered("query", later(now, query.Timeout))
 }
 
-// hasBin tells whether a filter has the head of a value in bin form.
+// hasBin reports whether a filter may contain a value in bin form.
 func hasBin(filter []byte) bool {
 	return bytes.IndexByte(filter, 0xc4) >= 0 || bytes.IndexByte(filter, 0xc5) >= 0 || bytes.IndexByte(filter, 0xc6) >= 0
 }
 
-// isForeign tells whether a filter asks for tags, which no agent of the reference has, or is one that this codec reads
-// otherwise than the reference: with a name in MessagePack's bin form, which it doesn't read as a text, as a map, which it
-// reads as a list, or with bytes behind its value, which it passes over.
+// isForeign reports whether a filter requires tags, which no agent of the reference has, or whether this codec reads it differently
+// from the reference: it doesn't read a name in MessagePack's bin form as a text, it reads a map as a list, and it ignores bytes
+// after the filter's value.
 func isForeign(filters [][]byte) bool {
 	for _, filter := range filters {
 		if filter[0] == byte(filterTagType) || hasBin(filter) {
@@ -327,7 +317,7 @@ func isForeign(filters [][]byte) bool {
 	return false
 }
 
-// idsAt is how many queries of a time are held.
+// idsAt returns how many queries with this time are in the buffer.
 func (a *PipeAgent) idsAt(time LamportTime) int {
 	held := a.serf.queryBuffer[time%LamportTime(len(a.serf.queryBuffer))]
 	if held == nil || held.LTime != time {
@@ -336,12 +326,8 @@ func (a *PipeAgent) idsAt(time LamportTime) int {
 	return len(held.QueryIDs)
 }
 
-// entered is what the call did by which a query entered, which is answered up to this deadline. Serf's snapshot sees only
-// a query that is handed out; with NoteAll it sees all.
-func (a *PipeAgent) entered(answer string, time LamportTime, deadline uint64) string {
-	if a.NoteAll {
-		a.snap.processQuery(&Query{LTime: time})
-	}
+// entered returns the lines of a call by which a query entered. The query can be answered until this deadline.
+func (a *PipeAgent) entered(answer string, deadline uint64) string {
 	a.deadline = deadline
 	return a.did(answer)
 }
@@ -378,7 +364,7 @@ func (a *PipeAgent) deliverResponse(packet []byte, now uint64) string {
 	return "refused RespondersFull"
 }
 
-// query is Serf's Query, with this ID, these flags and these filters.
+// query does what Serf's Query does, with this ID, these flags and these filters.
 func (a *PipeAgent) query(words []string) string {
 	now, flags := number(words[0]), uint32(number(words[5]))
 	s := a.serf
@@ -394,7 +380,7 @@ func (a *PipeAgent) query(words []string) string {
 	if len(raw) > s.config.QuerySizeLimit {
 		return "refused TooLarge"
 	}
-	if q.Timeout == 0 { // Serf takes its default in its place
+	if q.Timeout == 0 { // Serf would use its default instead
 		return "refused ZeroTimeout"
 	}
 	response := newQueryResponse(a.responders, &q)
@@ -402,7 +388,7 @@ func (a *PipeAgent) query(words []string) string {
 	a.closing[response.lTime] = later(now, q.Timeout)
 	s.handleQuery(&q)
 	s.queryBroadcasts.QueueBroadcast(&broadcast{msg: raw})
-	return a.entered(fmt.Sprintf("queried %d", q.LTime), q.LTime, later(now, q.Timeout))
+	return a.entered(fmt.Sprintf("queried %d", q.LTime), later(now, q.Timeout))
 }
 
 func (a *PipeAgent) respond(words []string) string {
@@ -421,7 +407,7 @@ func (a *PipeAgent) respond(words []string) string {
 	return "refused TooLarge"
 }
 
-// closeQueries closes those whose deadline has passed, as Serf's timers do.
+// closeQueries closes the queries whose deadline has passed, as Serf's timers do.
 func (a *PipeAgent) closeQueries(words []string) string {
 	now, count := number(words[0]), 0
 	for lTime, open := range a.serf.queryResponse {

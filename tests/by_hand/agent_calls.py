@@ -1,11 +1,11 @@
-"""By hand, since it needs Go and Serf: each command of the stock command line, at a stock agent and at ours, says the same.
+"""By hand, since it needs Go and Serf: each command of the stock command line prints the same for a stock agent and for ours.
 
     tests/by_hand/agent_calls.py [--plain | --encrypted] [--library FOLDER] [--agent PROGRAM]
 
 Two stock agents and two of ours are one cluster, first plain and then encrypted. Each call is made at the first agent of either kind.
-Statuses and texts have to be the same, without the order of lines: names and addresses stand for what they are to the agent that was
-asked (itself, its twin, the two of the other kind), and what was measured or drawn counts for nothing. What differs has a row in
-DIFFERENT, with the reason, and docs/AGENT.md names it. A call that depends on a packet of UDP, or on news, is made up to five times.
+Statuses and texts have to be the same, regardless of the order of lines. Names and addresses are replaced by their relation to the
+agent that was called (itself, its peer, the two of the other kind), and measured or random values are ignored. A difference has a row
+in DIFFERENT, with the reason, and docs/AGENT.md names it. A call that depends on a packet of UDP, or on news, is made up to five times.
 """
 
 import argparse
@@ -24,7 +24,7 @@ from agent_cluster_kit import Agent, until
 # Two keys that no agent starts with.
 NEW, OTHER = (base64.b64encode(bytes([n]) * 16).decode() for n in (1, 2))
 
-# Each call, as words. {me} is the agent itself, {twin} the other one of its kind, {far} and {farther} those of the other kind; {KEY} is
+# Each call, as words. {me} is the agent itself, {peer} the other one of its kind, {far} and {farther} those of the other kind; {KEY} is
 # the cluster's key, {512} a text of so many bytes.
 CALLS = """
 version
@@ -75,7 +75,7 @@ query -timeout=1s cat payload
 query -timeout=1s bad
 query -timeout=1s -no-ack load
 query -timeout=1s -node {me} load
-query -timeout=1s -node {twin} load
+query -timeout=1s -node {peer} load
 query -timeout=1s -node {far} load
 query -timeout=1s -node {far} -node {farther} load
 query -timeout=1s -node nobody load
@@ -106,11 +106,11 @@ reachability
 reachability -verbose
 reachability extra
 rtt
-rtt {twin}
+rtt {peer}
 rtt {far}
 rtt {me}
 rtt nobody
-rtt {twin} {far}
+rtt {peer} {far}
 rtt {far} nobody
 rtt {far} {farther}
 rtt a b c
@@ -161,9 +161,9 @@ keys -install {NEW} -list
 leave
 """.strip().split("\n")
 
-# What differs: the call, and why. Each stands in docs/AGENT.md, "What differs".
+# The differences: the call, and why. Each is in docs/AGENT.md, "What differs".
 DIFFERENT = (
-    (r"info( -format json| extra)?", "ours says more of itself"),
+    (r"info( -format json| extra)?", "ours reports more about itself"),
     (r"event deploy \{500\}", "the same limit of the packet, in other words"),
     (r"members -(name|status|tag) .*\($", "a stock agent ends the client"),
     (r"query -timeout=(-1s|2h) .*", "a time below 0, or above an hour"),
@@ -172,20 +172,20 @@ DIFFERENT = (
 
 
 class Side:
-    """Agents of a kind, the first of which is asked."""
+    """Agents of a kind; the calls are made at the first one."""
 
     def __init__(self, agents, others, key):
-        self.me, self.twin = agents
+        self.me, self.peer = agents
         self.far, self.farther = others
         self.key = key
-        self.words = {"me": self.me.name, "twin": self.twin.name, "far": self.far.name, "farther": self.farther.name, "nowhere": "127.0.7.99"}
+        self.words = {"me": self.me.name, "peer": self.peer.name, "far": self.far.name, "farther": self.farther.name, "nowhere": "127.0.7.99"}
         self.words |= {"far_address": self.far.addr, "farther_address": self.farther.addr, "KEY": key or NEW, "NEW": NEW, "OTHER": OTHER}
 
     def asked(self, call):
         """The status of a call at this side, and its lines in order, with neutral words."""
         words = [re.sub(r"\{(\w+)\}", lambda found: "x" * int(found[1]) if found[1].isdigit() else self.words[found[1]], word) for word in call.split()]
         status, text = self.me.serf(*words)
-        for name, agent in (("ME", self.me), ("TWIN", self.twin), ("FAR", self.far), ("FARTHER", self.farther)):
+        for name, agent in (("ME", self.me), ("PEER", self.peer), ("FAR", self.far), ("FARTHER", self.farther)):
             text = re.sub(rf"\b{agent.name}\b", name, text).replace(agent.rpc, f"{name}'s RPC").replace(f"{agent.addr}:", f"{name}'s:").replace(agent.addr, f"{name}'s")
         text = re.sub(r"\d+(\.\d+)? ?(µs|ms|sec|s)\b", "TIME", text)
         text = re.sub(r"\d{4}/\d\d/\d\d \d\d:\d\d:\d\d", "MOMENT", text)
@@ -196,7 +196,7 @@ class Side:
 
 
 class Run:
-    """One cluster, and how the calls at it ended."""
+    """One cluster, and the results of the calls."""
 
     def __init__(self, folder, program, key):
         stock = ["serf", "agent"]
@@ -213,7 +213,7 @@ class Run:
             agent.start(*(["-join", self.agents[0].addr] if agent is not self.agents[0] else []))
         names = [agent.name for agent in self.agents]
         if not until(lambda: all(agent.status(name) == "alive" for agent in self.agents for name in names), 60):
-            sys.exit("not all see one another")
+            sys.exit("the agents don't all see one another")
 
     def call(self, call):
         row = next((why for words, why in DIFFERENT if re.fullmatch(words, call)), None)
@@ -261,7 +261,7 @@ def main():
             os.mkdir(own)
             run = Run(own, program, key)
             run.run()
-            print(f"{'encrypted' if key else 'plain'}: of {len(CALLS)} calls {run.same} say the same, {len(run.known)} differ as is known, {len(run.other)} otherwise", flush=True)
+            print(f"{'encrypted' if key else 'plain'}: of {len(CALLS)} calls {run.same} print the same, {len(run.known)} differ as is known, {len(run.other)} otherwise", flush=True)
             other += run.other
     print("FAILED" if other else "passed")
     return 1 if other else 0

@@ -4,22 +4,22 @@
                                    [--repeat SHARE] [--calm] [--cut-every SECONDS] [--keep-events N] [--retry-join] [--rest SECONDS] [--seed S]
                                    [--net ADDRESS] [--library FOLDER] [--agent PROGRAM] [--judge PROGRAM] [--keep]
 
-There are stock agents (3), ours (3), and Serf's own program over our package `serf` (2). So many of ours keep their events (2).
+There are stock agents (3), ours (3), and Serf's own program over our package `serf` (2). Some of ours keep their events (2).
 Events and queries are fired at random nodes in bursts, and a random node is killed by SIGKILL and started again on its snapshot,
-by which alone it rejoins. Ours and those over the package lose packets and repeat them, and are cut off from a random half of all
-nodes for 2 to 8 seconds, again and again (by the transport of bindings/go/serf/faults.go); --calm leaves that out. --cut-every is
-about how many seconds lie between two cuts (6). The more often kills and cuts come, the more events are gone with the windows of
-those that had them, before the others hear of them. Who starts again while it is cut off from all that it knows tries no more, and
-may stay alone; with --retry-join all but stock go on trying. It ends at the first of so many minutes, kills or events. Then all
-comes to rest, for --rest seconds once all see one another (120, and 5 where no agent keeps its events: what a node lacks comes with
-the states, which agents exchange each 30 seconds). Then `serf-replay judge` reads the log of all handlers but stock's, with their
-snapshots.
+its only way to rejoin. Ours and those over the package lose packets and repeat them, and are cut off from a random half of all
+nodes for 2 to 8 seconds, again and again (by the transport in bindings/go/serf); --calm leaves that out. --cut-every is
+the average time between two cuts, in seconds (6). The more often kills and cuts happen, the more events leave the windows of
+the nodes that had them before the others receive them. A node that starts while it is cut off from all that it knows doesn't try
+again, and may stay alone; with --retry-join all but stock agents keep trying. The run ends after so many minutes, kills or events,
+whichever is first. Then the cluster rests for --rest seconds after all nodes see one another (120, or 5 if no agent keeps its events:
+a node gets what it lacks from the states, which agents exchange every 30 seconds). Then `serf-replay judge` reads the log of all
+handlers except stock's, with their snapshots.
 
-It fails where a handler ran an event or a query twice, but a stock agent's, or where the judge says otherwise. How often stock's
-handlers did is told beside it, and how many of the events that an agent took each kind never ran; those of ours that keep their
-events are a kind of their own. Apart stand the events that only their firer ever had: no other handler ran them, and no other file
-that keeps events has them. Of ours it is told why: by their records, and of those that keep their events by their files as the kills
-left them. The handlers write a line each, by one process alone, so that few events wait for them when a kill comes.
+The script fails if a handler ran an event or a query twice, except on a stock agent, or if the judge finds an error. It also prints
+how often stock's handlers ran something twice, and for each kind how many of the accepted events never ran; those of ours that keep
+their events are a separate kind. Events that only their firer ever had are counted separately: no other handler ran them, and no
+other file that keeps events has them. For ours the script prints why: by their records, and for those that keep their events by their
+files as the kills left them. One process writes each handler's line, so that few events wait for their handlers when a node is killed.
 """
 
 import argparse
@@ -72,7 +72,7 @@ def arguments():
     return parser.parse_args()
 
 
-# What kind an agent is: stock, kitchenrue-agent, or Serf's own program over our package.
+# The kinds of agents: stock, kitchenrue-agent, with -keep-events too, and Serf's own program over our package.
 STOCK, OURS, KEEPS, SERF = "stock", "ours", "ours with -keep-events", "serf"
 
 
@@ -109,7 +109,7 @@ def ran(agent):
 
 
 def put_faults(agents, asked, side=()):
-    """Has all but stock lose and repeat packets, and cuts those of one side off from all others."""
+    """Makes all but stock agents lose and repeat packets, and cuts those of one side off from all others."""
     for agent in agents:
         if agent.is_proved:
             beyond = [other.addr for other in agents if side and (other in side) != (agent in side)]
@@ -119,11 +119,11 @@ def put_faults(agents, asked, side=()):
 
 
 class Torment:
-    """What is done to the cluster, until the first of its bounds."""
+    """What happens to the cluster, until the first of its limits."""
 
     def __init__(self, agents, asked):
         self.agents, self.asked, self.draw = agents, asked, random.Random(asked.seed)
-        # the texts of the events that an agent took, and its name; how many were fired, and how many queries
+        # the texts of the events that an agent accepted, and its name; how many were fired, and how many queries
         self.taken, self.fired, self.asked_of, self.cuts, self.kills = {}, 0, 0, 0, collections.Counter()
         self.next_kill = time.monotonic() + 2
         self.next_cut, self.mended_at = time.monotonic() + 5, None
@@ -139,7 +139,7 @@ class Torment:
         self.draw.choice(up).serf("query", "-timeout=200ms", "check", f"q{self.asked_of}")
 
     def cut(self):
-        """Cuts and mends, each in its time."""
+        """Cuts nodes off, or ends a cut, when it is time."""
         now = time.monotonic()
         if self.mended_at is None and now > self.next_cut:
             put_faults(self.agents, self.asked, self.draw.sample(self.agents, len(self.agents) // 2))
@@ -172,7 +172,7 @@ class Torment:
 
 
 def judged(agents, folder, judge):
-    """What the judge says of all handlers but stock's: its status and its text."""
+    """What the judge reports about all handlers except stock's: its status and its text."""
     log = os.path.join(folder, "proved.log")
     words = [judge, "judge", log]
     with open(log, "w", encoding="utf-8") as file:
@@ -185,7 +185,7 @@ def judged(agents, folder, judge):
 
 
 def text_of(path):
-    """The bytes of a file; none where it isn't there."""
+    """The bytes of a file; empty if it doesn't exist."""
     try:
         with open(path, "rb") as file:
             return file.read()
@@ -202,7 +202,7 @@ def why_by_files(agent, payloads):
     """Why a node of ours whose file keeps events never ran these events, by its file as its kills left it."""
     noted, causes = noted_by(agent), collections.Counter()
     for payload in payloads:
-        causes["killed between its line and its handler" if payload in noted else "it has no line of its own: it never came, or was too old"] += 1
+        causes["killed between its line and its handler" if payload in noted else "it has no line: it never arrived, or was too old"] += 1
     return causes
 
 
@@ -220,22 +220,22 @@ def why(agent, payloads):
         if raw.hex() in handed:
             causes["killed between its line and its handler"] += 1
         elif (b"\xa7Payload" + bytes([0xA0 | len(raw)]) + raw).hex() in text:
-            causes["it came, and was too old or below the least time: a later one came first, or it was killed behind the line"] += 1
+            causes["it arrived, and was too old or below the minimum time: a later one was first, or the node was killed after the line"] += 1
         else:
-            causes["it never came: who fired it was killed before it was sent, or nobody kept it"] += 1
+            causes["it never arrived: the node that fired it was killed before it was sent, or nobody kept it"] += 1
     return causes
 
 
 def lonely(agents, torment):
-    """The events that only their firer ever had, as far as handlers and files tell."""
+    """The events that only their firer ever had, as far as handlers and files show."""
     had = {agent.name: {line.split()[-1] for line in ran(agent) if line.startswith("event ")} | noted_by(agent) for agent in agents}
     return {text for text, firer in torment.taken.items() if not any(text in had[name] for name in had if name != firer)}
 
 
 def told(agents, torment):
-    """Tells what each kind did: how many repeats each has."""
+    """Prints what happened to each kind: how many repeats each has."""
     repeats, alone = collections.Counter(), lonely(agents, torment)
-    print(f"{len(alone)} events only their firer ever had")
+    print(f"{len(alone)} events that only their firer ever had")
     for kind in (STOCK, OURS, KEEPS, SERF):
         of_kind = [agent for agent in agents if agent.kind == kind]
         once, queries, apart, causes = 0, 0, 0, collections.Counter()
@@ -286,12 +286,12 @@ def main():
     finally:
         for agent in agents:
             agent.end()
-    print(f"{torment.fired} events, {len(torment.taken)} of them taken, {torment.asked_of} queries, {torment.cuts} cuts, all nodes {'see' if whole else 'do not see'} one another at the end")
+    print(f"{torment.fired} events, {len(torment.taken)} of them accepted, {torment.asked_of} queries, {torment.cuts} cuts, all nodes {'see' if whole else 'do not see'} one another at the end")
     repeats = told(agents, torment)
     status, text = judged(agents, folder, asked.judge)
     print(text, end="")
     if asked.keep:
-        print(f"all is in {folder}")
+        print(f"the files are in {folder}")
     else:
         shutil.rmtree(folder)
     good = status == 0 and repeats[OURS] == repeats[KEEPS] == repeats[SERF] == 0

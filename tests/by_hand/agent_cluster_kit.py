@@ -1,4 +1,4 @@
-"""What the tests by hand of the agent share: they build it, and start and end agents on loopback addresses."""
+"""What the tests by hand of the agent share: it builds the agent, and starts and ends agents on loopback addresses."""
 
 import os
 import shutil
@@ -15,7 +15,7 @@ import serf_package
 
 GOCODE = os.environ.get("SERF_GOPATH", "/usr/share/gocode")
 
-# Writes what a handler was told: who, what, when, and what it read.
+# Writes the input of a handler: its event, its node, the name, the time, and what it read.
 HANDLER = """#!/bin/sh
 read_in=$(cat | tr '\\n' ';')
 echo "$SERF_EVENT|$SERF_SELF_NAME|$SERF_SELF_ROLE|$SERF_TAG_ROLE|$SERF_USER_EVENT$SERF_QUERY_NAME|$SERF_USER_LTIME$SERF_QUERY_LTIME|$read_in" >>"$1"
@@ -70,7 +70,7 @@ class Agent:
         return [f"-rpc-auth={self.auth}"] if self.auth else []
 
     def serf(self, command, *words):
-        """What the stock command line says to this agent: its status and its text."""
+        """What the stock command line prints for this agent: its status and its text."""
         return said(["serf", command, f"-rpc-addr={self.rpc}", *self.token(), *words])
 
     def status(self, name):
@@ -93,7 +93,7 @@ class Agent:
         return [line.split("|")[6].rstrip(";") for line in self.lines() if line.split("|")[0] == "user" and line.split("|")[4] == name]
 
     def end(self, how=signal.SIGKILL, wait=20):
-        """Ends it, and gives its status."""
+        """Ends it, and returns its status."""
         if self.process is None:
             return None
         if self.process.poll() is None:
@@ -115,7 +115,7 @@ def said(words, wait=30):
 
 
 def until(holds, wait=15):
-    """Waits until this holds, and says whether it did in time."""
+    """Waits until this holds, and returns whether it did in time."""
     end = time.monotonic() + wait
     while time.monotonic() < end:
         if holds():
@@ -125,7 +125,7 @@ def until(holds, wait=15):
 
 
 def needed(commands=("go", "serf")):
-    """What isn't there of what these tests need, or None."""
+    """What is missing of what these tests need, or None."""
     missing = [name for name in commands if shutil.which(name) is None]
     missing += [f"{name}'s sources" for name in ("memberlist", "serf") if not os.path.isdir(os.path.join(GOCODE, "src", "github.com", "hashicorp", name))]
     return ", ".join(missing) or None

@@ -1,4 +1,4 @@
-"""By hand, since it needs Go, Serf and memberlist's sources: the stock command line, and stock agents, beside ours.
+"""By hand, since it needs Go, Serf and memberlist's sources: the stock command line, and stock agents, together with ours.
 
     tests/by_hand/agent_commands.py [--plain | --encrypted] [--agent PROGRAM] [--keep]
 
@@ -25,7 +25,7 @@ from agent_cluster_kit import Agent, until
 
 
 class Run:
-    """One cluster, and what was checked of it."""
+    """One cluster, and the checks that were made on it."""
 
     def __init__(self, folder, program, key):
         self.key, self.passed, self.failed = key, 0, []
@@ -45,7 +45,7 @@ class Run:
         self.a = agent("a", 1, stock, "web")
         self.b = agent("b", 2, stock, "web")
         self.x = agent("x", 3, program, "db")
-        # its token stands in a file of settings
+        # (its token is in a file of settings)
         settings = os.path.join(folder, "y.json")
         with open(settings, "w", encoding="utf-8") as file:
             json.dump({"rpc_auth": "sesame", "tags": {"dc": "south"}, "start_join": [self.a.addr]}, file)
@@ -71,7 +71,7 @@ class Run:
         print(f"{'passed' if holds else 'FAILED'}: {what}", flush=True)
 
     def says(self, what, agent, command, *words, has=(), lacks=(), status=0, tries=1):
-        """Checks what the command line says. Answers to queries are tried again, since each is one packet of UDP."""
+        """Checks what the command line prints. Queries are tried again, since each answer is one packet of UDP."""
         for _ in range(tries):
             got, text = agent.serf(command, *words)
             good = got == status and all(re.search(one, text) for one in has) and not any(re.search(one, text) for one in lacks)
@@ -93,7 +93,7 @@ class Run:
         for who, whom in ((a, x), (a, y), (x, a), (x, b), (y, x), (b, y)):
             self.sees(who, whom, "alive")
         self.says("stock shows our tags", a, "members", has=[r"x +127\.0\.7\.3:7946 +alive +.*role=db"])
-        self.says("tags of a file and of a flag come together", x, "members", has=[r"y .*alive +.*dc=south,role=cache|y .*alive +.*role=cache,dc=south"])
+        self.says("tags of a file and of a flag are merged", x, "members", has=[r"y .*alive +.*dc=south,role=cache|y .*alive +.*role=cache,dc=south"])
         self.says("members -detailed", x, "members", "-detailed", has=[r"a +.*Protocol Version: 5 +Available Protocol Range: \[2, 5\]"])
         text = self.says("members -format json", x, "members", "-format", "json", has=["members"])
         names = sorted(one["name"] for one in json.loads(text)["members"])
@@ -128,7 +128,7 @@ class Run:
             self.check(f"{who.name} ran a row in order", until(lambda: who.ran("row") == [f"n{number}" for number in range(6)], 10))
         self.says("an event that is too long is refused", x, "event", "deploy", "x" * 600, status=1, has=["exceeds configured limit of 512 bytes"])
         self.says("an event without a payload", x, "event", "-coalesce=false", "empty", has=["dispatched"])
-        self.check("it came to stock", until(lambda: a.ran("empty") == [""], 10))
+        self.check("stock received it", until(lambda: a.ran("empty") == [""], 10))
 
     def queries(self):
         a, x = self.a, self.x
@@ -147,8 +147,8 @@ class Run:
         self.says("-no-ack", x, "query", "-timeout", "1s", "-no-ack", "-node", "a", "load", has=["Response from 'a'"], lacks=["Ack"], tries=3)
         self.says("-relay-factor at stock", a, "query", "-timeout", "2s", "-relay-factor", "2", "load", has=acks + answers + ["Total Acks: 4", "Total Responses: 4"], tries=4)
         self.says("-relay-factor at ours", x, "query", "-timeout", "2s", "-relay-factor", "2", "load", has=acks + answers + ["Total Acks: 4"], tries=4)
-        self.says("a payload comes and goes back", a, "query", "-timeout", "1s", "-node", "x", "cat", "pay load", has=["Response from 'x': pay load"], tries=3)
-        self.says("a handler that fails gives no answer", a, "query", "-timeout", "1s", "-node", "x", "bad", has=["Ack from 'x'", "Total Responses: 0"], tries=3)
+        self.says("a payload is sent there and back", a, "query", "-timeout", "1s", "-node", "x", "cat", "pay load", has=["Response from 'x': pay load"], tries=3)
+        self.says("a handler that fails sends no answer", a, "query", "-timeout", "1s", "-node", "x", "bad", has=["Ack from 'x'", "Total Responses: 0"], tries=3)
         self.says("an answer that is too long isn't sent", a, "query", "-timeout", "1s", "-node", "x", "long", has=["Ack from 'x'", "Total Responses: 0"], tries=3)
         text = self.says("query -format json", x, "query", "-timeout", "1s", "-format", "json", "-node", "a", "load", has=["Responses"], tries=3)
         self.check("json has the answer", '"a"' in text and "load of a" in text)
@@ -161,7 +161,7 @@ class Run:
         self.says("tags -set", x, "tags", "-set", "size=big", has=["Successfully updated"])
         self.check("stock sees a new tag", until(lambda: "size=big" in a.serf("members", "-name", "x")[1], 10))
         self.says("tags -delete", x, "tags", "-delete", "size", has=["Successfully updated"])
-        self.check("stock sees it gone", until(lambda: "size=big" not in a.serf("members", "-name", "x")[1], 10))
+        self.check("stock sees that it was deleted", until(lambda: "size=big" not in a.serf("members", "-name", "x")[1], 10))
         a.serf("tags", "-set", "rack=7")
         self.check("ours sees a tag of stock", until(lambda: "rack=7" in x.serf("members", "-name", "a")[1], 10))
         self.check("the handler of member-update ran", until(lambda: any(line.startswith("member-update|y") for line in y.lines()), 10))
@@ -176,7 +176,7 @@ class Run:
         time.sleep(1.5)
         monitor.terminate()
         text = monitor.communicate()[0]
-        self.check("monitor shows what was, and what comes", "agent starting" in text and "Requesting user event send: watched" in text)
+        self.check("monitor shows earlier and new lines", "agent starting" in text and "Requesting user event send: watched" in text)
         self.check("monitor at an unknown level is refused", x.serf("monitor", "-log-level=loud")[1].find("Unknown log level: LOUD") >= 0)
         for words, says in (([], "Authentication required"), (["-rpc-auth=wrong"], "Invalid authentication token")):
             status, text = kit.said(["serf", "members", f"-rpc-addr={y.rpc}", *words])
@@ -224,7 +224,7 @@ class Run:
         self.sees(x, b, "alive")
 
     def names(self):
-        """Another node of a name that the cluster knows."""
+        """Another node with a name that the cluster knows."""
         twin = Agent(self.folder, self.x.program, "a", 9)
         twin.words = ["-encrypt", self.key] if self.key else []
         twin.start("-retry-join", self.x.addr)
@@ -239,7 +239,7 @@ class Run:
         self.sees(self.x, self.a, "alive")
 
     def replaying(self):
-        """A new node takes the events from before its join only where it is asked to."""
+        """A new node accepts events from before its join only if an option says so."""
         z = Agent(self.folder, self.x.program, "new", 8)
         z.words = [*(["-encrypt", self.key] if self.key else []), *self.handlers(z)]
         z.start("-join", self.a.addr)
@@ -247,7 +247,7 @@ class Run:
         time.sleep(2)
         self.check("a join ignores old events", z.ran("from-stock") == [])
         self.x.serf("event", "-coalesce=false", "fresh", "v1")
-        self.check("and takes new ones", until(lambda: z.ran("fresh") == ["v1"], 10))
+        self.check("and accepts new ones", until(lambda: z.ran("fresh") == ["v1"], 10))
         z.serf("leave")
         z.end(signal.SIGCONT)
         for name, words, join in (("flag", ["-replay", "-join", self.a.addr], None), ("command", [], ["-replay", self.x.addr])):
@@ -255,7 +255,7 @@ class Run:
             z.start(*words)
             if join:
                 self.says("join -replay", z, "join", *join, has=["Successfully joined"])
-            self.check(f"-replay by the {name} takes old events", until(lambda: z.ran("from-stock") == ["v 1"], 10))
+            self.check(f"-replay by the {name} accepts old events", until(lambda: z.ran("from-stock") == ["v 1"], 10))
             z.serf("leave")
             z.end(signal.SIGCONT)
 
@@ -293,7 +293,7 @@ class Run:
         self.sees(x, z, "alive")
         write(f"user=sh {self.handler} {z.handled}", "large", "debug")
         z.process.send_signal(signal.SIGHUP)
-        self.check("SIGHUP takes tags anew", until(lambda: "size=large" in a.serf("members", "-name", "z")[1], 10))
+        self.check("SIGHUP reloads tags", until(lambda: "size=large" in a.serf("members", "-name", "z")[1], 10))
         a.serf("event", "-coalesce=false", "hung-up", "v1")
         self.check("and handlers", until(lambda: z.ran("hung-up") == ["v1"], 10))
         write("nonsense=true", "other", "debug")
@@ -314,7 +314,7 @@ class Run:
         self.sees(a, z, "failed", 40)
 
     def taking_over(self):
-        """A stock agent's file under ours, and back."""
+        """A stock agent's file is used by ours, and then by stock again."""
         a, b, x = self.a, self.b, self.x
         b.end()
         ours = Agent(self.folder, self.x.program, "b", 2)
@@ -331,7 +331,7 @@ class Run:
         time.sleep(1)
         ours.end()
         b.start()
-        self.check("stock takes it back and rejoins", until(lambda: b.status("a") == "alive", 20))
+        self.check("stock uses it again and rejoins", until(lambda: b.status("a") == "alive", 20))
         self.sees(x, b, "alive")
 
     def keys(self):
@@ -350,21 +350,21 @@ class Run:
         self.says("a key that is none is refused", x, "keys", "-install", "x", status=1, has=["illegal base64"])
         self.says("only the new one is there", x, "keys", "-list", has=[re.escape(new)], lacks=[re.escape(self.key)], tries=3)
         a.serf("event", "-coalesce=false", "rekeyed", "v1")
-        self.check("events go on", until(lambda: x.ran("rekeyed") == ["v1"], 10))
+        self.check("events continue", until(lambda: x.ran("rekeyed") == ["v1"], 10))
 
     def refused(self):
-        """What can't be: a sentence, and the status 1."""
+        """What isn't possible: the agent prints a sentence, and ends with status 1."""
         program = self.x.program
         at = ["-bind", "127.0.7.9:7946", "-rpc-addr", "127.0.7.9:7373"]
         for what, words, says in (
             ("a flag that nobody knows", ["-foo"], "-foo"), ("-discover", ["-discover", "x"], "-join"), ("a name of 129 bytes", [*at, "-node", "x" * 129], "at most 128"),
             ("a file that another agent has", [*at, "-snapshot", self.x.snapshot], "another agent has the file"),
-            ("a folder as a file", [*at, "-snapshot", self.folder], "names no plain file"),
-            ("a folder that isn't there", [*at, "-snapshot", "/nowhere/x"], "folder of the file isn't there"),
+            ("a folder as a file", [*at, "-snapshot", self.folder], "is not a regular file"),
+            ("a folder that isn't there", [*at, "-snapshot", "/nowhere/x"], "folder of the file doesn't exist"),
             ("a full disk", [*at, "-tags-file", "/dev/full"], "-tags-file"),
             ("an address that is taken", ["-bind", f"{self.a.addr}:7946", "-rpc-addr", "127.0.7.9:7373"], "address already in use"),
             ("an RPC address that is taken", ["-bind", "127.0.7.9:7946", "-rpc-addr", self.a.rpc], "address already in use"),
-            ("a join of nobody", [*at, "-join", "127.0.7.99"], "-join"), ("a bad handler", [*at, "-event-handler", "foo=bar"], "is no event"),
+            ("a join of nobody", [*at, "-join", "127.0.7.99"], "-join"), ("a bad handler", [*at, "-event-handler", "foo=bar"], "is not an event"),
         ):
             status, text = kit.said([*program, *words])
             good = status == 1 and says in text.splitlines()[-1] if text else False
@@ -412,7 +412,7 @@ def main(words):
     if "--keep" not in words:
         shutil.rmtree(folder)
     else:
-        print(f"all is in {folder}")
+        print(f"the files are in {folder}")
     print("\n".join(failed))
     print(f"{passed} passed, {len(failed)} failed")
     return 1 if failed else 0

@@ -1,15 +1,15 @@
-"""By hand, since it needs Go, Serf and memberlist's sources: how much memory ours and a stock agent take among many members, and
+"""By hand, since it needs Go, Serf and memberlist's sources: how much memory ours and a stock agent use among many members, and
 how soon many agents on one machine know each other.
 
     tests/by_hand/agent_size.py [--members N] [--events N] [--nodes N] [--together N] [--library FOLDER] [--agent PROGRAM]
 
-The members of the first part are played: one process answers the pings of all, each at a loopback address of its own, and a
-join brings their names, tags and status times. Each kind of agent is alone among them, and is given so many events then.
+The members of the first part are simulated: one process answers the pings of all, each at its own loopback address, and a join
+transfers their names, tags and status times. An agent of each kind is alone among them, and then gets so many events.
 
-In the second part so many agents of one kind are started, so many at once, and join the first. It tells how long behind the
-last start all know all, and how long an event takes to come to all. --nodes 0 leaves the second part out, --members 0 the first.
+In the second part so many agents of one kind are started, so many at once, and join the first. The script prints how long after the
+last start all agents know all others, and how long an event takes to reach all. --nodes 0 leaves the second part out, --members 0
+the first.
 """
-
 import argparse
 import os
 import shutil
@@ -28,7 +28,7 @@ import agent_speed
 from agent_cluster_kit import Agent, until
 from agent_speed import number, text
 
-# Where the members that are played listen, at 127.60.X.Y each.
+# The addresses of the simulated members: 127.60.X.Y each.
 PORT = 17946
 
 # How long each part may take, in seconds.
@@ -50,7 +50,7 @@ def address(which):
 
 
 class Crowd:
-    """Members that are played: they answer pings, and who joins gets the state of all."""
+    """Simulated members: they answer pings, and a node that joins gets the state of all."""
 
     def __init__(self, count):
         self.count = count
@@ -95,7 +95,7 @@ class Crowd:
         while True:
             packet, peer = self.udp.recvfrom(1 << 16)
             if packet[0] == 12:
-                # (a checksum stands in front)
+                # (a checksum is in front)
                 packet = packet[5:]
             at = packet.find(b"\xa5SeqNo")
             if at < 0 or packet[0] not in (0, 7):
@@ -112,7 +112,7 @@ def memory(agent, what="VmRSS"):
 
 
 class Asker:
-    """A client of an agent's RPC that asks for its counts."""
+    """A client of an agent's RPC that requests its counts."""
 
     def __init__(self, agent):
         host, port = agent.rpc.split(":")
@@ -120,7 +120,7 @@ class Asker:
         self.request("handshake", b"\x81" + text("Version") + b"\x01")
 
     def request(self, command, body=b"", wanted=b""):
-        """What it answers, up to what is wanted where that is there."""
+        """The answer, up to the expected text if there is one."""
         self.conn.sendall(b"\x82" + text("Command") + text(command) + text("Seq") + number(self.seq % 128) + body)
         self.seq += 1
         self.conn.settimeout(30)
@@ -139,7 +139,7 @@ class Asker:
 
 
 def among_members(kind, agent, crowd, events):
-    """Memory of an agent alone, among the members, and behind the events."""
+    """Memory of an agent alone, among the members, and after the events."""
     agent.start("-log-level", "err")
     try:
         alone = memory(agent)
@@ -151,14 +151,14 @@ def among_members(kind, agent, crowd, events):
         many = memory(agent)
         rate, taken, _ = agent_speed.speed(agent, events)
         time.sleep(5)
-        print(f"{kind}: {alone:.0f} MiB alone, {many:.0f} among {crowd.count} members, {memory(agent):.0f} behind {taken} events ({rate:.0f} a second), "
+        print(f"{kind}: {alone:.0f} MiB alone, {many:.0f} among {crowd.count} members, {memory(agent):.0f} after {taken} events ({rate:.0f} a second), "
               f"{memory(agent, 'VmHWM'):.0f} at most; failed by then: {'none' if asker.says('failed', 0) else 'some'}", flush=True)
     finally:
         agent.end()
 
 
 def of_many(kind, agents, together):
-    """How soon many agents know each other, and an event is everywhere."""
+    """How soon many agents know each other, and how soon an event is everywhere."""
     first, rest = agents[0], agents[1:]
     first.start("-log-level", "err")
     try:
@@ -208,7 +208,7 @@ def main():
     program = asked.agent or kit.build(folder, asked.library, [])
     plain = os.path.join(folder, "plain.json")
     with open(plain, "w", encoding="utf-8") as file:
-        # (the members that are played read no compressed packets)
+        # (the simulated members read no compressed packets)
         file.write('{"enable_compression": false}')
     try:
         crowd = Crowd(asked.members) if asked.members else None

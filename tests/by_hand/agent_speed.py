@@ -1,13 +1,13 @@
-"""By hand, since it needs Go, Serf and memberlist's sources: how fast ours and a stock agent take events in, and how soon they join.
+"""By hand, since it needs Go, Serf and memberlist's sources: how fast ours and a stock agent accept events, and how soon they join.
 
     tests/by_hand/agent_speed.py [--events N] [--rounds N] [--starts N] [--record] [--on FOLDER] [--library FOLDER] [--agent PROGRAM]
 
-In each round a fresh agent of each kind, alone, on a fresh snapshot, is given the same new events by UDP, sixteen a datagram
+In each round a fresh agent of each kind, alone, on a fresh snapshot, gets the same new events by UDP, sixteen in a datagram
 as memberlist packs them, with so many under way at once. Its hand-outs are counted on a stream of its RPC. The kinds take turns,
-so that both bear the same load of the machine. --record adds a third kind, ours with a record. Then each kind is started and
+so that the load of the machine is the same for both. --record adds a third kind, ours with a record. Then each kind is started and
 joins a stock agent, in turns: from the start of the process to the line that says that it joined.
 
-The last lines give the median of each kind, its least and its greatest.
+The last lines have the median of each kind, its minimum and its maximum.
 """
 
 import argparse
@@ -79,7 +79,7 @@ def used(agent):
 
 
 def speed(agent, events):
-    """Events a second, how many came, and the processor's microseconds of each."""
+    """Events a second, how many arrived, and the processor's microseconds for each."""
     stream, out = Stream(agent), socket.socket(socket.AF_INET, socket.SOCK_DGRAM)
     before_all = used(agent)
     began, sent, last = time.monotonic(), 0, time.monotonic()
@@ -160,7 +160,7 @@ def main():
         finally:
             peer.end()
         if asked.rounds:
-            shown("taken in", speeds, "events a second")
+            shown("accepted", speeds, "events a second")
             shown("an event", costs, "us of the processor")
         if asked.starts:
             shown("from start to joined", times, "ms")

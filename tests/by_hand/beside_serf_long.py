@@ -2,7 +2,7 @@
 
     tests/by_hand/beside_serf_long.py [--seconds S] [..]
 
-Its words are those of that script, and win.
+Its options are those of that script, and override the ones that it sets.
 """
 
 import os

@@ -1,9 +1,9 @@
 """By hand, since it takes as long as the build: the first call of a fresh clone, ./prove, and that the proved program
-runs then.
+runs after that.
 
     tests/by_hand/first_build.py [SECONDS]
 
-It fails where the build takes more than so many seconds (900 where left out, on four processors), or the first call more
+It fails if the build takes more than so many seconds (900 if left out, on four processors), or the first call more
 than 120.
 """
 

@@ -1,11 +1,11 @@
-"""By hand, since it needs Go and Serf's sources: how many events a second come through memberlist to a node of the package `serf`, with the
+"""By hand, since it needs Go and Serf's sources: how many events a second reach a node of the package `serf` through memberlist, with the
 guard and without it.
 
     tests/by_hand/guard_speed.py [--rounds N] [--minutes M] [--events N] [--on FOLDER] [--library FOLDER]
 
-`bindings/go/beside_serf/speed` runs in turns with the guard and with memberlist's own transport, so that both bear the same load of the
-machine, for so many rounds or minutes. Events a second are by the clock, and events of a second of the processor by what sender and node
-took together, on which the load counts less. It fails where the median of either with the guard is below 95 in 100 of the one without.
+`bindings/go/beside_serf/speed` runs in turns with the guard and with memberlist's own transport, so that the load of the machine is the
+same for both, for so many rounds or minutes. Events a second are by the clock, and events per processor second by what sender and node
+used together, on which the load has less influence. It fails if the median of either with the guard is below 95 in 100 of the one without.
 """
 
 import argparse
@@ -25,7 +25,7 @@ import serf_package
 
 SPEED = os.path.join(kit.TOP, "bindings", "go", "beside_serf", "speed", "main.go")
 
-# The share of the speed without the guard that has to be there.
+# The minimum share of the speed without the guard.
 LEAST = 0.95
 
 KINDS = {"with the guard": {}, "without": {"SPEED_PLAIN": "1"}}
@@ -42,7 +42,7 @@ def arguments():
 
 
 def ran(program, own, events, more):
-    """Events a second by the clock, and of a second of the processor."""
+    """Events a second by the clock, and events per processor second."""
     before = resource.getrusage(resource.RUSAGE_CHILDREN)
     said = subprocess.run([program, own, str(events)], check=True, stdout=subprocess.PIPE, text=True, env={**os.environ, **more}).stdout
     after = resource.getrusage(resource.RUSAGE_CHILDREN)
@@ -76,7 +76,7 @@ def main():
 
 
 def told(what, guarded, plain):
-    """Tells events a second with the guard and without: the share of the medians."""
+    """Prints events a second with the guard and without: returns the share of the medians."""
     for kind, all_of_kind in zip(KINDS, (guarded, plain)):
         print(f"{what}, {kind}: {statistics.median(all_of_kind):,.0f} events a second, the median of {len(all_of_kind)}; {min(all_of_kind):,.0f} to {max(all_of_kind):,.0f}")
     share = statistics.median(guarded) / statistics.median(plain)

@@ -3,14 +3,14 @@ and half an hour with one.
 
     tests/by_hand/hostile_hour.py [--minutes M] [--plain | --encrypted] [--library FOLDER] [--agent PROGRAM] [--seed S]
 
-It runs in a network of its own, since the agent sends to whatever address a packet names. What is sent is that of the guard's own tests
-(TestOutside of `bindings/go/guard`): each single case, changed packets and streams, idle streams, answers where the agent dials, and
-floods of members, deaths, intents, events, queries and states, with times that no honest clock reaches. With a key all of it comes from
-who has the key, and some from who hasn't.
+It runs in a separate network, since the agent sends to whatever address a packet names. It sends what the guard's own tests send
+(TestOutside of `bindings/go/guard`): each single case, changed packets and streams, idle streams, answers to the agent's own
+connections, and floods of members, deaths, intents, events, queries and states, with times that are implausibly far ahead. With a key,
+all hostile data is from a sender that has the key, and some is from one without it.
 
-Meanwhile an event is fired at the agent each ten seconds, whose handler has to run. At the end no clock is stuck: the agent is the same
-process, its clocks are far from their end, and a node whose clocks are at their beginning joins it, gets an event that the agent
-fires, and is heard. (That node has the name of one that was a member before, and no file: a new name stays out where the floods left as
+Meanwhile an event is fired at the agent every ten seconds, and its handler has to run. At the end no clock is stuck: the agent is the
+same process, its clocks are far from their end, and a node whose clocks are at their start joins it, receives an event that the agent
+fires, and is received. (That node has the name of an earlier member, and no file: a new name is refused if the floods left as
 many members as may be.) The agent had at most 64 MiB more than when it was idle.
 """
 
@@ -29,10 +29,10 @@ import agent_cluster_kit as kit
 import c_library
 from agent_cluster_kit import Agent, until
 
-# How many MiB more than when it is idle.
+# How many MiB the agent may use more than when it is idle.
 MORE = 64
 
-# What no clock comes to, whatever comes: half of the times are left (docs/AGENT.md, "A clock that is too far").
+# What no clock reaches, whatever arrives: half of the times are left (docs/AGENT.md, "A clock that is too far").
 FAR = 2**63
 
 # The key of the guard's tests.
@@ -52,7 +52,7 @@ def arguments():
 
 
 def in_own_network():
-    """Has this run in a network that has nothing but a loopback device."""
+    """Runs the script again in a network that has nothing but a loopback device."""
     if os.environ.get("KITCHENRUE_ALONE"):
         subprocess.run(["ip", "link", "set", "lo", "up"], check=True)
         return
@@ -60,7 +60,7 @@ def in_own_network():
 
 
 def build_guard(folder):
-    """The guard's tests as a program."""
+    """Compiles the guard's tests as a program."""
     path = os.path.join(folder, "guard.test")
     env = c_library.go_env(c_library.linked_packages(os.path.join(folder, "go"), "guard"), kit.GOCODE)
     subprocess.run(["go", "test", "-c", "-o", path, "kitchenrue.example/guard"], check=True, env=env)
@@ -86,7 +86,7 @@ def clocks_of(agent):
 
 
 class Hour:
-    """One agent, what comes to it, and what was checked."""
+    """One agent, what arrives at it, and the checks."""
 
     def __init__(self, folder, program, is_keyed):
         self.folder, self.program, self.is_keyed, self.failed, self.fired = folder, program, is_keyed, [], 0
@@ -107,7 +107,7 @@ class Hour:
             self.failed.append(what)
 
     def fires(self, at, by, meet=lambda: None):
-        """Whether an event that is fired at one agent runs at another, which meet meanwhile."""
+        """Whether an event that is fired at one agent runs at another one, while `meet` joins them."""
         self.fired += 1
         text = f"n{self.fired}"
 
@@ -142,21 +142,21 @@ class Hour:
         if self.agent.process.poll() is None:
             self.ends(idle, friend)
         else:
-            self.check("the agent goes on", False, self.agent.process.returncode)
+            self.check("the agent continues", False, self.agent.process.returncode)
 
     def ends(self, idle, friend):
-        """What has to be so of an agent that goes on."""
+        """The checks of an agent that continues."""
         peak = mib(self.agent, "VmHWM")
         self.check(f"{idle:.0f} MiB when idle, {peak:.0f} at most: {MORE} more at most", peak <= idle + MORE)
         os.remove(friend.snapshot)
         friend.start()
         try:
-            self.check("a node begins anew", max(clocks_of(friend).values()) < 9, clocks_of(friend))
+            self.check("a node begins with fresh clocks", max(clocks_of(friend).values()) < 9, clocks_of(friend))
             joined = lambda: friend.serf("join", self.agent.addr)[0] == 0 and self.agent.status("friend") == friend.status("victim") == "alive"
             self.check("it is a member", until(joined, 60))
             clocks = clocks_of(self.agent)
-            self.check("the floods moved its clocks, and none comes to its end", FAR // 2 <= min(clocks.values()) and max(clocks.values()) < FAR, clocks)
-            for name, at, by in (("the agent's event comes to it", self.agent, friend), ("its event comes to the agent", friend, self.agent)):
+            self.check("the floods moved its clocks, and none is near its end", FAR // 2 <= min(clocks.values()) and max(clocks.values()) < FAR, clocks)
+            for name, at, by in (("the agent's event reaches it", self.agent, friend), ("its event reaches the agent", friend, self.agent)):
                 self.check(name, self.fires(at, by, lambda: friend.serf("join", "-replay", self.agent.addr)))
             info = info_of(self.agent)
         finally:

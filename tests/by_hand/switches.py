@@ -2,10 +2,10 @@
 
     tests/by_hand/switches.py [SEEDS]
 
-Each switch of conformance/python is held by `conform --random SEEDS --shrink` (1-200 where left out). It prints the seed that
-finds each and how many calls are left of it, the names of those that none finds, how many are found, and the median of
-the calls. It fails where fewer than 97 of 100 are found, where the median is above 6, or where a schedule that is left
-doesn't show the switch once more.
+`conform --random SEEDS --shrink` (1-200 if left out) tries each switch of conformance/python. The script prints the seed that
+finds each and how many calls are left of it, the names of those that no seed finds, how many are found, and the median of
+the calls. It fails if fewer than 97 of 100 are found, if the median is above 6, or if a shortened schedule
+doesn't show the switch again.
 """
 
 import os
@@ -23,15 +23,15 @@ from piped_agents import PYTHON_AGENT, compare
 sys.path.insert(0, os.path.dirname(PYTHON_AGENT))
 from serf_agent import switches
 
-# At least so many of 100 switches are to be found.
+# At least so many of 100 switches have to be found.
 FOUND = 97
 
-# The median of the calls that are left is at most this.
+# The median of the calls that are left may be at most this.
 CALLS = 6
 
 
 class Found:
-    """What came of a switch: the seed that finds it, or None; the report; how many calls are left, or None."""
+    """The result for a switch: the seed that finds it, or None; the report; how many calls are left, or None."""
 
     def __init__(self, name, seeds, path):
         agent = [sys.executable, PYTHON_AGENT, "--wrong", name]
@@ -46,7 +46,7 @@ class Found:
         if self.seed is None:
             return "not found: " + self.report.strip()
         left = "not shrunk" if self.calls is None else f"{self.calls} calls"
-        return f"seed {self.seed}, {left}" + ("" if self.again else ", WHICH DON'T SHOW IT ONCE MORE")
+        return f"seed {self.seed}, {left}" + ("" if self.again else ", WHICH DON'T SHOW IT AGAIN")
 
 
 def main(words):

@@ -1,11 +1,11 @@
-"""By hand, since it needs gdb: how far the last line of a schedule goes, by the functions of the crates that it enters.
+"""By hand, since it needs gdb: which functions of the crates the last line of a schedule enters.
 
     python3 tests/by_hand/walk.py SCHEDULE [--list]
 
-The unproved program replays the schedule under gdb, which notes each function that is entered first behind the reading
-of the last line, up to the end of what the line did. A function of each type that it stands for counts once. What proofs
-alone call (laws, and what lets a proof know something: their bodies do nothing) and what lets values go are counted
-apart. --list prints the functions in the order in which they were entered.
+The unproved program replays the schedule under gdb, which records each function that is entered after the program has read the
+last line, up to the end of what the line did. A generic function counts once, whatever its types. Functions that only proofs call
+(laws, and those that let a proof know something: their bodies do nothing) and those that let values go are counted
+separately. --list prints the functions in the order in which they were entered.
 """
 
 import os
@@ -19,10 +19,10 @@ sys.dont_write_bytecode = True
 sys.path.insert(0, os.path.join(TOP, "tools"))
 PROGRAM = "serf_replay_program"
 
-# A line begins where it is read, and is over where the next one is taken.
+# A line begins when it is parsed, and ends when the next one is taken.
 FIRST, NEXT = "serf_schedule::parse::say_line", "serf_schedule::run::Run::take_line"
 
-# Functions that are there for proofs.
+# Functions that only proofs need.
 FOR_PROOFS = re.compile(r"::laws::|::know_\w+$|::(?:look_at\w*|read_numbers)$")
 
 
@@ -49,7 +49,7 @@ class Walk:
         gdb.execute("catch syscall exit_group")
 
     def loaded_at(self):
-        """Goes on until the program is loaded."""
+        """Continues until the program is loaded."""
         while True:
             with open(f"/proc/{self.gdb.selected_inferior().pid}/maps", encoding="utf-8") as maps:
                 found = re.search(rf"^([0-9a-f]+)-\S+ r\S+ 00000000 .*{re.escape(self.program)}$", maps.read(), re.M)
@@ -61,12 +61,12 @@ class Walk:
         self.gdb.Breakpoint(f"*{self.base + address}", internal=True, temporary=True)
 
     def go_on(self):
-        """Goes on to the next stop, and gives the function there; None at the end."""
+        """Continues to the next stop, and returns the function there; None at the end."""
         self.gdb.execute("continue", to_string=True)
         return self.names.get(int(self.gdb.selected_frame().pc()) - self.base)
 
     def of_line(self, number):
-        """The functions that the line of a number enters, in order."""
+        """The functions that the line of this number enters, in order."""
         first = next(address for address, name in self.names.items() if name == FIRST)
         for _ in range(number):
             self.stop_at(first)
@@ -121,7 +121,7 @@ def main(words):
     own = [name for name in known if not FOR_PROOFS.search(name)]
     if "--list" in words:
         print("\n".join(f"{name}  {files[name][0]}/{files[name][1]}" for name in own))
-    print(f"{len(own)} functions in {len({files[name] for name in own})} files of {len({files[name][0] for name in own})} crates; beside them {len(known) - len(own)} for proofs")
+    print(f"{len(own)} functions in {len({files[name] for name in own})} files of {len({files[name][0] for name in own})} crates; and {len(known) - len(own)} for proofs")
     return 0
 
 

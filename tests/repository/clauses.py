@@ -1,6 +1,6 @@
-"""The width of contracts: no line of a clause has more than 100 columns, so that it is read at a glance.
+"""The width of contracts: no line of a clause has more than 100 columns, so that a reader sees it at a glance.
 
-A clause begins with `requires`, `ensures` or `ghost`, and may go over several lines, up to the brace that closes it.
+A clause begins with `requires`, `ensures` or `ghost`, and may have several lines, up to the brace that closes it.
 `rt fmt` keeps the breaks inside a clause and makes none. Each crate is one check, and each line that is too wide is
 printed.
 """
@@ -18,7 +18,7 @@ CRATES = os.path.join(TOP, "crates")
 
 COLUMNS = 100
 
-# The first line of a clause; an import is none.
+# The first line of a clause; an import isn't one.
 CLAUSE = re.compile(r"\s*(?:pub )?(requires|ensures|ghost(?! use))\b")
 
 

@@ -1,20 +1,19 @@
-"""The documents name what is there: paths, crates, public items, clauses, links, commands and their statuses.
+"""The documents name what exists: paths, crates, public items, clauses, links, commands and their statuses.
 
 Each check is one thing that a document names:
 
-- a path in backquotes stands in the repository (from its top, from the document, from a crate or a crate's src);
+- a path in backquotes exists in the repository (from its top, from the document, from a crate or a crate's src);
 - `crate::item` and `Type::method` are public items, and `serf_name` is a crate, or a function of a header in C;
-- a clause named in the tables of PROMISES.md, or in brackets behind a function, is a clause of some contract;
+- a clause named in the tables of PROMISES.md, or in brackets after a function, is a clause of some contract;
 - the calls that PROMISES.md says have conditions are the public ones with a `requires`;
-- a link leads to a file that stands;
+- a link leads to a file that exists;
 - `tools/to_add.py` finds the files of each thing that ARCHITECTURE.md, "To add something", names;
-- tests/README.md has each script of tests/, and no script of a test stands beside its folders;
-- tools/gate.rows has a least count of each script of `./test`, and the cost of each crate and each part;
-- each CALLING.md is what `tools/calling.py` makes of the sources;
-- a command that begins with `./` or with `python3` names a script that stands, and a job that the program has
+- tests/README.md has each script of tests/, and no script of a test is outside of its folders;
+- tools/gate.rows has a minimum number of checks of each script of `./test`, and the cost of each crate and each part;
+- each CALLING.md is what `tools/calling.py` makes from the sources;
+- a command that begins with `./` or with `python3` names a script that exists, and a command word that the program has
   (`./my-..` is the reader's own);
-- a command in an indented block is run by a script of tests/, and a block that is none is told what it is
-  (`tests/pages.py`).
+- a script of tests/ runs each command in an indented block, and `tests/pages.py` says what each other block is.
 """
 
 import glob
@@ -53,7 +52,7 @@ ENDINGS = (
     "txt",
 )
 
-# What a file outside the repository is called where a document speaks of it: Serf's own sources, and a reader's files.
+# How a document names a file outside the repository: Serf's own sources, and a reader's files.
 FOREIGN = {"serf.go", "delegate.go", "snapshot.go", "query.go", "messages.go", "local.snapshot", "config.go", "kitchenrue.example/serf", "kitchenrue.example/serfagent", "github.com/hashicorp/serf/serf", "cmd/serf", "TryLockError::WouldBlock"}
 
 SPAN = re.compile(r"`([^`\n]+)`")
@@ -74,7 +73,7 @@ def sources(kind):
 
 
 class Tree:
-    """What the repository has to be named."""
+    """What the repository has that a document can name."""
 
     def __init__(self):
         self.crates = {
@@ -144,7 +143,7 @@ def wrong_span(tree, document, span):
 
 
 def clauses_in(page):
-    """The clauses that a page's tables begin a row with, or name behind a function; a crate is none."""
+    """The clauses that begin a row of a page's tables, or that are named after a function; a crate is none."""
     found = re.findall(r"^\| `((?!serf_)\w+)` \|", page, re.M)
     return found + [
         name
@@ -167,10 +166,10 @@ def wrong_command(jobs, page, script, words):
 
 def conditions(page):
     """The calls that PROMISES.md says have conditions, and what is wrong, or None: they are the public ones with `requires`."""
-    told = SPAN.findall(page.partition("These calls have conditions (`requires`): ")[2].partition(".\n")[0])
-    # (a method that is named by itself is of the type before it)
+    listed = SPAN.findall(page.partition("These calls have conditions (`requires`): ")[2].partition(".\n")[0])
+    # (a method that is named without its type belongs to the type before it)
     names, owner = set(), ""
-    for name in told:
+    for name in listed:
         own, _, method = name.rpartition("::")
         owner = own or owner
         names.add(name if own or not name.startswith(("sync", "write_", "rename_")) else f"{owner}::{method}")
@@ -184,10 +183,10 @@ def things_to_add():
     for thing in to_add.THINGS:
         found = list(to_add.files_of(thing))
         folders = {path.split("/")[0] for path in found}
-        yield thing, None if {"crates", "bindings"} <= folders else f"is named in {sorted(folders)} alone"
+        yield thing, None if {"crates", "bindings"} <= folders else f"is named in {sorted(folders)} only"
 
 
-# What the scripts of tests/ share, beside the folders that they stand in.
+# What the scripts of tests/ share, outside of their folders.
 SHARED = {"checks.py", "pages.py", "piped_agents.py", "traced_agents.py", "one_agent.py"}
 
 
@@ -198,16 +197,16 @@ def missing_scripts(page):
         if "/" in name:
             yield path, None if f"\n- `{name}`: " in page else "has no line"
         else:
-            yield path, None if name in SHARED else "stands in none of the folders, so ./test doesn't run it"
+            yield path, None if name in SHARED else "is in none of the folders, so ./test doesn't run it"
 
 
 def strays():
-    """Each file at the top, and what is wrong with it, or None: a page speaks of it."""
+    """Each file at the top, and what is wrong with it, or None: a page has to name it."""
     pages = {page: text_of(page) for page in documents()}
     for name in sorted(os.listdir(TOP)):
         if os.path.isfile(os.path.join(TOP, name)) and not name.startswith("."):
-            spoken = any(re.search(rf"\b{re.escape(name)}\b", text) for page, text in pages.items() if page != name)
-            yield name, None if spoken else "is of no page"
+            is_named = any(re.search(rf"\b{re.escape(name)}\b", text) for page, text in pages.items() if page != name)
+            yield name, None if is_named else "is named on no page"
 
 
 def rows_of_gate(crates):
@@ -216,7 +215,7 @@ def rows_of_gate(crates):
     yield "its rows", None if len(re.findall(r"^ *[-\d]", text_of("tools", "gate.rows"), re.M)) == len(rows) else "name one thing twice"
     scripts = [path for path in glob.glob("tests/*/*.py", root_dir=TOP) if not path.startswith("tests/by_hand/")]
     for name in [*scripts, gate.MUTANTS]:
-        yield name, None if name in gate.wanted() else "has no least count"
+        yield name, None if name in gate.wanted() else "has no minimum number of checks"
     for name in [*crates, *gate.PARTS]:
         yield name, None if rows.get(name, [0, 0])[1] else "has no processor seconds"
     known = {*scripts, *crates, *gate.PARTS}
@@ -225,30 +224,12 @@ def rows_of_gate(crates):
 
 
 def jobs_of_program():
-    """The words that the program's command line knows."""
+    """The command words that the program knows."""
     text = "\n".join(sources("src"))
-    return set(re.findall(r"^\s+\"([a-z-]+)\" => \w+::run\(", text, re.M)) | {"--help", "--version", "help"}
+    return set(re.findall(r"^\s+kind: CommandKind::\w+,\n\s+name: \"([a-z-]+)\",", text, re.M)) | {"--help", "--version", "help"}
 
 
-# Where the version of what is built next stands, beside the program's own.
-VERSIONS = {
-    os.path.join("bindings", "rust", "Cargo.toml"): r'^version = "([0-9.]+)"$',
-    os.path.join("bindings", "python", "pyproject.toml"): r'^version = "([0-9.]+)"$',
-    os.path.join("bindings", "python", "serf_agent", "__init__.py"): r'^__version__ = "([0-9.]+)"$',
-    os.path.join("bindings", "c", "Makefile"): r"^VERSION = ([0-9.]+)$",
-    "CHANGELOG.md": r"^## ([0-9][0-9.]*)$",
-}
-
-
-def other_versions():
-    """Each file that tells the version, and what is wrong with it, or None: all tell the program's."""
-    (own,) = re.findall(r'\.version\("([0-9.]+)"\)', "\n".join(sources("src")))
-    for path, form in VERSIONS.items():
-        told = re.findall(form, text_of(path), re.M)[:1]
-        yield "version", None if told == [own] else f"is {told}, and the program's is {own}", path
-
-
-# What was measured: a number of nanoseconds to milliseconds, of MB, of a processor's seconds or minutes, of minutes of so
+# A measured figure: a number of nanoseconds to milliseconds, of MB, of a processor's seconds or minutes, of minutes on so
 # many processors, of events a second, or of instructions.
 FIGURE = re.compile(
     r"\b\d[\d,.]*(?: to \d[\d,.]*)? "
@@ -257,23 +238,23 @@ FIGURE = re.compile(
 
 
 def figures_twice(documents):
-    """Each figure that was measured, what is wrong with it, or None, and its page. Where there are two pages, the
-    second should lead to the first."""
+    """Each measured figure, what is wrong with it, or None, and its page. If two pages need it, the second one should link
+    to the first."""
     found = {}
     for page in documents:
         for figure in FIGURE.findall(text_of(page)):
             found.setdefault(figure, {})[page] = None
     for figure, where in sorted(found.items()):
-        yield figure, None if len(where) == 1 else f"stands in {' and '.join(where)}", list(where)[0]
+        yield figure, None if len(where) == 1 else f"is in {' and '.join(where)}", list(where)[0]
 
 
 def quoted(page):
-    """Each definition that PROMISES.md quotes, and what is wrong with it, or None: it stands so in a file of specs."""
+    """Each definition that PROMISES.md quotes, and what is wrong with it, or None: a file of specs has exactly this text."""
     specs = "\n".join(sources("specs"))
     for block in re.findall(r"(?:^    .*\n)+", page, re.M):
         text = re.sub(r"^    ", "", block, flags=re.M)
         if re.search(r"^abbrev ", text, re.M):
-            yield re.search(r"^abbrev pub (\w+)", text, re.M)[1], None if text in specs else "isn't quoted as it stands"
+            yield re.search(r"^abbrev pub (\w+)", text, re.M)[1], None if text in specs else "isn't quoted exactly"
 
 
 def checks_of(tree, jobs, document):
@@ -299,7 +280,7 @@ def checks_of(tree, jobs, document):
 def named(count):
     tree, jobs = Tree(), jobs_of_program()
     for path, is_made in calling.made():
-        count.check(path, is_made, "isn't what the sources give: tools/calling.py makes it")
+        count.check(path, is_made, "is outdated: run tools/calling.py")
     for what, fault, path in figures_twice(documents()):
         count.check(f"{path}: `{what}`", fault is None, fault)
     for what, fault in rows_of_gate(tree.crates):
@@ -309,8 +290,6 @@ def named(count):
     for what, fault in strays():
         count.check(f"the top: `{what}`", fault is None, fault)
     for what, fault, path in pages.faults():
-        count.check(f"{path}: `{what}`", fault is None, fault)
-    for what, fault, path in other_versions():
         count.check(f"{path}: `{what}`", fault is None, fault)
     for document in documents():
         for what, fault in checks_of(tree, jobs, document):

@@ -1,7 +1,7 @@
-"""Evidence of refusals: how the files of edits are read, how an edit's functions are named, what a sum of an edit covers, which
-lines are believed, and which edits a commit draws.
+"""Evidence of refusals: how the files of edits are read, how an edit's functions are named, what an edit's checksum covers, which
+lines are believed, and which edits a commit selects.
 
-All is tried on a small repository that this makes; no edit is really checked here, but by a stand-in that knows which
+All of this is tried on a small repository that the script makes. No edit is really checked here: a stand-in knows which
 of them are harmless.
 """
 
@@ -110,7 +110,7 @@ twin: if a == 0 { add(a, a) } else { add(a, a) }
 """,
 }
 
-# What each change of a file does to the sum of the edit of `double`.
+# What each change of a file does to the checksum of the edit of `double`.
 CHANGES = [
     ("a body below", "crates/serf_low/src/lib.rt", "    a + b", "    b + a", False),
     ("a contract below that is called", "crates/serf_low/src/lib.rt", "ensures sum {", "ensures added {", True),
@@ -147,7 +147,7 @@ def write(top, path, text):
 
 
 def repository(room):
-    """The small repository, which the tools take for their own."""
+    """The small repository, which the tools use as if it were their own."""
     for path, text in FILES.items():
         write(room, path, text)
     edits.TOP = mutants.TOP = room
@@ -164,13 +164,13 @@ def sums(count, top):
     count.check("two sums of the same sources", before == sum_of(top))
     for name, path, old, new, changes in CHANGES:
         text = FILES[path]
-        count.check(f"{name}: its text stands", text.count(old) == 1, text)
+        count.check(f"{name}: the text to change is there", text.count(old) == 1, text)
         write(top, path, text.replace(old, new))
         if name == "the edited function":
-            # the edit's own text has to stand still
+            # (the edit's own text has to stay as it is)
             write(top, path, text.replace("    add(a, a)", "    let b = a;\n    add(a, a)"))
         count.check(
-            name, (sum_of(top) != before) == changes, "its sum changed" if not changes else "its sum is the same"
+            name, (sum_of(top) != before) == changes, "its checksum changed" if not changes else "its checksum is the same"
         )
         write(top, path, text)
     twin = sum_of(top, "adds_by_steps")
@@ -187,8 +187,8 @@ class Crate:
 
 
 class Run(mutants.Run):
-    """A run whose checks are a stand-in: the edits of `harmless` are not refused, and of the others those of `unshown` by
-    a goal that their shape may have opened. It notes which are tried."""
+    """A run whose checks are a stand-in. The edits of `harmless` are not refused. Of the others, those of `unshown` are refused by
+    a goal that their shape may have opened. The run records which edits are tried."""
 
     def __init__(self, harmless, commit, words=(), unshown=()):
         self.rt, self.harmless, self.commit, self.tried_names = None, harmless, commit, []
@@ -213,7 +213,7 @@ def run(harmless, commit, *words, unshown=()):
 
 
 def drawing(name):
-    """A commit that draws this edit alone, and one that draws none."""
+    """A commit that selects this edit only, and one that selects none."""
     names = [edit.name for edit in edits.edits_of("serf_high")]
     drawn = {at: [it for it in names if evidence.is_drawn(f"serf_high/{it}", str(at))] for at in range(2000)}
     return next(str(at) for at in drawn if drawn[at] == [name]), next(str(at) for at in drawn if not drawn[at])
@@ -224,25 +224,25 @@ def believed(count, top):
     one, none = drawing("adds_nothing")
     names = sorted(edit.name for edit in edits.edits_of("serf_high"))
     first = run([], none, "--write")
-    count.check("without evidence all are tried", sorted(first.tried_names) == names, first.tried_names)
+    count.check("without evidence, all are tried", sorted(first.tried_names) == names, first.tried_names)
     count.check(
-        "with evidence none is", run([], none).tried_names == [] and run([], none).counts.believed == len(names)
+        "with evidence, none is tried", run([], none).tried_names == [] and run([], none).counts.believed == len(names)
     )
-    count.check("but what the commit draws", run([], one).tried_names == ["adds_nothing"])
-    count.check("a harmless edit that isn't drawn is believed", run(["adds_nothing"], none).counts.failed == 0)
+    count.check("except those that the commit selects", run([], one).tried_names == ["adds_nothing"])
+    count.check("a harmless edit that isn't selected is believed", run(["adds_nothing"], none).counts.failed == 0)
     drawn = run(["adds_nothing"], one)
     count.check(
-        "a harmless edit that is drawn fails, and all of its crate are tried",
+        "a harmless edit that is selected fails, and all of its crate are tried",
         drawn.counts.failed == 1 and sorted(drawn.tried_names) == names,
         drawn.tried_names,
     )
     unshown = run([], none, "--anew", "--write", unshown=["adds_nothing"])
     again = run([], none)
     count.check("an edit that only its shape may have refused fails", unshown.counts.failed == 1, unshown.counts.kinds)
-    count.check("and so does its line", (again.counts.failed, again.tried_names) == (1, []), again.tried_names)
+    count.check("a later run fails for its line too", (again.counts.failed, again.tried_names) == (1, []), again.tried_names)
     run([], none, "--anew", "--write")
     anew = run(["adds_nothing"], none, "--anew")
-    count.check("and --anew finds it", anew.counts.failed == 1 and sorted(anew.tried_names) == names)
+    count.check("--anew finds a harmless edit", anew.counts.failed == 1 and sorted(anew.tried_names) == names)
     path = evidence.path_of("serf_high")
     with open(path, encoding="utf-8") as file:
         text = file.read()
@@ -261,7 +261,7 @@ def believed(count, top):
         count.check(name, got == sorted(tried), got)
     write(top, os.path.relpath(path, top), text + "gone " + "0" * 32 + " shape double: x\n")
     known = evidence.Evidence("serf_high", "toolchain a logic 0a\njudge 0")
-    count.check("an edit that is gone is named", len(known.gone(set(names))) == 1)
+    count.check("an edit that was removed is named", len(known.gone(set(names))) == 1)
     write(top, os.path.relpath(path, top), text)
     write(
         top,
@@ -270,7 +270,7 @@ def believed(count, top):
     )
     got = run([], none).tried_names
     count.check(
-        "what reads a changed definition is tried", sorted(got) == sorted(["adds_nothing", "adds_by_steps"]), got
+        "an edit that depends on a changed definition is tried", sorted(got) == sorted(["adds_nothing", "adds_by_steps"]), got
     )
 
 
@@ -278,14 +278,14 @@ def drawn_share(count):
     names = [f"serf_{crate}/edit_{number}" for crate in range(20) for number in range(20)]
     drawn = [[name for name in names if evidence.is_drawn(name, f"commit {at}")] for at in range(400)]
     share = sum(map(len, drawn)) / 400 / len(names)
-    count.check("about 2 in 100 are drawn", 0.017 < share < 0.023, share)
+    count.check("about 2 in 100 are selected", 0.017 < share < 0.023, share)
     crates = sum(len({name.partition("/")[0] for name in own}) for own in drawn) / 400
-    count.check("of a fifth of the crates", 3.2 < crates < 4.8, crates)
-    count.check("each is drawn by some commit", set().union(*drawn) == set(names))
+    count.check("from a fifth of the crates", 3.2 < crates < 4.8, crates)
+    count.check("each is selected by some commit", set().union(*drawn) == set(names))
 
 
 def kinds(count):
-    """What shows that an edit is refused."""
+    """The kinds of evidence that an edit is refused."""
     twin = next(it for it in edits.edits_of("serf_high") if it.name == "adds_by_steps")
     plain = next(it for it in edits.edits_of("serf_high") if it.name == "adds_nothing")
     goal, false = edit_checks.Goal("returns-clause-double"), edit_checks.Goal("returns-clause-double", True)
@@ -342,7 +342,7 @@ NAMES = ["held::Held::first", "held::Held::drop", "held::Held+MemoryClone::clone
 
 
 def function_names(count, top):
-    """An edit is tried where each other function's proof is a hole, under the name that the toolchain has for it."""
+    """While an edit is tried, each other function's proof is a hole, under the name that the toolchain has for it."""
     path = "crates/serf_high/src/held.rt"
     write(top, path, IMPLS)
     found = [name for _, name, _ in edits.functions_in("serf_high", "src/held.rt")]
@@ -350,14 +350,14 @@ def function_names(count, top):
     os.remove(os.path.join(top, path))
 
 
-# Files of edits that can't be read, each with a part of what is said of it.
+# Files of edits that can't be read, each with a part of the error.
 UNREAD = [
     ("a text before any edit", "file: src/lib.rt\nold: a\nnew: b\n", "before any 'edit:' line"),
     ("a text of no file", "edit: one\nwhy: it is\nold: a\nnew: b\n", "before any 'file:' or 'old:' line"),
     ("a twin of nothing", "file: src/lib.rt\nedit: one\nwhy: it is\ntwin: a\n", "before any 'new:' line"),
     ("an old text alone", "file: src/lib.rt\nedit: one\nwhy: it is\nold: a\n", "no 'new:' line"),
     ("an edit without words", "file: src/lib.rt\nedit: one\nold: a\nnew: b\n", "no line 'why:'"),
-    ("a line of no kind", "file: src/lib.rt\nedit: one\nwhy: it is\nolt: a\n", "no line of an edit"),
+    ("a line of no kind", "file: src/lib.rt\nedit: one\nwhy: it is\nolt: a\n", "isn't a line of an edit"),
 ]
 
 
@@ -380,7 +380,7 @@ def files(count, top):
 
 
 def unread(call):
-    """Why edits can't be read, or an empty text where they can."""
+    """Why edits can't be read, or an empty text if they can."""
     try:
         call()
     except edit_files.BadEdit as why:
@@ -389,7 +389,7 @@ def unread(call):
 
 
 def words(count):
-    """A word that tools/mutants.py doesn't know is told, and nothing is tried."""
+    """A word that tools/mutants.py doesn't know is reported, and nothing is tried."""
     tool = os.path.join(checks.TOP, "tools", "mutants.py")
     for word in ("--help", "--overci", "serf_nothing"):
         ran = subprocess.run([sys.executable, tool, word], stdout=subprocess.PIPE, stderr=subprocess.PIPE, text=True, timeout=checks.LIMIT)

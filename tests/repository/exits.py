@@ -1,8 +1,8 @@
-"""The wrong bodies of failure exits: two at least for each function that C calls, and for each step of a store.
+"""The wrong bodies of error exits: at least two for each function that C calls, and for each step of a store.
 
-tests/repository/exits.rows has a line of each. It names edits of crates/CRATE/mutants, and of a store's step also faults that
-tests/library/power_cuts plants. Each edit has to stand, and to turn the function of its line or one that this calls, in turn.
-Where tests/refused has a line of it as it stands, that isn't `open`. Of the bindings' stores, and of the file beneath
+tests/repository/exits.rows has a line for each. It names edits of crates/CRATE/mutants, and for a store's step also the bugs that
+tests/library/power_cuts plants. Each edit has to exist, and has to turn the function of its line or one that this function calls,
+directly or not. If tests/refused has a current line for it, the line isn't `open`. For the bindings' stores, and for the file below
 `FileStore`, each step has two wrong bodies that tests/library/store_faults plants, each with the check that finds it.
 """
 
@@ -24,7 +24,7 @@ import planted
 
 ROWS = checks.text_of("tests", "repository", "exits.rows")
 
-# A line: what it is of, a function, and the wrong bodies.
+# A line: the step, if it is of one, a function, and the wrong bodies.
 ROW = re.compile(r"^(?:(?P<step>[^=#\n]*): )?(?P<function>[\w:]+) = (?P<bodies>.+)$", re.M)
 
 EXPORT = re.compile(r'^pub extern "C" fn (\w+)', re.M)
@@ -34,7 +34,7 @@ LEAST = 2
 
 
 def rows_of(crate):
-    """The lines of a crate: what each is of, its function, and its wrong bodies."""
+    """The lines of a crate: the step of each, its function, and its wrong bodies."""
     part = ROWS.partition(f"\n[{crate}]\n")[2].partition("\n[")[0]
     return [(row["step"] or "", row["function"], row["bodies"].split(", ")) for row in ROW.finditer(part)]
 
@@ -51,7 +51,7 @@ def functions_of(crate):
 
 
 def reached_from(function, functions):
-    """The paths that end in this function's, and those of all that they call, in turn; a call is known by its last name."""
+    """The paths that end in this function's path, and those of all that they call, directly or not; a call is known by its last name."""
     todo = [path for path in functions if path == function or path.endswith(f"::{function}")]
     found = set()
     while todo:
@@ -63,7 +63,7 @@ def reached_from(function, functions):
 
 
 def open_of(crate, own):
-    """The edits of a crate that stand as tests/refused has them, where it says `open`."""
+    """The edits of a crate for which tests/refused has a current line that says `open`."""
     path = os.path.join(checks.TOP, "tests", "refused", f"{crate}.txt")
     sums = dict(re.findall(r"^(\w+) ([0-9a-f]{32}) open ", checks.text_of(path), re.M))
     now = reach.Reach(checks.TOP)
@@ -73,21 +73,21 @@ def open_of(crate, own):
 def wrong_body(name, own, reached, unshown):
     """What is wrong with a row's wrong body, or None."""
     if name.startswith(PLANTED):
-        return None if name.removeprefix(PLANTED) in faults.FAULTS.values() else "no such fault is planted"
+        return None if name.removeprefix(PLANTED) in faults.FAULTS.values() else "no bug of this name is planted"
     if name not in own:
-        return "no such edit stands in mutants/"
+        return "mutants/ has no edit of this name"
     if not reached & set(own[name].functions):
         return f"it turns {', '.join(own[name].functions)}"
     return "its evidence says `open`" if name in unshown else None
 
 
 def rows(count, crate):
-    """The lines of a crate, and each wrong body in them. Gives the functions that have a line."""
+    """The lines of a crate, and each wrong body in them. Returns the functions that have a line."""
     own = {edit.name: edit for edit in edits.edits_of(crate)}
     functions, unshown, found = functions_of(crate), open_of(crate, own), set()
     for step, function, bodies in rows_of(crate):
         reached = reached_from(function, functions)
-        count.check(f"{function} stands in {crate}", reached)
+        count.check(f"{function} is in {crate}", reached)
         faulty = {name: wrong_body(name, own, reached, unshown) for name in bodies}
         faulty = {name: why for name, why in faulty.items() if why}
         count.check(f"{step} {function}: its wrong bodies", not faulty, faulty)
@@ -121,11 +121,11 @@ def exits(count):
 
 
 def printed(count):
-    """The command of docs/WRONG_BODIES.md prints each wrong body that stands, and those of one crate by its name."""
-    stand = {crate: [edit.name for edit in edits.edits_of(crate)] for crate in sorted(os.listdir(os.path.join(checks.TOP, "crates")))}
+    """The command of docs/WRONG_BODIES.md prints each wrong body, or with a crate's name those of that crate."""
+    edit_names = {crate: [edit.name for edit in edits.edits_of(crate)] for crate in sorted(os.listdir(os.path.join(checks.TOP, "crates")))}
     for command in pages.of(pages.EXITS):
         run = lambda *words: subprocess.run([os.path.join(checks.TOP, command.text), *words], capture_output=True, text=True)
-        for words, wanted in (((), stand), (("serf_window",), {"serf_window": stand["serf_window"]})):
+        for words, wanted in (((), edit_names), (("serf_window",), {"serf_window": edit_names["serf_window"]})):
             ran = run(*words)
             names = re.findall(r"^  (\w+)(?::| \()", ran.stdout.partition("the stores of C")[0], re.M)
             count.check(command.name(), ran.returncode == 0 and names == [name for own in wanted.values() for name in own], ran.stderr)

@@ -1,10 +1,10 @@
 """The first calls of a fresh clone: ./serf-replay answers at once, and never runs a program that isn't current.
 
-One call is real, over a copy of what git tracks, and so is CONTRIBUTING's command over the program that it compiled. All others
-go through a stand-in for the toolchain's command, in tests/repository/first_call, so that a build takes no time: fault
-lines and statuses of an unproved program, one that can't be compiled, two calls at once, one that is asked for by
-SERF_UNPROVED, a changed source, one that was taken away, one that changes during the build, a build that is broken off, a
-failed proof, no toolchain, and a folder that can't be written.
+One call is real: it runs over a copy of what git tracks. CONTRIBUTING's command then runs over the program that it compiled. All
+other calls go through a stand-in for the toolchain's command, in tests/repository/first_call, so that a build takes no time. They
+try error lines and statuses of an unproved program, a program that can't be compiled, two calls at once, a program that
+SERF_UNPROVED requests, a changed source, a removed source, a source that changes during the build, an interrupted build, a
+failed proof, a missing toolchain, and a folder that can't be written.
 """
 
 import os
@@ -25,21 +25,21 @@ from checks import TOP
 
 EXAMPLE = os.path.join("examples", "deploy_gossiped_twice")
 
-# How many processor seconds the first call of a fresh clone may take. It is to answer within two minutes on a machine
-# with nothing else to do; the gate allows twice that, since a machine may be slow, and prints what it took.
+# How many processor seconds the first call of a fresh clone may take. It should answer within two minutes on an idle machine. The
+# gate allows twice that, since a machine may be slow, and prints what it took.
 MOST_SECONDS = 240
 
-UNPROVED = "this program is compiled without its proofs"
+UNPROVED = "compiling the program without its proofs, once"
 
 # How many processor seconds a second call may take, over what the first one compiled.
 SECOND_SECONDS = 10
 
-# `./test --quick` has compiled the program already, for the scripts that run it. (What it sets is not for the clones.)
+# `./test --quick` has compiled the program already, for the scripts that run it. (Its variables must not reach the clones.)
 IS_COMPILED = bool(os.environ.pop("SERF_UNPROVED", None))
 
 
 class Clone:
-    """A repository of one program over one library, with this one's scripts and the stand-in."""
+    """A repository of one program over one library, with the scripts of this repository and the stand-in."""
 
     def __init__(self, root):
         self.top = os.path.join(root, "clone")
@@ -80,40 +80,35 @@ class Clone:
         )
         return ran.returncode, ran.stdout, ran.stderr
 
-    def is_unproved(self, text):
+    def is_unproved(self, text, is_compiled=False):
+        """Whether a call runs the program without its proofs, of this source, and prints a sentence first, unless it is compiled."""
         status, out, err = self.run("serf-replay", "x")
-        return (
-            (status, out) == (0, f"unproved {text} x\n")
-            and UNPROVED in err
-            and "./prove" in err
-            and "run=ended" not in err
-        )
+        is_said = err == "" if is_compiled else err.count("\n") == 1 and UNPROVED in err and "./prove" in err
+        return (status, out) == (0, f"unproved {text} x\n") and is_said
 
     def is_proved(self, text):
         return self.run("serf-replay", "x") == (0, f"proved {text} x\n", "")
 
 
 def unproved(count, clone):
-    """An unproved program's fault lines and status are its own; it is compiled once, or it is told why it can't be."""
+    """An unproved program has its own error lines and status. It is compiled once; if it can't be, the call reports why."""
     clone.order("refuses")
     schedule = os.path.join(clone.top, "schedule")
     clone.write(schedule, "of a file\n")
-    for name, words, given, said in (
-        ("on standard input", ["replay"], "given\n", "given"), ("in a file", ["replay", schedule], "", "of a file")
+    for name, words, given, said, sentences in (
+        ("on standard input", ["replay"], "given\n", "given", 1), ("in a file", ["replay", schedule], "", "of a file", 0)
     ):
         status, out, err = clone.run("serf-replay", *words, given=given)
-        sentence, *lines = err.splitlines()
-        well = (status, out, lines) == (1, "", ["a fault", f"bad line: {said}"]) and UNPROVED in sentence
+        first, rest = err.splitlines()[:sentences], err.splitlines()[sentences:]
+        well = (status, out, rest) == (1, "", ["a fault", f"bad line: {said}"]) and all(UNPROVED in line for line in first)
         count.check(f"a refused schedule {name}", well, (status, out, err))
-    clone.order()
-    count.check("it is compiled", clone.is_unproved("one"))
     clone.order("uncompiled")
-    count.check("a second call compiles nothing", clone.is_unproved("one"))
+    count.check("a later call compiles nothing, and prints no sentence", clone.is_unproved("one", is_compiled=True))
     clone.write(clone.source, "none\n")
     status, out, err = clone.run("serf-replay", "x")
     count.check(
-        "one that can't be compiled",
-        (status, out) == (3, "") and "could not be compiled" in err and "src/main.rt is not" in err,
+        "a program that can't be compiled",
+        (status, out) == (3, "") and "compilation failed" in err and "src/main.rt is not" in err,
         (status, out, err),
     )
     clone.write(clone.source, "one\n")
@@ -121,7 +116,7 @@ def unproved(count, clone):
 
 
 def at_once(count, clone):
-    """Two calls at once over a source that is new compile it once, and both run it."""
+    """Two calls at once after a source has changed compile it once, and both run it."""
     tries = os.path.join(clone.bin, "tries")
     clone.write(clone.source, "both\n")
     clone.write(tries, "")
@@ -141,24 +136,30 @@ def builds(count, clone):
     )
     count.check("the proved program runs", clone.is_proved("one"), clone.run("serf-replay", "x"))
     count.check("nothing to build", clone.run("prove")[0] == 0)
+    status, out, err = clone.run("prove", "--help")
+    count.check("the help of prove", (status, err) == (0, "") and out.startswith("prove [PROGRAM..]: "), (status, out, err))
+    status, out, err = clone.run("prove", "--none")
+    count.check("an option that prove doesn't have", (status, out) == (2, "") and err.startswith("prove [PROGRAM..]: "), (status, out, err))
+    status, out, err = clone.run("prove", "none")
+    count.check("a program that isn't there", (status, out) == (3, "") and "prove: there is no program none" in err, (status, out, err))
 
 
 def asked_for(count, clone):
-    """SERF_UNPROVED asks for the program without its proofs, though the proved one stands: it is compiled first, as by a
-    call without the variable, and is silent from then on."""
+    """SERF_UNPROVED requests the program without its proofs, even if the proved one exists. It is compiled first, as by a
+    call without the variable, and prints no sentence from then on."""
     shutil.rmtree(os.path.join(clone.top, "crates", "serf_replay_program", "out", "unproved"))
     call = lambda: clone.run("serf-replay", "x", SERF_UNPROVED="1")
     status, out, err = call()
-    count.check("it is asked for", (status, out) == (0, "unproved one x\n") and UNPROVED in err, (status, out, err))
+    count.check("it is requested", (status, out) == (0, "unproved one x\n") and UNPROVED in err, (status, out, err))
     clone.order("uncompiled")
-    count.check("it is asked for again", call() == (0, "unproved one x\n", ""), call())
+    count.check("it is requested again", call() == (0, "unproved one x\n", ""), call())
     clone.write(clone.source, "none\n")
     status, out, err = call()
-    said = (status, out) == (3, "") and "could not be compiled" in err
-    count.check("it is asked for, and can't be compiled", said, (status, out, err))
+    said = (status, out) == (3, "") and "compilation failed" in err
+    count.check("it is requested, and can't be compiled", said, (status, out, err))
     clone.order()
     status, out, _ = call()
-    count.check("it is asked for, of a changed source", (status, out) == (0, "unproved none x\n"), (status, out))
+    count.check("it is requested after a source changed", (status, out) == (0, "unproved none x\n"), (status, out))
     clone.write(clone.source, "one\n")
     count.check("without the variable the proved program runs", clone.is_proved("one"), clone.run("serf-replay", "x"))
 
@@ -175,7 +176,7 @@ def sources(count, clone):
     clone.write(library + ".gone", "low\n")
     count.check("a source that was renamed", clone.is_unproved("one"), clone.run("serf-replay", "x"))
     os.remove(library + ".gone")
-    count.check("a source that was taken away", clone.is_unproved("one"), clone.run("serf-replay", "x"))
+    count.check("a source that was removed", clone.is_unproved("one"), clone.run("serf-replay", "x"))
     clone.write(library, "low\n")
     program = os.path.join(clone.top, "crates", "serf_replay_program", "out", "serf_replay_program")
     count.check("the program that was built", clone.is_proved("one"), clone.run("serf-replay", "x"))
@@ -184,7 +185,7 @@ def sources(count, clone):
     clone.order()
     with open(program, "a", encoding="utf-8") as file:
         file.write("echo another\n")
-    count.check("another program in its place", clone.is_unproved("one"), clone.run("serf-replay", "x"))
+    count.check("another program in its place", clone.is_unproved("one", is_compiled=True), clone.run("serf-replay", "x"))
 
 
 def changing(count, clone):
@@ -213,7 +214,7 @@ def broken_off(count, clone):
             break
         time.sleep(0.05)
     os.killpg(ran.pid, signal.SIGINT)
-    count.check("a build that is broken off ends", ran.wait(timeout=60) != 0)
+    count.check("an interrupted build ends", ran.wait(timeout=60) != 0)
     clone.order()
     count.check("what it left is not current", clone.is_unproved("four"), clone.run("serf-replay", "x"))
     count.check("the next build begins anew", clone.run("prove")[0] == 0 and clone.is_proved("four"))
@@ -234,7 +235,7 @@ def refused(count, clone):
         status == 3 and "main: not proved" in err and "serf_replay_program was not built" in err,
         (status, err),
     )
-    count.check("nothing is built of it", clone.is_unproved("five"), clone.run("serf-replay", "x"))
+    count.check("nothing is built from it", clone.is_unproved("five"), clone.run("serf-replay", "x"))
     clone.order()
     shutil.rmtree(os.path.join(clone.top, "crates", "serf_replay_program", "out", "unproved"))
     for name in ("serf-replay", "prove", "test", os.path.join("bench", "run")):
@@ -251,11 +252,11 @@ def refused(count, clone):
     )
     status, _, err = clone.run("serf-replay", "x")
     said = re.search(r"^unproved: \S+: [A-Z][a-z ]+$", err, re.M)
-    count.check("a folder that can't be written, of the program without its proofs", status == 3 and said, (status, err))
+    count.check("a folder that can't be written, for the program without its proofs", status == 3 and said, (status, err))
 
 
 def fresh_clone(count, root):
-    """The first call, over what git tracks."""
+    """The first call, over a copy of what git tracks."""
     top = os.path.join(root, "fresh")
     listed = subprocess.run(
         ["git", "ls-files", "-z"], cwd=TOP, stdout=subprocess.PIPE, check=True
@@ -283,7 +284,7 @@ def fresh_clone(count, root):
     took = checks.processor_seconds() - began
     count.check(
         "a second call, at once",
-        (again.returncode, again.stdout, again.stderr) == (0, ran.stdout, ran.stderr) and took <= SECOND_SECONDS,
+        (again.returncode, again.stdout, again.stderr) == (0, ran.stdout, "") and took <= SECOND_SECONDS,
         (took, again),
     )
     for command in pages.of(pages.FIRST_CALL):
@@ -292,7 +293,7 @@ def fresh_clone(count, root):
 
 
 def one_figure(count):
-    """The build's time is told in one page and by two scripts, in the same words, and so is the compilation's."""
+    """One page and two scripts state how long a build takes, in the same words, and how long a compilation takes."""
     figure = "about 45 minutes on four processors"
     for name in ("README.md", "serf-replay", os.path.join("bench", "run")):
         count.check(f"the build's time in {name}", figure in checks.text_of(name))

@@ -1,4 +1,4 @@
-"""What the gate says of its own time: how long it says first, how many jobs it has a crate proved by, and when it took too long.
+"""What the gate prints about its own time: how long it will take, how many jobs prove a crate, and when it took too long.
 
 The crates, the page's rows and the run of `rt ci` are stand-ins.
 """
@@ -15,7 +15,7 @@ import checks
 import gate
 import machine
 
-# The rows of a page: how much runs at least, and processor seconds.
+# The rows of a page: the minimum number of checks, and processor seconds.
 ROWS = {
     gate.PROOFS: [4, 180],
     gate.EDITS: [1, 20],
@@ -30,12 +30,12 @@ ROWS = {
 
 
 def crate(name, *below):
-    """A crate over others, which come behind those that they use."""
+    """A crate over others; it has to come after those that it uses."""
     return SimpleNamespace(name=name, folder=name, below=lambda: [*below])
 
 
 def cluster():
-    """Three crates one over another, the last of which the page doesn't name, and one aside."""
+    """Three crates, each above the one before, the last of which the page doesn't name, and one that is separate."""
     wire = crate("serf_wire")
     high = crate("serf_high", wire)
     return [wire, high, crate("serf_new", wire, high), crate("serf_aside")]
@@ -48,11 +48,11 @@ def no_page():
 def costs(count):
     found = gate.chain_costs(cluster())
     wanted = {"serf_new": gate.UNKNOWN, "serf_high": 80 + gate.UNKNOWN, "serf_wire": 120 + gate.UNKNOWN, "serf_aside": 50}
-    count.check("a crate's cost, with the dearest chain that waits for it", found == wanted, found)
+    count.check("a crate's cost, with the most expensive chain that waits for it", found == wanted, found)
     gate.rows = no_page
     found = gate.chain_costs(cluster())
     gate.rows = lambda: ROWS
-    count.check("without a page, by their number", found["serf_wire"] == 3 * gate.UNKNOWN, found)
+    count.check("without a page, by how many crates wait", found["serf_wire"] == 3 * gate.UNKNOWN, found)
 
 
 def too_long(count):
@@ -61,9 +61,9 @@ def too_long(count):
         ("a cold gate in its time", cold, gate.LONGEST, 2, False),
         ("a cold gate that took longer", cold, gate.LONGEST + 1, 2, True),
         ("on more processors too", cold, gate.LONGEST + 1, 8, True),
-        ("one processor has no bound", cold, gate.LONGEST + 1, 1, False),
-        ("nor has a gate that kept something", cold + kept, gate.LONGEST + 1, 2, False),
-        ("nor one that proved nothing", "", gate.LONGEST + 1, 2, False),
+        ("one processor has no limit", cold, gate.LONGEST + 1, 1, False),
+        ("a gate that kept something has no limit", cold + kept, gate.LONGEST + 1, 2, False),
+        ("a gate that proved nothing has no limit", "", gate.LONGEST + 1, 2, False),
     ):
         fault = gate.too_long(said, seconds, processors)
         count.check(name, (fault is not None) == is_fault, fault)
@@ -72,18 +72,18 @@ def too_long(count):
 def lanes(count):
     machine.processors = lambda: 64
     count.check("five side by side at most", machine.lanes(1) == 5, machine.lanes(1))
-    count.check("one where the memory is short", machine.lanes(1 << 60) == 1, machine.lanes(1 << 60))
+    count.check("one if there is little memory", machine.lanes(1 << 60) == 1, machine.lanes(1 << 60))
     machine.processors = lambda: 2
-    count.check("no more than processors", machine.lanes(1) == 2, machine.lanes(1))
+    count.check("no more than there are processors", machine.lanes(1) == 2, machine.lanes(1))
 
 
 def jobs_of(script):
-    """What `rt ci` is told of jobs."""
-    told = []
+    """The command of `rt ci`, and how many jobs it gets."""
+    calls = []
 
     class Part(gate.Part):
         def run(self, words, env=None):
-            told.append((words[-1], (env or {}).get("RT_JOBS")))
+            calls.append((words[-1], (env or {}).get("RT_JOBS")))
             self.failed = 1
 
     own, gate.Part = gate.Part, Part
@@ -91,10 +91,10 @@ def jobs_of(script):
         script.run_ci(CRATES_OF_CI)
     finally:
         gate.Part = own
-    return told
+    return calls
 
 
-# The crates that a run of `rt ci` looks at before it begins.
+# The crates that a run of `rt ci` checks before it begins.
 CRATES_OF_CI = [SimpleNamespace(name="serf_agent_c", folder=os.path.join(checks.TOP, "crates", "no_crate"), below=lambda: [])]
 
 
@@ -106,18 +106,18 @@ def one_job(count):
     found = jobs_of(script)
     count.check("as many crates side by side as there are lanes, one job each", found == [("ci", str(machine.lanes(script.ROOM)))], found)
     os.environ["RT_JOBS"] = "7"
-    count.check("what the caller says of jobs stands", jobs_of(script) == [("ci", "7")])
+    count.check("the caller's number of jobs is kept", jobs_of(script) == [("ci", "7")])
 
 
 def said_first(count):
     script = checks.gate_script()
     with contextlib.redirect_stdout(io.StringIO()) as said:
         script.say_first(cluster())
-    count.check("how long it took elsewhere is said", " 5 processor minutes " in said.getvalue() and "4 crates" in said.getvalue(), said.getvalue())
+    count.check("it prints first how long it took elsewhere", " 5 processor minutes " in said.getvalue() and "4 crates" in said.getvalue(), said.getvalue())
 
 
 def whole(count):
-    """The script as a whole fails where its run was too long."""
+    """The whole script fails if its run took too long."""
     script = checks.gate_script()
     part = gate.Part("rt ci")
     part.said, part.passed = "rt: serf_wire proved\n", 1

@@ -1,7 +1,7 @@
-"""Must-fail edits that are refused by no goal of a contract: ./test names each, and its mark isn't green then.
+"""Must-fail edits that no goal of a contract refuses: ./test names each of them, and doesn't record the state as green.
 
-What the toolchain says of an edit is made by its own command, over checks that this plays. So where its words change,
-this fails. Some toolchains don't let an edit pass that a limit alone refused: then `rt ci` itself fails.
+The toolchain's own command makes the text about an edit, over checks that this script plays. So this script fails if the wording
+changes. Some toolchains don't pass an edit that only a limit refused: then `rt ci` itself fails.
 """
 
 import contextlib
@@ -22,7 +22,7 @@ GONE = "./proofs/add/Answers.antt:3:4: error: `returns`: the record has no field
 LIMIT = "src/lib.rt:9:5: error: antt ran out of stack"
 NOT_PROVED = "logic=not-proved"
 
-# What a check says and its status, by what refuses the edit; and whether that shows nothing of a contract.
+# What a check prints and its status, by what refuses the edit; and whether that says nothing about a contract.
 CHECKS = {
     "a_goal": (1, [GOAL, NOT_PROVED], False),
     "names_and_a_goal": (1, [GONE, GOAL, NOT_PROVED], False),
@@ -34,12 +34,12 @@ CHECKS = {
 
 
 def said_of(rt, name):
-    """Whether `rt ci` passes an edit whose check is that of this name, and its line."""
+    """Whether `rt ci` passes the edit with the check of this name, and its line."""
     status, lines, _ = CHECKS[name]
     rt.read_edit = lambda edit, folder: ({}, None)
     rt.checked = lambda *_: SimpleNamespace(returncode=status, stdout="\n".join(lines) + "\n")
     verdict, line = rt.must_fail(SimpleNamespace(name="serf_low", folder=""), f"{name}.edit", [])
-    # (some toolchains say a truth value, others a word, of which these two pass)
+    # (some toolchains return a truth value, others a word; of the words, these two pass)
     passes = verdict if isinstance(verdict, bool) else verdict in (rt.REFUSED, rt.AT_LIMIT)
     return passes, "rt: " + line
 
@@ -48,7 +48,7 @@ def named(count, script, said):
     hollow = [name for name, (_, _, is_hollow) in CHECKS.items() if is_hollow]
     for name, (passes, line) in said.items():
         found = script.hollow(line)
-        count.check(f"{name}: it counts as refused where it passes", len(gate.REFUSED.findall(line)) == passes, line)
+        count.check(f"{name}: it counts as refused if it passes", len(gate.REFUSED.findall(line)) == passes, line)
         wanted = [f"must-fail serf_low/{name}.edit: refused by no goal of a contract"] if passes and name in hollow else []
         count.check(f"{name}: hollow, {name in hollow}", found == wanted and (passes or name in hollow), (line, found))
     of_all = script.hollow("".join(f"{line}\nrt: serf_low proved\n" for _, line in said.values()))
@@ -56,8 +56,8 @@ def named(count, script, said):
 
 
 def whole_gate(script, said, failed):
-    """What ./test makes of a run in which all is well but for what `rt ci` said, and for so many failures of its own: its
-    counts, and how often it noted that the gate is green."""
+    """What ./test makes of a run in which nothing fails but what `rt ci` printed, and which has so many failures itself: its
+    counts, and how often it recorded that the gate is green."""
     part = gate.Part("rt ci")
     part.said, part.passed, part.failed = said, 1, failed
     marks = []

@@ -1,8 +1,8 @@
-"""Imports of another crate's lemmas: a proof stands on what the crates below promise, and on nothing of their proofs.
+"""Imports of another crate's lemmas: a proof relies on what the crates below promise, and on none of their proofs.
 
-Each `use` of a lemma module of another crate of the repository, in a crate's proofs, specs or sources, and each
-`using(..)` of one, is printed, and fails its crate. Lemmas of the toolchain's own libraries are left out: these come
-with it, and change with it alone.
+If a crate's proofs, specs or sources have a `use` of a lemma module of another crate of the repository, or a `using(..)` of
+one, it is printed, and its crate fails. Lemmas of the toolchain's own libraries are allowed: they are part of the toolchain,
+and change only with it.
 """
 
 import os

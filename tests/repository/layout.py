@@ -1,6 +1,6 @@
-"""The layout of sources: that `rt fmt` would change no file of a crate. `rt ci` proves no crate with one that it would.
+"""The layout of sources: `rt fmt` would change no file of a crate. `rt ci` proves no crate with a file that it would change.
 
-The crates are copied, and `rt fmt` runs on the copies. A file that it lays out again is printed, and fails its crate.
+The crates are copied, and `rt fmt` runs on the copies. A file that it changes is printed, and its crate fails.
 """
 
 import os
@@ -15,7 +15,7 @@ sys.path.insert(0, os.path.dirname(os.path.dirname(os.path.abspath(__file__))))
 import checks
 from checks import TOP
 
-# What a crate's sources are in.
+# The folders of a crate's sources.
 PARTS = ("src", "specs", "proofs", "tests")
 
 FORMATTED = re.compile(r"^rt: formatted (.+)$", re.M)
@@ -32,7 +32,7 @@ def copied(crate, crates):
 
 
 def laid_out(crate):
-    """The files that `rt fmt` lays out again in a folder, and whether it went through them."""
+    """The files that `rt fmt` changes in a folder, and whether it succeeded."""
     ran = subprocess.run(["rt", "fmt"], cwd=crate, stdin=subprocess.DEVNULL, stdout=subprocess.PIPE, stderr=subprocess.STDOUT, text=True, timeout=checks.LIMIT)
     return FORMATTED.findall(ran.stdout), ran.returncode == 0
 
@@ -45,7 +45,7 @@ def layouts(count):
             for file in changed:
                 print(f"FAILED {crate}/{file} is not in the layout: run rt fmt in the crate's folder")
             if not went:
-                print(f"FAILED {crate}: rt fmt ended with a fault")
+                print(f"FAILED {crate}: rt fmt ended with an error")
             good = went and not changed
             count.add(good, not good)
 

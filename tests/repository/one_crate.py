@@ -1,8 +1,8 @@
-"""`./test CRATE`: what it says that a crate has is there, and a crate whose check fails is told.
+"""`./test CRATE`: everything that it names for a crate exists, and it reports a check that fails.
 
-Each crate of crates.txt has a row, and each script that a row names stands. Each script of tests/program and tests/library is
-of some crate, but for those of a whole node or a whole release. And tools/packages, which `./test` calls, says what it
-installs before it does, or what is wanted where it may not.
+Each crate of crates.txt has a row, and each script that a row names exists. Each script of tests/program and tests/library is in
+the row of some crate, except those that test a whole node or a whole release. And tools/packages, which `./test` calls, prints
+what it installs before it does so, or what is needed if it may not install it.
 """
 
 import contextlib
@@ -18,7 +18,7 @@ import checks
 from checks import TOP, text_of
 import one_crate
 
-# What asks more than the crates: a node in Go, an agent, a release.
+# The scripts that need more than the crates: a node in Go, an agent, a release.
 OF_MORE = {f"tests/library/{name}.py" for name in ("agent", "beside_serf", "kept_cluster", "packages", "rpc_client", "serf_package")}
 
 
@@ -27,10 +27,10 @@ def rows(count):
     count.check("a row for each crate", crates == one_crate.SCRIPTS.keys(), crates ^ one_crate.SCRIPTS.keys())
     for crate, names in one_crate.SCRIPTS.items():
         missing = [name for name in (*one_crate.FORM, *names) if not os.path.isfile(os.path.join(TOP, name))]
-        count.check(f"{crate}: its scripts stand", not missing, missing)
+        count.check(f"{crate}: its scripts exist", not missing, missing)
     named = {name for names in one_crate.SCRIPTS.values() for name in names}
     there = {f"tests/{folder}/{name}" for folder in ("program", "library") for name in os.listdir(os.path.join(TOP, "tests", folder)) if name.endswith(".py")}
-    count.check("each script is of some crate", there - OF_MORE == named - {"tests/repository/one_run.py"}, there - OF_MORE ^ named)
+    count.check("each script has a crate", there - OF_MORE == named - {"tests/repository/one_run.py"}, there - OF_MORE ^ named)
 
 
 def runs(count):
@@ -43,13 +43,13 @@ def runs(count):
     one_crate.commands_of = own
     lines = said.getvalue().splitlines()
     count.check("one passed and one failed", found == (1, 1), found)
-    count.check("what it has is said first", lines[0] == "test: serf_draw has well, ill", lines)
-    count.check("what failed is said", "FAILED ill" in lines and "FAILED well" not in lines, lines)
-    count.check("what is left out is said", lines[-1].startswith("not run: tests/slow.py"), lines)
+    count.check("what a crate has is printed first", lines[0] == "test: serf_draw has well, ill", lines)
+    count.check("what failed is printed", "FAILED ill" in lines and "FAILED well" not in lines, lines)
+    count.check("what is left out is printed", lines[-1].startswith("not run: tests/slow.py"), lines)
     commands, left = one_crate.commands_of("serf_store", lambda name: "power" in name)
     count.check("the check comes first", commands[0][1:] == (["rt", "check"], os.path.join(TOP, "crates", "serf_store")), commands)
     count.check("the wrong bodies come next", "wrong bodies" in commands[1][0], commands)
-    count.check("what is slow is left", left == ["tests/library/power_cuts.py"], left)
+    count.check("a slow script is left out", left == ["tests/library/power_cuts.py"], left)
     ran = subprocess.run([os.path.join(TOP, "test"), "serf_none"], capture_output=True, text=True)
     count.check("a crate that isn't there", ran.returncode == 2 and "CRATE" in ran.stderr, ran)
 
@@ -57,7 +57,7 @@ def runs(count):
 def installs(count):
     """A machine without Go, whose apt-get is a stand-in that fails: for root, and for somebody else."""
     with tempfile.TemporaryDirectory(prefix="packages-") as folder:
-        for user, said in (("0", "packages: installs by apt-get: golang-go "), ("1000", "packages: the tests want golang-go ")):
+        for user, said in (("0", "packages: installing with apt-get: golang-go "), ("1000", "packages: the tests need golang-go ")):
             for name, text in (("id", f"echo {user}"), ("apt-get", "exit 1")):
                 path = os.path.join(folder, name)
                 with open(path, "w", encoding="utf-8") as file:
@@ -65,7 +65,7 @@ def installs(count):
                 os.chmod(path, 0o755)
             ran = subprocess.run(["/bin/bash", os.path.join(TOP, "tools", "packages")], env={"PATH": folder}, capture_output=True, text=True)
             count.check(f"what is installed for the user {user}", ran.returncode == 1 and ran.stderr.startswith(said), ran)
-        count.check("what could not be", "apt-get could not install golang-go" not in ran.stderr, ran)
+        count.check("what could not be installed", "apt-get could not install golang-go" not in ran.stderr, ran)
 
 
 if __name__ == "__main__":

@@ -1,4 +1,4 @@
-"""./release: from a green gate alone, the same bytes twice, and each file with its hash. The agent is built in both, and starts."""
+"""./release: only from a green gate, twice with the same bytes, and each file with its hash. The agent in both packages starts."""
 
 import filecmp
 import hashlib
@@ -17,15 +17,15 @@ import checks
 import green
 from checks import TOP
 
-# What stands for the program and the library here: the gate's own are not looked into.
-PROGRAM = "#!/bin/sh\necho serf-replay 9.8.7\n"
-NAME = "serf-replay-9.8.7-x86_64-linux"
-VERSION = re.search(r'^const Version = "([0-9.]+)"', checks.text_of("agent", "internal", "config", "config.go"), re.M)[1]
+# Stand-ins for the program and the library: the real ones are not inspected here.
+VERSION = checks.text_of("VERSION").strip()
+PROGRAM = f"#!/bin/sh\necho serf-replay {VERSION}\n"
+NAME = f"serf-replay-{VERSION}-x86_64-linux"
 PACKAGE = f"kitchenrue-agent_{VERSION}_amd64.deb"
 
-# What of the repository is copied: what ./release reads, and itself.
+# What is copied from the repository: what ./release reads, and ./release itself.
 PARTS = [
-    "README.md", "LICENSE", "CHANGELOG.md", "SECURITY.md", "install", "include", "bindings", "agent", "conformance", "docs",
+    "README.md", "LICENSE", "VERSION", "CHANGELOG.md", "SECURITY.md", "install", "include", "bindings", "agent", "conformance", "docs",
     "examples", "release", "tools",
 ]
 
@@ -37,7 +37,7 @@ def write(path, text):
 
 
 def clone(root):
-    """A repository with the archive's files as they are here, and with outputs that stand for the built ones."""
+    """A repository with the archive's files as they are here, and with stand-ins for the built outputs."""
     top = os.path.join(root, "clone")
     os.makedirs(top)
     for name in PARTS:
@@ -58,7 +58,7 @@ def clone(root):
 
 
 def compile_library(path):
-    """A static library that stands for the proved one: it has the calls of the header, and they do nothing."""
+    """A static library in place of the proved one: it has the calls of the header, and they do nothing."""
     with open(os.path.join(TOP, "include", "serf_agent.h"), encoding="utf-8") as file:
         calls = re.findall(r"^uint32_t (serf_agent_\w+)\(([^)]*)\);", re.sub(r"/\*.*?\*/", "", file.read(), flags=re.S), re.M)
     os.makedirs(os.path.dirname(path))
@@ -76,16 +76,16 @@ def release(top, folder, **env):
 
 
 def refused(count, top, root):
-    count.check("refused with no green gate", release(top, os.path.join(root, "none"))[0] == 3)
+    count.check("refused without a green gate", release(top, os.path.join(root, "none"))[0] == 3)
     before = green.state(top)
     write(os.path.join(top, "docs", "more.md"), "more\n")
     green.keep(top, before)
-    count.check("no mark where a file came during the gate", not green.holds(top))
+    count.check("no mark if a file was added during the gate", not green.holds(top))
     os.remove(os.path.join(top, "docs", "more.md"))
     green.keep(top, before)
-    count.check("a mark where nothing changed", green.holds(top))
+    count.check("a mark if nothing changed", green.holds(top))
     write(os.path.join(top, "docs", "more.md"), "more\n")
-    count.check("refused where a file came since", release(top, os.path.join(root, "none"))[0] == 3)
+    count.check("refused if a file was added since", release(top, os.path.join(root, "none"))[0] == 3)
     os.remove(os.path.join(top, "docs", "more.md"))
     for path in (green.PROGRAM, green.LIBRARY):
         with open(os.path.join(top, path), "r+b") as file:
@@ -93,22 +93,22 @@ def refused(count, top, root):
             file.write(b"another\n")
         status, said = release(top, os.path.join(root, "none"))
         count.check(
-            f"refused where {os.path.basename(path)} is another than the gate tested",
+            f"refused if {os.path.basename(path)} isn't the one that the gate tested",
             status == 3 and "not passed" in said,
             (status, said),
         )
         with open(os.path.join(top, path), "wb") as file:
             file.write(tested)
     os.rename(os.path.join(top, green.LIBRARY), os.path.join(root, "library"))
-    count.check("refused where the library is gone", release(top, os.path.join(root, "none"))[0] == 3)
+    count.check("refused without the library", release(top, os.path.join(root, "none"))[0] == 3)
     os.rename(os.path.join(root, "library"), os.path.join(top, green.LIBRARY))
 
 
 def unmade(count, top, root):
-    """A sentence where nothing can be written, where there is no compiler, and where there is no make."""
+    """It prints a sentence if nothing can be written, if there is no compiler, and if there is no make."""
     path = f"/proc/none/{NAME}.tar.gz"
     answer = release(top, "/proc/none")
-    count.check("refused where nothing can be written", answer == (3, f"release: {path}: No such file or directory\n"), answer)
+    count.check("refused if nothing can be written", answer == (3, f"release: {path}: No such file or directory\n"), answer)
     status, said = release(top, os.path.join(root, "none"), CC="none")
     count.check("refused without a compiler", status == 3 and "there is no C compiler none on PATH" in said, (status, said))
     few = os.path.join(root, "few")
@@ -118,6 +118,29 @@ def unmade(count, top, root):
     os.symlink(sys.executable, os.path.join(few, "python3"))
     answer = release(top, os.path.join(root, "none"), PATH=few)
     count.check("refused without make", answer == (3, "release: make: No such file or directory\n"), answer)
+
+
+def another_version(count, top, root):
+    """If the program or the agent's package has another version than VERSION, no archive is made."""
+    none, other = os.path.join(root, "none"), "#!/bin/sh\necho serf-replay 9.8.7\n"
+    for what, path, text, error in (
+        ("program", green.PROGRAM, other, f"VERSION has {VERSION}, and the program reports serf-replay 9.8.7"),
+        ("program without a version", green.PROGRAM, "#!/bin/sh\n", f"VERSION has {VERSION}, and the program reports no version"),
+        ("package", "VERSION", "9.8.7\n", "VERSION has 9.8.7, and the agent's package has "),
+    ):
+        with open(os.path.join(top, path), encoding="utf-8") as file:
+            before = file.read()
+        write(os.path.join(top, path), text)
+        if what == "package":
+            write(os.path.join(top, green.PROGRAM), other)
+            subprocess.run(["git", "-c", "user.name=a", "-c", "user.email=a@localhost", "commit", "-qam", "another"], cwd=top, check=True)
+        green.keep(top, green.state(top))
+        status, said = release(top, none)
+        count.check(f"refused with another version of the {what}", status == 3 and error in said, (status, said))
+        write(os.path.join(top, path), before)
+    write(os.path.join(top, green.PROGRAM), PROGRAM)
+    subprocess.run(["git", "reset", "-q", "--hard", "HEAD~"], cwd=top, check=True)
+    green.keep(top, green.state(top))
 
 
 def twice_the_same(count, top, root):
@@ -135,14 +158,14 @@ def twice_the_same(count, top, root):
 
 
 def packed_agent(count, root):
-    """The package has the archive's program, which says its version."""
+    """The package has the archive's program, which prints its version."""
     unpacked, built = os.path.join(root, "package"), os.path.join(root, "unpacked", NAME, "bin", "kitchenrue-agent")
     done = subprocess.run(["dpkg-deb", "-x", os.path.join(root, "one", PACKAGE), unpacked], capture_output=True, text=True)
     count.check("the package can be unpacked", done.returncode == 0, done.stderr)
     own = os.path.join(unpacked, "usr", "bin", "kitchenrue-agent")
     count.check("its program is the archive's", os.access(own, os.X_OK) and filecmp.cmp(own, built, shallow=False))
     said = subprocess.run([built, "-version"], capture_output=True, text=True)
-    count.check("it says its version", said.returncode == 0 and said.stdout.startswith(f"kitchenrue-agent {VERSION}\n"), said)
+    count.check("it prints its version", said.returncode == 0 and said.stdout.startswith(f"kitchenrue-agent {VERSION}\n"), said)
 
 
 def unpacked(count, root):
@@ -154,6 +177,7 @@ def unpacked(count, root):
     for path in (
         "README.md",
         "LICENSE",
+        "VERSION",
         "bin/serf-replay",
         "bin/kitchenrue-agent",
         "lib/libserf_agent_c.a",
@@ -176,10 +200,10 @@ def unpacked(count, root):
     ):
         count.check(f"it has {path}", os.path.isfile(os.path.join(top, path)))
     ran = subprocess.run([os.path.join(top, "bin", "serf-replay"), "--version"], capture_output=True, text=True)
-    count.check("the program runs", ran.stdout == "serf-replay 9.8.7\n", ran)
+    count.check("the program runs", ran.stdout == f"serf-replay {VERSION}\n", ran)
     made = subprocess.run(["make", "-n", "-C", os.path.join(top, "bindings", "c")], capture_output=True, text=True)
     count.check(
-        "the binding in C takes its library",
+        "the binding in C uses its library",
         made.returncode == 0 and "../../lib/libserf_agent_c.a" in made.stdout,
         made,
     )
@@ -194,8 +218,9 @@ def archives(count):
         unmade(count, top, root)
         lacks = [name for name in ("go", "dpkg-deb") if shutil.which(name) is None]
         if lacks:
-            print(f"not run: what a release has, since {lacks[0]} is not on PATH")
+            print(f"not run: what a release contains, since {lacks[0]} is not on PATH")
             return
+        another_version(count, top, root)
         twice_the_same(count, top, root)
         unpacked(count, root)
         packed_agent(count, root)

@@ -1,6 +1,6 @@
-"""What is tried over the libraries that `rt ci` left: never over another's, and never over changed ones.
+"""Tests use only the libraries that `rt ci` left: never those of another run, and never changed ones.
 
-A small repository of two crates is built by the toolchain's own `rt ci`; then sources, libraries and notes are changed.
+The toolchain's own `rt ci` builds a small repository of two crates; then sources, libraries and notes are changed.
 """
 
 import os
@@ -45,7 +45,7 @@ def write(top, path, text):
 
 
 def built(count, rt, top):
-    """Builds the small repository as ./test does, and gives its crates."""
+    """Builds the small repository as ./test does, and returns its crates."""
     crates = rt.rtlib.crates_below(top)
     libraries.drop(crates)
     ran = subprocess.run(
@@ -72,7 +72,7 @@ def stale(count):
         crates = built(count, rt, top)
         low, high = crates["stale_low"], crates["stale_high"]
         fault = lambda: libraries.fault_of([high])
-        count.check("what rt ci left is taken", fault() is None, fault())
+        count.check("what rt ci left is accepted", fault() is None, fault())
         write(top, "crates/stale_low/src/lib.rt", SOURCE.replace("≡ 1", "≡ 2").replace("    1\n", "    2\n"))
         count.check("a changed source", fault() is not None)
         write(top, "crates/stale_low/src/lib.rt", SOURCE)
@@ -87,11 +87,11 @@ def stale(count):
             file.write(text)
         count.check("a library that is put back", fault() is None)
         os.remove(libraries.note_of(low))
-        count.check("a library with no note", fault() is not None)
-        # what an earlier run left is not there while `rt ci` runs, so that it can't be put back behind it
+        count.check("a library without a note", fault() is not None)
+        # what an earlier run left is removed before `rt ci` runs, so that nobody can put it back afterwards
         libraries.note([low])
         libraries.drop([low])
-        count.check("what is dropped is gone", not os.path.exists(libraries.folder_of(low)) and fault() is not None)
+        count.check("what is dropped is removed", not os.path.exists(libraries.folder_of(low)) and fault() is not None)
         shutil.rmtree(os.path.join(top, "crates", "stale_low", "out"))
 
 

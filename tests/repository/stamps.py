@@ -1,7 +1,7 @@
-"""tools/stamp: when the proved program of a crate holds. It was built of these sources, by this toolchain, and is still
-what was built.
+"""tools/stamp: when the proved program of a crate is current. It was built from these sources, by this toolchain, and hasn't
+changed since.
 
-The crate, its program and the toolchain's command are made by this.
+The script makes the crate, its program and the toolchain's command.
 """
 
 import os
@@ -15,11 +15,11 @@ sys.path.insert(0, os.path.dirname(os.path.dirname(os.path.abspath(__file__))))
 import checks
 
 
-class House:
-    """A repository of one program with this one's tools, and a toolchain of its own beside it."""
+class Repository:
+    """A repository of one program with the tools of this one, next to its own toolchain."""
 
     def __init__(self, root):
-        self.top, self.kit, self.bin = (os.path.join(root, name) for name in ("house", "kit", "bin"))
+        self.top, self.kit, self.bin = (os.path.join(root, name) for name in ("top", "kit", "bin"))
         self.source = os.path.join(self.top, "crates", "it", "src", "main.rt")
         self.program = os.path.join(self.top, "crates", "it", "out", "it")
         self.note = self.program + ".sources"
@@ -32,7 +32,7 @@ class House:
         self.write(self.source, "one\n")
         self.command(self.program, "a program")
         self.version("a toolchain")
-        # rt is called by a link, as after an installation
+        # rt is called through a link, as after an installation
         os.mkdir(self.bin)
         os.symlink(os.path.join(self.kit, "bin", "rt"), os.path.join(self.bin, "rt"))
 
@@ -57,54 +57,54 @@ class House:
         return self.stamp("holds", **more) == 0
 
     def keep(self, **more):
-        """Notes the program as built of the sources as they are."""
+        """Stamps the program as built from the sources as they are."""
         sums = subprocess.run([os.path.join(self.top, "tools", "sources"), "it"], stdout=subprocess.PIPE, text=True, check=True)
         return self.stamp("keep", sums.stdout.strip(), **more)
 
 
-def of_the_toolchain(count, house):
-    """The note has what the toolchain says of itself: its file WHAT, or its version where it has none."""
-    count.check("nothing is noted yet", not house.holds())
-    count.check("a build is noted", house.keep() == 0 and house.holds())
-    house.version("a newer toolchain")
-    count.check("another version", not house.holds())
-    house.version("a toolchain")
-    count.check("the version again", house.holds())
-    house.write(house.what, "archive 1\n")
-    count.check("a toolchain with another file WHAT", not house.holds())
-    count.check("a build by it is noted", house.keep() == 0 and house.holds())
-    house.version("a newer toolchain")
-    count.check("its version isn't asked for", house.holds())
-    house.write(house.what, "archive 2\n")
-    count.check("another text of WHAT", not house.holds())
-    count.check("with no toolchain on PATH it isn't asked for", house.holds(has_rt=False))
-    house.write(house.what, "archive 1\n")
-    count.check("the text of WHAT again", house.holds())
+def of_the_toolchain(count, repository):
+    """The stamp has what the toolchain reports about itself: its file WHAT, or its version if it has no such file."""
+    count.check("there is no stamp yet", not repository.holds())
+    count.check("a build is stamped", repository.keep() == 0 and repository.holds())
+    repository.version("a newer toolchain")
+    count.check("another version", not repository.holds())
+    repository.version("a toolchain")
+    count.check("the first version again", repository.holds())
+    repository.write(repository.what, "archive 1\n")
+    count.check("a toolchain with another file WHAT", not repository.holds())
+    count.check("a build by it is stamped", repository.keep() == 0 and repository.holds())
+    repository.version("a newer toolchain")
+    count.check("its version isn't read then", repository.holds())
+    repository.write(repository.what, "archive 2\n")
+    count.check("another text of WHAT", not repository.holds())
+    count.check("without a toolchain on PATH, only the rest is compared", repository.holds(has_rt=False))
+    repository.write(repository.what, "archive 1\n")
+    count.check("the first text of WHAT again", repository.holds())
 
 
-def of_the_build(count, house):
-    """And it has the sources and the program."""
-    text = checks.read(house.note)
-    house.write(house.note, " ".join(text.decode().split()[:2]) + "\n")
-    count.check("a note that names no toolchain", not house.holds())
-    with open(house.note, "wb") as file:
+def of_the_build(count, repository):
+    """The stamp also has the sources and the program."""
+    text = checks.read(repository.note)
+    repository.write(repository.note, " ".join(text.decode().split()[:2]) + "\n")
+    count.check("a stamp that names no toolchain", not repository.holds())
+    with open(repository.note, "wb") as file:
         file.write(text)
-    house.write(house.source, "two\n")
-    count.check("a changed source", not house.holds())
-    house.write(house.source, "one\n")
-    house.command(house.program, "another program")
-    count.check("another program in its place", not house.holds())
-    house.command(house.program, "a program")
-    count.check("all is as it was built", house.holds())
-    count.check("a source that changed during the build", house.stamp("keep", "0" * 64) == 1 and house.holds())
-    count.check("what is dropped doesn't hold", house.stamp("drop") == 0 and not house.holds())
+    repository.write(repository.source, "two\n")
+    count.check("a changed source", not repository.holds())
+    repository.write(repository.source, "one\n")
+    repository.command(repository.program, "another program")
+    count.check("another program in its place", not repository.holds())
+    repository.command(repository.program, "a program")
+    count.check("everything as it was built", repository.holds())
+    count.check("a source that changed during the build", repository.stamp("keep", "0" * 64) == 1 and repository.holds())
+    count.check("a dropped stamp doesn't hold", repository.stamp("drop") == 0 and not repository.holds())
 
 
 def stamps(count):
     with tempfile.TemporaryDirectory(prefix="stamps-") as root:
-        house = House(root)
-        of_the_toolchain(count, house)
-        of_the_build(count, house)
+        repository = Repository(root)
+        of_the_toolchain(count, repository)
+        of_the_build(count, repository)
 
 
 if __name__ == "__main__":

@@ -1,4 +1,4 @@
-"""One agent: what it answers to each call."""
+"""One agent, and its answer to each call."""
 
 from collections import namedtuple
 
@@ -9,27 +9,27 @@ from .snapshot import SinkFault, Snapshot
 from .switches import wrong
 from .windows import Window
 
-# The greatest size of a received event's texts, in bytes.
+# The maximum size of a received event's texts, in bytes.
 MAX_EVENT = 9216
 
-# The greatest sizes of a query's packet and of a response's, where the settings say nothing, in bytes.
+# The maximum sizes of a query's packet and of a response's if the settings don't have them, in bytes.
 DEFAULT_QUERY_LIMIT = DEFAULT_RESPONSE_LIMIT = 1024
 
 
 def limit_of(limit, name):
-    """A limit, or one byte less or more where the switch of that name says so."""
+    """A limit, or one byte less or more if the switch with that name is chosen."""
     if wrong(f"{name}_one_less"):
         return limit - 1
     return limit + 1 if wrong(f"{name}_one_more") else limit
 
 
-# Flags of a query: it asks for acks, and isn't to be sent on. Flag 1 of a response says that it is an ack.
+# Flags of a query: it requests acks, and must not be sent on. Flag 1 of a response means that it is an ack.
 ACK = 1
 NO_BROADCAST = 2
 
 SETTINGS = "name events queries limit responders ignore_old per_time query_limit response_limit keeps"
 
-# Whether it keeps its events over a restart is left out mostly: it doesn't then.
+# The last setting, whether the agent keeps its events across a restart, may be left out. Then it doesn't.
 Config = namedtuple("Config", SETTINGS, defaults=[False])
 
 
@@ -53,7 +53,7 @@ def hexed(data):
 
 
 class OpenQuery:
-    """A query that this agent fired, and who answered."""
+    """A query that this agent fired, and the nodes that answered it."""
 
     def __init__(self, query_id, deadline, wants_acks):
         self.id, self.deadline, self.wants_acks = query_id, deadline, wants_acks
@@ -68,7 +68,7 @@ class HandedQuery:
 
 
 class Agent:
-    """An agent over a snapshot's text, in its lives one after another."""
+    """An agent with its snapshot's text, through its lives."""
 
     def __init__(self, config, text):
         self.config = config
@@ -101,7 +101,7 @@ class Agent:
         return Window(slots, self.config.per_time, self.clock_behind(value), value + 1)
 
     def go_on(self, text):
-        """Goes on with the windows that the life before left, by what the text keeps."""
+        """Restores the windows of the life before, from what the text keeps."""
         last = self.snapshot.values
         self.events.go_on(last[kept.EVENTS], kept.least_in(text, kept.EVENTS))
         self.queries.go_on(last[kept.QUERIES], kept.least_in(text, kept.QUERIES))
@@ -117,7 +117,7 @@ class Agent:
             window.minimum = max(window.minimum, window.reach())
 
     def is_kept(self, time, last):
-        """Whether a line of this time counts: none above the last clock line does."""
+        """Whether a line with this time is valid: it is not above the last clock line."""
         return time <= last or wrong("line_above_the_clock_line_taken_back")
 
     def clocks(self):
@@ -143,7 +143,7 @@ class Agent:
         return reply
 
     def packet_limits(self):
-        """The greatest sizes of a query's packet and of a response's."""
+        """The maximum sizes of a query's packet and of a response's."""
         query, response = self.config.query_limit, self.config.response_limit
         if wrong("query_limit_not_read"):
             query = DEFAULT_QUERY_LIMIT
@@ -190,18 +190,18 @@ class Agent:
         return reply
 
     def event_entry(self, name, payload):
-        """What the window holds of an event: what tells it from others, and its texts."""
+        """What the window holds of an event: what distinguishes it from others, and its texts."""
         return self.event_key(name, payload), (name, payload)
 
     def note(self, kind, value, line):
-        """Writes the line of what is taken; where events are kept, its own line too."""
+        """Writes the clock line of what is accepted, and, if events are kept, its own line too."""
         if self.config.keeps:
             self.snapshot.note_kept(kind, value, line)
         else:
             self.snapshot.note(kind, value)
 
     def keep_event(self, time, name, payload, enters=True):
-        """Takes an event: its line first, then its entry and the clock."""
+        """Accepts an event: its line first, then its entry and the clock."""
         clock = self.events.observed(time)
         if wrong("failed_line_moves_clock"):
             self.events.clock = clock
@@ -213,7 +213,7 @@ class Agent:
         self.events.clock = clock
 
     def judge_event(self, time, name, payload, clock):
-        """Why an event isn't taken, or None."""
+        """Why an event isn't accepted, or None."""
         most = limit_of(MAX_EVENT, "size_limit")
         if len(name) + len(payload) > most and not wrong("no_size_limit_on_receipt"):
             return "Oversize"
@@ -225,7 +225,7 @@ class Agent:
         return self.events.judge(time, entry, clock)
 
     def take_event(self, time, name, payload):
-        """Takes an event where it is new; why it isn't, else."""
+        """Accepts an event if it is new. Returns why it isn't, or None."""
         clock = self.events.observed(time)
         reason = self.judge_event(time, name, payload, clock)
         if reason is None:
@@ -259,7 +259,7 @@ class Agent:
         return reply
 
     def slots_of_state(self):
-        """The slots that a state carries."""
+        """The slots that a state contains."""
         slots, window = self.events.slots, self.events
         if wrong("state_in_order_of_times"):
             slots = sorted(slots, key=lambda held: (held is None, held and held[0]))
@@ -302,13 +302,13 @@ class Agent:
         return reply
 
     def ignores_old(self, join):
-        """Whether a merge ignores what is below the other's event clock."""
+        """Whether a merge ignores what is below the other agent's event clock."""
         if not self.config.ignore_old or wrong("join_ignores_nothing"):
             return False
         return join or wrong("every_merge_ignores")
 
     def tell_join(self, state, join):
-        """Writes the least time that a join sets, where events are kept. Where this fails nothing is heard of."""
+        """Writes the minimum that a join sets, if events are kept. If this fails, the merge changes nothing."""
         if not self.config.keeps or not self.ignores_old(join) or wrong("join_leaves_no_least_line"):
             return
         if state.EventLTime > self.events.minimum or not wrong("join_line_only_where_it_rises"):
@@ -343,7 +343,7 @@ class Agent:
         return Reply("compacted")
 
     def kept_lines(self):
-        """The lines that a compaction leaves of what the windows hold, of each kind behind its least time; none where nothing is kept."""
+        """The lines that a compaction leaves of what the windows hold, of each kind after its minimum. Without kept events, none."""
         if not self.config.keeps:
             return b""
         events = self.lines_held(kept.EVENTS, self.events, lambda time, entry: kept.event_line(time, *entry[1]))
@@ -358,7 +358,7 @@ class Agent:
         return front + b"".join(line(time, entry) for time, entry in held)
 
     def least_told(self, window, kind):
-        """The least time that a compaction tells: what is below it may not be taken, or the window has passed it.
+        """The minimum that a compaction writes: times below it must not be accepted, or the window has passed them.
 
         The next life begins one above the last clock line. So the window is counted from there: the clock can be far above it.
         """
@@ -405,7 +405,7 @@ class Agent:
         return reply
 
     def keep_query(self, time, query_id):
-        """Takes a query: its line first, then its entry and the clock."""
+        """Accepts a query: its line first, then its entry and the clock."""
         self.note(kept.QUERIES, time, kept.query_line(time, query_id))
         self.queries.enter(time, self.query_key(query_id))
         self.move_query_clock(self.queries.observed(time))
@@ -415,7 +415,7 @@ class Agent:
         window.clock = max(window.clock, clock) if wrong("query_moves_event_clock") else clock
 
     def hand_out(self, query, now, reply):
-        """Hands a query out where its filters let this node pass, with an ack where one is asked for."""
+        """Hands a query out if its filters let this node pass, with an ack if the query requests one."""
         if not messages.passes(query.Filters, self.config.name):
             return
         ack_id = (query.ID + 1) % (1 << 32) if wrong("ack_to_another_id") else query.ID
@@ -467,7 +467,7 @@ class Agent:
         return reply
 
     def judge_answer(self, answer, is_ack, now):
-        """Why an answer doesn't count, or None."""
+        """Why an answer isn't counted, or None."""
         query = self.open.get(answer.LTime)
         if query is None:
             return "NotOpen"
@@ -537,14 +537,14 @@ class Agent:
         return Reply("foreign", message.type)
 
     def is_taken_stopped(self, packet):
-        """Whether a packet is read though the disk failed."""
+        """Whether a packet is read although the disk failed."""
         if wrong("stopped_takes_packets") or wrong("stopped_reads_first"):
             return True
         return wrong("stopped_takes_foreign") and packet[:1] and packet[0] in messages.FOREIGN
 
 
 def is_past(now, deadline):
-    """Whether a moment is behind a deadline."""
+    """Whether a moment is after a deadline."""
     if wrong("no_deadline"):
         return False
     return now >= deadline if wrong("deadline_is_past") else now > deadline

@@ -1,6 +1,6 @@
-"""What an agent that keeps its events has in its snapshot beside its clock lines (docs/SPEC.md, "What a keeping agent writes").
+"""The lines that an agent that keeps its events writes in addition to its clock lines (docs/SPEC.md, "What a keeping agent writes").
 
-A line of an event, a line of a query, and a line of a least time. Each begins with `#`, so that other agents pass over it.
+There are lines of events, of queries, and of minimum times. Each begins with `#`, so that other agents ignore it.
 """
 
 import re
@@ -13,7 +13,7 @@ GREATEST_ID = (1 << 32) - 1
 DIGITS = re.compile(rb"[0-9]+\Z")
 PAIRS = re.compile(rb"([0-9a-fA-F]{2})*\Z")
 
-# The kinds of clocks that have lines of their own.
+# The kinds of clocks that have these lines.
 EVENTS, QUERIES = KINDS[1:]
 
 
@@ -39,21 +39,21 @@ def least_line(kind, least):
 
 
 def number_of(digits, most):
-    """The number that digits write, up to the most; or None."""
+    """The number that the digits write, if it is at most `most`, or None."""
     if not DIGITS.match(digits) or int(digits) > most:
         return None
     return int(digits)
 
 
 def words_behind(front, line):
-    """The words behind a line's first one, between single spaces; none where it begins otherwise."""
+    """The words after a line's first one, between single spaces. If the line begins otherwise, there are none."""
     if not line.startswith(front + b" "):
         return []
     return re.split(rb" +" if wrong("loose_kept_lines") else rb" ", line[len(front) + 1 :])
 
 
 def event_of(line):
-    """The event of a line, as time, name and payload; or None."""
+    """The event of a line, as time, name and payload, or None."""
     words = words_behind(b"#event", line)
     if len(words) != 3 or not all(PAIRS.match(word) for word in words[1:]):
         return None
@@ -62,7 +62,7 @@ def event_of(line):
 
 
 def query_of(line):
-    """The query of a line, as time and ID; or None."""
+    """The query of a line, as time and ID, or None."""
     words = words_behind(b"#query", line)
     if len(words) != 2:
         return None
@@ -83,7 +83,7 @@ def queries_in(text):
 
 
 def least_of_line(line, kind):
-    """The least time that a line says of a kind, or 0."""
+    """The minimum that a line has for a kind, or 0."""
     front = f"#least {kind}: ".encode()
     if line.startswith(front) and DIGITS.match(line[len(front) :]) and not wrong("least_lines_passed_over"):
         return min(int(line[len(front) :]), GREATEST_VALUE + 1)
@@ -95,7 +95,7 @@ def least_of_line(line, kind):
 
 
 def least_in(text, kind):
-    """The least time that may be taken of a kind, by a text: the greatest that a line says, and 1 at least."""
+    """The minimum time of a kind in a text: the largest of its lines, and at least 1."""
     found = [least_of_line(line, kind) for line in lines_of(text)]
     if wrong("last_least_line_wins"):
         found = [least for least in found if least][-1:]

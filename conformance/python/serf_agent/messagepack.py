@@ -1,11 +1,11 @@
-"""MessagePack, as Serf's packets use it: a check that tells the first fault, and a writer of the shortest spellings."""
+"""MessagePack, as Serf's packets use it: a reader that reports the first error, and a writer of the shortest spellings."""
 
 from .switches import wrong
 
-# How many arrays and maps may stand inside one another.
+# How deep arrays and maps may be nested.
 DEEPEST = 8
 
-# How many they are where that is wrong.
+# The same if a switch makes it wrong.
 OTHER_DEPTHS = {"any_depth": 1 << 64, "seven_levels": 7, "nine_levels": 9}
 
 SIGNED = {0xD0: 1, 0xD1: 2, 0xD2: 4, 0xD3: 8}
@@ -15,7 +15,7 @@ BIN = (0xC4, 0xC5, 0xC6)
 ARRAYS = {0xDC: 2, 0xDD: 4}
 MAPS = {0xDE: 2, 0xDF: 4}
 
-# What no message has, and how many bytes stand behind each where it is passed over.
+# Values that no message has, and how many bytes follow each if a switch makes the reader ignore it.
 FRACTIONS = {0xCA: 4, 0xCB: 8}
 EXTENSIONS = {0xD4: 2, 0xD5: 3, 0xD6: 5, 0xD7: 9, 0xD8: 17}
 
@@ -25,7 +25,7 @@ class Fault(Exception):
 
 
 class Value:
-    """A value and the place of its first byte: `kind` is nil, bool, int, raw, array or map."""
+    """A value and the place of its first byte. `kind` is nil, bool, int, raw, array or map."""
 
     __slots__ = ("kind", "place", "of", "is_bin")
 
@@ -34,7 +34,7 @@ class Value:
 
 
 class Reader:
-    """Reads one value from left to right, and stops at the first fault."""
+    """Reads one value from left to right, and stops at the first error."""
 
     def __init__(self, data, place):
         self.data, self.place = data, place
@@ -66,7 +66,7 @@ class Reader:
         return depth + 1
 
     def array(self, first, count, depth):
-        """So many items; the first that isn't there ends the reading, whatever the count says."""
+        """Reads `count` items. The first one that is missing ends the reading, whatever the count is."""
         depth = self.deeper(first, depth)
         return Value("array", first, [self.value(depth) for _ in range(count)])
 
@@ -93,7 +93,7 @@ class Reader:
         return self.headed(first, byte, depth)
 
     def headed(self, first, byte, depth):
-        """A value whose first byte says how wide a number behind it is."""
+        """A value whose first byte determines the width of the number after it."""
         if byte == 0xC0:
             return Value("nil", first, None)
         if byte in (0xC2, 0xC3):
@@ -116,13 +116,13 @@ class Reader:
         return self.strange(first, byte)
 
     def shortest(self, first, byte, found):
-        """A number, in whatever form it stands."""
+        """A number, in any form."""
         if wrong("wide_numbers_refused") and pack_int(found)[0] != byte:
             raise self.unsupported(first, byte)
         return Value("int", first, found)
 
     def strange(self, first, byte):
-        """What no message has."""
+        """A value that no message has."""
         widths = {**(FRACTIONS if wrong("fractions_passed_over") else {}), **(EXTENSIONS if wrong("extensions_passed_over") else {})}
         if byte not in widths:
             raise self.unsupported(first, byte)
@@ -131,13 +131,13 @@ class Reader:
 
 
 def is_left_out(byte):
-    """Whether a form is one that isn't read, where that is wrong."""
+    """Whether a switch makes the reader refuse this form."""
     forms = {"no_bin": BIN, "no_short_texts": (0xD9,), "no_signed_forms": SIGNED, "no_wide_lists": (0xDD, 0xDF)}
     return any(byte in those and wrong(name) for name, those in forms.items())
 
 
 def whole(data, place):
-    """The one value that stands from a place to the end."""
+    """The single value from a place to the end."""
     reader = Reader(data, place)
     found = reader.value()
     if reader.place < len(data) and not wrong("trailing_bytes_accepted"):

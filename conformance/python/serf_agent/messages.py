@@ -1,4 +1,4 @@
-"""Serf's messages: what a packet says or its first fault, and the canonical packets."""
+"""Serf's messages: the message of a packet, or its first error, and the canonical packets."""
 
 from collections import namedtuple
 
@@ -21,7 +21,7 @@ Foreign = namedtuple("Foreign", "type")
 
 
 def kind_of(value, kind, zero):
-    """The value where it is of a kind; nil stands for the zero value."""
+    """The value, if it has this kind. Nil stands for the zero value."""
     if value.kind == "nil" and not wrong("nil_refused"):
         return zero
     if value.kind != kind:
@@ -30,7 +30,7 @@ def kind_of(value, kind, zero):
 
 
 def number(low, high, wider=None):
-    """Reads a number within bounds; `wider` is the switch that lifts the upper one."""
+    """Reads a number within bounds. `wider` is the switch that removes the upper bound."""
 
     def read(value):
         found = kind_of(value, "int", 0)
@@ -68,7 +68,7 @@ def texts(value):
 
 
 def clock(value):
-    """A clock of a state, which is no time."""
+    """A clock of a state, which is not a time."""
     return time(value) if wrong("greatest_clock_refused") else unsigned_64(value)
 
 
@@ -101,7 +101,7 @@ def status_times(value):
 
 
 def fields_of(message, readers, pairs):
-    """A message of the pairs of a map, the first fault in reading order else."""
+    """The message with the pairs of a map, or the first error in reading order."""
     found, unknown = {}, set()
     for key, value in pairs:
         if key.kind != "raw" and wrong("bad_keys_passed_over"):
@@ -171,7 +171,7 @@ KINDS = {PUSH_PULL: (PushPull, STATE_FIELDS), USER_EVENT: (UserEvent, EVENT_FIEL
 
 
 def decode(packet):
-    """The message that a packet spells, or its first fault."""
+    """The message that a packet spells, or its first error."""
     if not packet:
         raise Fault("Empty")
     kind = packet[0]
@@ -192,7 +192,7 @@ def decode(packet):
 
 
 def is_foreign(kind):
-    """Whether a type byte is one of Serf's other messages."""
+    """Whether a type byte belongs to one of Serf's other messages."""
     if kind == 9 and wrong("type_nine_is_unknown"):
         return False
     if kind == 10 and wrong("type_ten_is_foreign"):

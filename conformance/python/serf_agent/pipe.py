@@ -8,12 +8,12 @@ def unhexed(word):
     return b"" if word == b"-" else bytes.fromhex(word.decode("ascii"))
 
 
-# Of each MODE whether old events are ignored at a join, and whether events are kept over a restart.
+# For each MODE, whether a join ignores old events, and whether events are kept across a restart.
 MODES = {b"keep": (False, False), b"ignore": (True, False), b"keep+events": (False, True), b"ignore+events": (True, True)}
 
 
 def settings(words):
-    """The settings of an `open` call, from its name on. The two limits of packets may be left out."""
+    """The settings of an `open` call, beginning with the name. The two limits of packets may be left out."""
     numbers = [int(word) for word in words[1:5]]
     limits = [int(word) for word in words[7:]] or [DEFAULT_QUERY_LIMIT, DEFAULT_RESPONSE_LIMIT]
     ignore_old, keeps = MODES[words[5]]
@@ -21,13 +21,13 @@ def settings(words):
 
 
 class Pipe:
-    """The agent that the calls drive: the one of the last `open`."""
+    """Passes calls to the agent that the last `open` made."""
 
     def __init__(self):
         self.agent, self.keeps = None, False
 
     def reply(self, line):
-        """The lines that answer a call."""
+        """Makes a call, and returns the lines of its reply."""
         words = line.split(b" ")
         try:
             return self.call(words[0].decode("latin-1"), words[1:]).lines()
@@ -47,7 +47,7 @@ class Pipe:
         return CALLS[name](self.agent, words)
 
     def opened(self, words):
-        """Makes an agent; one that keeps its events where its MODE says so, or `keeps` was said just for it."""
+        """Makes an agent. It keeps its events if its MODE says so, or if the call before was `keeps`."""
         config = settings(words[:-1])
         config = config._replace(keeps=config.keeps or self.keeps)
         self.keeps = False
@@ -74,7 +74,7 @@ CALLS = {
 
 
 def serve(lines, out):
-    """Answers each call, to the end of the calls."""
+    """Answers each call, until the calls end."""
     pipe = Pipe()
     for line in lines:
         reply = pipe.reply(line.rstrip(b"\n"))

@@ -2,7 +2,7 @@
 
 from .switches import wrong
 
-# The kinds of lines, as an agent compacts them.
+# The kinds of lines, in the order in which a compaction writes them.
 KINDS = ("clock", "event-clock", "query-clock")
 
 GREATEST_VALUE = (1 << 64) - 2
@@ -13,7 +13,7 @@ class SinkFault(Exception):
 
 
 def value_of(line, kind):
-    """The value of a clock line of this kind, or None."""
+    """The value of a clock line, if it has this kind, or None."""
     front = kind.encode() + b": "
     if not line.startswith(front):
         return None
@@ -29,13 +29,13 @@ def value_of(line, kind):
 
 
 def lines_of(text):
-    """The lines of a snapshot's text; what follows the last newline is none."""
+    """The lines of a snapshot's text. What follows the last newline is not a line."""
     lines = text.split(b"\n")
     return lines if wrong("torn_tail_is_read") else lines[:-1]
 
 
 def values_in(text):
-    """The value of each kind in a snapshot's text: the greatest of its lines, and 0 without one."""
+    """The value of each kind in a snapshot's text: the largest of its lines, or 0 if it has none."""
     lines = lines_of(text)
     found = {}
     for kind in KINDS:
@@ -47,7 +47,7 @@ def values_in(text):
 
 
 class Disk:
-    """What is durable, and which of its calls is to fail."""
+    """The durable text of a disk, and the planned failures of its calls."""
 
     def __init__(self, text):
         self.durable = text
@@ -56,7 +56,7 @@ class Disk:
         self.keeps_new = False
 
     def plan_failure(self, call, count):
-        """The count-th call from now is to fail; two names stand for one call, that of a replacement."""
+        """Plans that the count-th call from now fails. Two names stand for the same call, the replacement."""
         if call.startswith("replace"):
             self.keeps_new = call == "replace-new"
             call = "replace"
@@ -89,7 +89,7 @@ class Disk:
 
 
 class Snapshot:
-    """Clock lines on a disk. After the disk failed nothing is written any more."""
+    """Clock lines on a disk. After the disk failed, nothing is written any more."""
 
     def __init__(self, text, keeps=False):
         self.values, self.keeps = values_in(text), keeps
@@ -107,7 +107,7 @@ class Snapshot:
             raise
 
     def note(self, kind, value):
-        """Writes the line of a kind where its value rises, and flushes it."""
+        """Writes the line of a kind if its value rises, and flushes it."""
         if value <= self.values[kind] and not wrong("each_line_is_written"):
             return
         if wrong("no_query_lines") and kind == "query-clock":
@@ -116,7 +116,7 @@ class Snapshot:
         self.values[kind] = max(value, self.values[kind])
 
     def note_kept(self, kind, value, line):
-        """Writes a line of what is kept, and before it the line of its kind where the value rises; all in one flush."""
+        """Writes a line of what is kept, and, if the value rises, the line of its kind before it, with a single flush."""
         clock = b"" if value <= self.values[kind] else self.clock_line(kind, value)
         if wrong("no_kept_line_below_the_clock_line") and value and not clock:
             return
@@ -126,7 +126,7 @@ class Snapshot:
         self.values[kind] = max(value, self.values[kind])
 
     def clock_line(self, kind, value):
-        """A clock line; that of events or of queries has a zero in front where these are kept."""
+        """A clock line. If events are kept, those of events and queries have a leading zero."""
         has_zero = self.keeps and kind != KINDS[0] and not wrong("no_zero_in_clock_lines")
         return f"{kind}: {'0' if has_zero else ''}{value}\n".encode()
 
@@ -139,7 +139,7 @@ class Snapshot:
             self.disk.flush()
 
     def compacted(self, kept):
-        """What a compaction leaves: the lines of what is kept, and the last line of each kind."""
+        """The text that a compaction leaves: the lines of what is kept, and the last line of each kind."""
         kinds = [kind for kind in KINDS if self.values[kind]]
         if wrong("compaction_drops_query_line"):
             kinds = [kind for kind in kinds if kind != "query-clock"]

@@ -1,13 +1,13 @@
-"""Clocks and windows: which times are taken, and what was taken of each."""
+"""Clocks and windows: which times are accepted, and what was accepted with each time."""
 
 from .messages import GREATEST
 from .switches import wrong
 
 
 class Window:
-    """A clock, the least time that is taken, and what was taken of the last times.
+    """A clock, the minimum time that is accepted, and what was accepted with the last times.
 
-    A slot stands at its time modulo the number of slots, and has the entries of one time.
+    A slot has the entries of one time. Its index is this time modulo the number of slots.
     """
 
     def __init__(self, slots, per_time, clock, minimum):
@@ -16,14 +16,14 @@ class Window:
         self.slots = [None] * slots
 
     def go_on(self, last, least):
-        """Goes on from a text's last clock line and its least time, which can be above that."""
+        """Resumes from a text's last clock line and its minimum, which can be above that line."""
         self.clock = last + 1 if wrong("least_time_above_the_clock") else max(last + 1, least)
         self.minimum = least
 
     def take_back(self, time, entry, reason):
-        """Takes an entry back that a text keeps, where nothing speaks against it.
+        """Restores an entry that a text keeps, unless there is a reason against it.
 
-        What finds its time full is left out. It can't be known again, so no time up to its own is taken any more.
+        If its time is full, the entry is left out. It couldn't be recognized later, so no time up to its own is accepted any more.
         """
         if reason is None or (reason == "TimeFull" and wrong("any_number_taken_back")):
             self.enter(time, entry)
@@ -31,22 +31,22 @@ class Window:
             self.minimum = max(self.minimum, time + 1)
 
     def reach(self):
-        """The first time that isn't too old."""
+        """The smallest time that isn't too old."""
         return max(self.clock - self.size, 0)
 
     def held_from(self, least):
-        """What the slots hold from a time on, in the order of the slots."""
+        """What the slots hold with this time or a later one, in the order of the slots."""
         return [(held[0], entry) for held in self.slots if held is not None and held[0] >= least for entry in held[1]]
 
     def observed(self, time):
-        """The clock, once it has seen a time."""
+        """The clock after it observed a time."""
         after = time if wrong("witness_without_one") else time + 1
         if wrong("clock_always_follows"):
             return after
         return max(self.clock, after)
 
     def observe_before(self, clock):
-        """Another agent's clock: every time below it was seen."""
+        """Observes every time below another agent's clock."""
         if wrong("state_clock_is_witnessed"):
             clock = min(clock + 1, GREATEST)
         self.clock = max(self.clock, clock)
@@ -56,7 +56,7 @@ class Window:
         return held[1] if held is not None and held[0] == time else []
 
     def judge(self, time, entry, clock):
-        """Why an entry isn't taken where the clock stands so, or None."""
+        """Why an entry isn't accepted at this value of the clock, or None."""
         least = self.minimum + 1 if wrong("minimum_one_more") else self.minimum
         if time < least and not wrong("no_minimum"):
             return "BelowMinimum"

@@ -1,5 +1,4 @@
-// Serf behind the pipe: calls on standard input, replies on standard output (docs/SPEC.md). With the word -note-all its
-// snapshot sees all queries that enter, as the reference's does.
+// Serf behind the pipe: it reads calls on standard input and writes replies to standard output (docs/SPEC.md).
 package main
 
 import (
@@ -12,7 +11,6 @@ import (
 func main() {
 	agent := serf.NewPipeAgent()
 	defer agent.Close()
-	agent.NoteAll = len(os.Args) > 1 && os.Args[1] == "-note-all"
 	calls, replies := bufio.NewReaderSize(os.Stdin, 1<<20), bufio.NewWriter(os.Stdout)
 	for {
 		line, err := calls.ReadString('\n')
